@@ -1,0 +1,12 @@
+//! Blocks, faults, and the outside: the disk, its host, and the words of a command line.
+#![tactic(auto)]
+
+mod disk;
+mod host;
+mod status;
+mod words;
+
+pub use disk::{Block, Disk, DiskFault};
+pub use host::{Host, SinkFault, SourceFault, give_all};
+pub use status::{Image, ImageFault, Status};
+pub use words::Words;
