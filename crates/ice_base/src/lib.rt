@@ -2,11 +2,13 @@
 #![tactic(auto)]
 
 mod disk;
+mod field;
 mod host;
 mod status;
 mod words;
 
 pub use disk::{Block, Disk, DiskFault};
+pub use field::{read_u32, read_u64, write_u32, write_u64};
 pub use host::{Host, SinkFault, SourceFault, give_all};
 pub use status::{Image, ImageFault, Status};
 pub use words::Words;
