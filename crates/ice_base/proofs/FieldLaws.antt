@@ -1,5 +1,5 @@
 -- Numbers that were written to a block read back, and the other bytes stay.
-use Rattle.std.proofs.Common.{◌≡◌, ℕ, ◌+◌, ◌^◌, ◌<◌, ◌≤◌, List, ◌++◌, length, get_or, ⊎_elim, subst, sym, ap, ◌∙◌, arith}
+use Rattle.std.proofs.Common.{List, ap, arith, get_or, length, slice_index, subst, sym, ℕ, ⊎_elim, ◌++◌, ◌+◌, ◌<◌, ◌^◌, ◌∙◌, ◌≡◌, ◌≤◌, ◌⊎◌}
 use borrow.Rule.Slice.PartMut.{put_mid}
 use Rattle.std.proofs.lemmas.Grind.{elements}
 use Rattle.std.specs.Int.{bytes_low_first}
@@ -72,3 +72,25 @@ put_long_8 xs ys zs a v e l h f = record {
 -- after a write of v to the eight bytes from a on
 pub put_long : (xs ys zs : List ℕ) (a n v : ℕ) → n ≡ 8 → ys ≡ bytes_low_first 0 8 v ++ zs → length ys ≡ n → a + 8 ≤ length xs → v < 2 ^ 64 → LongSet xs a v (put_mid a n xs ys)
 put_long xs ys zs a n v e = subst (λ (m : ℕ). ys ≡ bytes_low_first 0 8 v ++ zs → length ys ≡ m → a + 8 ≤ length xs → v < 2 ^ 64 → LongSet xs a v (put_mid a m xs ys)) (sym e) (put_long_8 xs ys zs a v)
+
+-- numbers that lie apart stay
+pub word-others : (old new : List ℕ) (at v other : ℕ) → WordSet old at v new → (other + 4 ≤ at) ⊎ (at + 4 ≤ other) → word_at new other ≡ word_at old other
+unfolding word_at
+word-others old new at v other w h =
+    let o = w.others in
+    let p : (k : ℕ) → k < 4 → (other + k < at) ⊎ (at + 4 ≤ other + k) = (λ k l. grind arith) in
+    let a = o (other + 0) (p 0 (omega arith)) in
+    let b = o (other + 1) (p 1 (omega arith)) in
+    let c = o (other + 2) (p 2 (omega arith)) in
+    let d = o (other + 3) (p 3 (omega arith)) in
+    grind arith
+
+-- a number of equal bytes
+pub word-same : (xs ys : List ℕ) (at : ℕ) → ((k : ℕ) → at ≤ k → k < at + 4 → slice_index xs k ≡ slice_index ys k) → word_at xs at ≡ word_at ys at
+unfolding word_at
+word-same xs ys at h =
+    let a = h at (omega arith) (omega arith) in
+    let b = h (at + 1) (omega arith) (omega arith) in
+    let c = h (at + 2) (omega arith) (omega arith) in
+    let d = h (at + 3) (omega arith) (omega arith) in
+    grind arith
