@@ -1,5 +1,5 @@
 -- The text of a reply: its data lines, then its closing line, each ended by an LF.
-use Rattle.std.specs.Prelude.{ℕ, ◌+◌, List, [], ◌∷◌, ◌++◌, map, length, if◌then◌else◌, codes, decimal, Result, Ok, Err}
+use Rattle.std.specs.Prelude.{ℕ, ◌+◌, List, [], ◌∷◌, ◌++◌, map, length, if◌then◌else◌, codes, decimal, Option, None, Some, Result, Ok, Err}
 use Rattle.hex.specs.Hex.{encode_lower}
 use Rattle.tree_spec.specs.Why as why
 use Rattle.tree_spec.specs.Why.{Why}
@@ -29,6 +29,11 @@ entry_line e = (if e.dir then codes "dir " else codes "file ") ++ e.name
 abbrev pub row_line : CubeRow → List ℕ
 row_line row = decimal row.slot ++ codes " " ++ decimal row.groups ++ codes " " ++ state_word row.state ++ codes " " ++ text_of row.path
 
+-- a number behind a blank, if there is one
+abbrev pub number_words : Option ℕ → List ℕ
+number_words None = []
+number_words (Some n) = codes " " ++ decimal n
+
 -- a refusal's name, with the number of the broken rule for damage
 abbrev pub why_words : Why → List ℕ
 why_words why.NameLong = codes "NameLong"
@@ -45,7 +50,7 @@ why_words why.FileBig = codes "FileBig"
 why_words why.NoNodes = codes "NoNodes"
 why_words why.NoSpace = codes "NoSpace"
 why_words why.Spent = codes "Spent"
-why_words (why.Damaged rule) = codes "Damaged " ++ decimal rule
+why_words (why.Damaged rule) = codes "Damaged" ++ number_words (Some rule)
 why_words why.Word = codes "Word"
 why_words why.Args = codes "Args"
 why_words why.Number = codes "Number"

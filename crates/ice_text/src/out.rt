@@ -1,6 +1,5 @@
 //! The bytes of a reply, with room for the longest.
 ghost use Rattle.std.specs.Prelude.{◌≡◌, ◌≤◌, ◌+◌, ◌++◌, [], length, decimal, IfOk};
-ghost use Rattle.ice_text.specs.Text.{hex_token};
 
 use std::alloc::{AllocError, Global};
 use std::marker::Model;
