@@ -1,0 +1,7 @@
+//! The top call: what the words ask for, done on a host.
+#![tactic(auto)]
+
+mod format;
+mod words;
+
+pub use words::image_of;
