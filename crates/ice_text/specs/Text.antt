@@ -1,5 +1,6 @@
 -- The text of a reply: its data lines, then its closing line, each ended by an LF.
-use Rattle.std.specs.Prelude.{ℕ, ◌+◌, List, [], ◌∷◌, ◌++◌, map, length, if◌then◌else◌, codes, decimal, Option, None, Some, Result, Ok, Err}
+use Rattle.std.specs.Prelude.{ℕ, ◌+◌, Bool, ◌||◌, nat_eq, List, [], ◌∷◌, ◌++◌, map, length, if◌then◌else◌, codes, decimal, Option, None, Some, Result, Ok, Err}
+use Rattle.std.specs.List.{starts_with}
 use Rattle.hex.specs.Hex.{encode_lower}
 use Rattle.tree_spec.specs.Why as why
 use Rattle.tree_spec.specs.Why.{Why}
@@ -102,6 +103,10 @@ value_lines (Checked blocks nodes done) = []
 abbrev pub data_lines : Response → List (List ℕ)
 data_lines (Ok value) = value_lines value
 data_lines (Err refused) = []
+
+-- a line that begins with `ok` or `no`
+abbrev pub is_closing : List ℕ → Bool
+is_closing line = starts_with nat_eq line (codes "ok") || starts_with nat_eq line (codes "no")
 
 -- the lines, each ended by an LF
 abbrev pub ended : List (List ℕ) → List ℕ

@@ -16,11 +16,12 @@ overflow_add-self c =
 pub invariant_of-self : goal.invariant_of-self
 invariant_of-self c =
     let e = text_grows _ _ _ _ _ c.put_at-2.ensures.front c.put_at.ensures.front c.bytes-bytes.ensures.value in
-    let text = take c.self.inside.len c.self.inside.text in
-    (omega arith,
+    let text = take c.self.inside.len c.self.inside.text in (
+      omega arith,
       subst BeginsAtSlash (sym e) (BeginsAtSlash-more text c.args.name.now c.bytes-bytes.ensures.name c.self.invariant.1),
       subst (λ x. IsNameList (names_of x)) (sym e) (subst IsNameList (sym (names_of-more text c.args.name.now c.bytes-bytes.ensures.name)) (All-push (λ x. is_name x ≡ true) (names_of text) c.args.name.now c.self.invariant.2 c.bytes-bytes.ensures.name)),
-      omega (arith, c.self.invariant.3, ap (λ x. length (names_of x)) e, ap length (names_of-more text c.args.name.now c.bytes-bytes.ensures.name), length-append (names_of text) (c.args.name.now ∷ [])))
+      omega (arith, c.self.invariant.3, ap (λ x. length (names_of x)) e, ap length (names_of-more text c.args.name.now c.bytes-bytes.ensures.name), length-append (names_of text) (c.args.name.now ∷ [])),
+    )
 
 pub returns-then-end-gt-TEXT_LIMIT-clause-fits : goal.returns-then-end-gt-TEXT_LIMIT-clause-fits
 returns-then-end-gt-TEXT_LIMIT-clause-fits c =
