@@ -2,6 +2,7 @@
 #![tactic(auto)]
 
 mod format;
+mod session;
 mod words;
 
 pub use words::image_of;

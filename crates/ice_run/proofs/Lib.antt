@@ -1,0 +1,4 @@
+pub mod Feeding
+pub mod Runs
+pub mod Scripts
+pub mod SessionLaws
