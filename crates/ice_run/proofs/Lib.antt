@@ -1,4 +1,5 @@
 pub mod Feeding
 pub mod Runs
 pub mod Scripts
+pub mod Servings
 pub mod SessionLaws

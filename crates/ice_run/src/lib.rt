@@ -1,7 +1,10 @@
 //! The top call: what the words ask for, done on a host.
 #![tactic(auto)]
 
+mod attach;
 mod format;
+mod intake;
+mod serve;
 mod session;
 mod words;
 

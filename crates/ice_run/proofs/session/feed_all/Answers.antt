@@ -2,14 +2,15 @@ use Rattle.std.proofs.Common.{◌≡◌, ◌++◌, ◌+◌, List, ℕ, sym, subs
 use Rattle.std.proofs.lemmas.List.{take_all}
 use Rattle.ice_base.proofs.Frame.{OnErr-always}
 use Rattle.ice_base.proofs.Gives.{same_then, gave_then}
-use Rattle.ice_run.specs.Sessions.{Serving}
+use Rattle.ice_run.specs.Scripts.{script_lines}
+use Rattle.ice_run.specs.Sessions.{CutShort, Serving}
 use Rattle.ice_run.proofs.Feeding.{piece_step, piece_more}
 use Rattle.ice_run.proofs.session.feed_all.Goals as goal
 
 pub returns-in_err-feed-clause-cut : goal.returns-in_err-feed-clause-cut
 returns-in_err-feed-clause-cut g c = λ w input taken ahead start stands is serving.
     let inv = c.loop-byte.invariant in let piece = c.args.piece.now in let i = c.loop-byte.byte-index in
-    OnErr-always _ c.from_residual.result (c.in_err-feed.ensures.cut w input (taken ++ take i piece) (drop (i + 1) piece ++ ahead) start stands (piece_step input taken piece ahead i (omega arith) is) (inv.served w input taken ahead start stands is serving))
+    OnErr-always (CutShort g.H.Disk.state g.H.Disk.left w (script_lines input) start c.feed.new.host) c.from_residual.result (c.in_err-feed.ensures.cut w input (taken ++ take i piece) (drop (i + 1) piece ++ ahead) start stands (piece_step input taken piece ahead i (omega arith) is) (inv.served w input taken ahead start stands is serving))
 
 pub loop-byte-preserved : goal.loop-byte-preserved
 loop-byte-preserved g c = let inv = c.loop-byte.invariant in let piece = c.args.piece.now in let i = c.loop-byte.byte-index in record {
