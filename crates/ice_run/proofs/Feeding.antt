@@ -1,5 +1,5 @@
 -- A session that reads one more byte, and one that ends.
-use Rattle.std.proofs.Common.{Result, Ok, Err, OnOk, OnErr, ◌≡◌, ◌∙◌, ℕ, Bool, true, false, List, [], ◌∷◌, ◌++◌, length, take, sym, ap, subst, nat_eq, if◌then◌else◌, arith, ◌<◌, ◌+◌, drop, get_or, append_assoc}
+use Rattle.std.proofs.Common.{Result, OnOk, OnErr, ◌≡◌, ◌∙◌, ℕ, Bool, true, false, List, [], ◌∷◌, ◌++◌, length, take, sym, ap, subst, nat_eq, if◌then◌else◌, arith, ◌<◌, ◌+◌, drop, get_or, append_assoc}
 use Rattle.std.proofs.lemmas.Bool.Decides.{nat_tests}
 use Rattle.std.proofs.lemmas.List.{take_more, drop_more, take-append-drop}
 use Rattle.ice_base.specs.Disk.{Image, DiskState}

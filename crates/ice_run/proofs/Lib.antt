@@ -3,3 +3,4 @@ pub mod Runs
 pub mod Scripts
 pub mod Servings
 pub mod SessionLaws
+pub mod Whole

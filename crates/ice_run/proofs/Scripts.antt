@@ -1,5 +1,5 @@
 -- Scripts that are read byte by byte.
-use Rattle.std.proofs.Common.{◌≡◌, ◌∙◌, ℕ, Bool, true, false, List, [], ◌∷◌, ◌++◌, length, map, take, refl, sym, ap, subst, append_assoc, nat_eq, min, if◌then◌else◌, arith}
+use Rattle.std.proofs.Common.{◌≡◌, ◌∙◌, ℕ, Bool, true, false, List, [], ◌∷◌, ◌++◌, length, map, take, refl, sym, ap, append_assoc, nat_eq, min, if◌then◌else◌, arith}
 use Rattle.std.specs.List.{fold}
 use Rattle.std.proofs.lemmas.Bool.Decides.{nat_tests}
 use Rattle.std.proofs.lemmas.List.{map-append, length-take}
@@ -60,10 +60,11 @@ next_line input taken ahead text b lf is holds =
     let grown = grows_by ended ahead in
     let line : line_of text ≡ line_of c.rest = ap line_of holds ∙ line_of-take c.rest in
     let first : add_byte c b ≡ ended = ap (λ (t : Bool). if t then ended else record { lines = c.lines; rest = c.rest ++ b ∷ [] }) (is_lf b lf) in
-    let whole : closed (cut_of input) ≡ (c.lines ++ c.rest ∷ []) ++ grown.0 = ap (λ (x : List ℕ). closed (cut_of x)) is ∙ ap closed (fold-append add_byte _ taken (b ∷ ahead)) ∙ ap (λ (x : Cut). closed (fold add_byte x ahead)) first ∙ grown.1 in
-    (map line_of grown.0,
-     ap (λ (x : List (List ℕ)). map line_of x) whole ∙ map-append line_of (c.lines ++ c.rest ∷ []) grown.0 ∙ ap (λ (x : List Line). x ++ map line_of grown.0) (map-append line_of c.lines (c.rest ∷ []))
-     ∙ append_assoc (map line_of c.lines) (line_of c.rest ∷ []) (map line_of grown.0) ∙ ap (λ (x : Line). map line_of c.lines ++ x ∷ map line_of grown.0) (sym line))
+    let whole : closed (cut_of input) ≡ (c.lines ++ c.rest ∷ []) ++ grown.0 = ap (λ (x : List ℕ). closed (cut_of x)) is ∙ ap closed (fold-append add_byte _ taken (b ∷ ahead)) ∙ ap (λ (x : Cut). closed (fold add_byte x ahead)) first ∙ grown.1 in (
+      map line_of grown.0,
+      ap (λ (x : List (List ℕ)). map line_of x) whole ∙ map-append line_of (c.lines ++ c.rest ∷ []) grown.0 ∙ ap (λ (x : List Line). x ++ map line_of grown.0) (map-append line_of c.lines (c.rest ∷ []))
+          ∙ append_assoc (map line_of c.lines) (line_of c.rest ∷ []) (map line_of grown.0) ∙ ap (λ (x : Line). map line_of c.lines ++ x ∷ map line_of grown.0) (sym line),
+    )
 
 -- and then it is ended
 pub ended_lines-ended : (taken text : List ℕ) (b : ℕ) → b ≡ 10 → text ≡ take 40001 (cut_of taken).rest → ended_lines (taken ++ b ∷ []) ≡ ended_lines taken ++ line_of text ∷ []
@@ -101,6 +102,8 @@ no_last_line taken text none holds =
 pub lines_ahead : (input taken ahead : List ℕ) → input ≡ taken ++ ahead → (more : List Line) × (script_lines input ≡ ended_lines taken ++ more)
 unfolding cut_of
 lines_ahead input taken ahead is =
-    let grown = grows_by (cut_of taken) ahead in
-    (map line_of grown.0, ap (λ (x : List ℕ). map line_of (closed (cut_of x))) is ∙ ap (λ (x : Cut). map line_of (closed x)) (fold-append add_byte _ taken ahead)
-     ∙ ap (λ (x : List (List ℕ)). map line_of x) grown.1 ∙ map-append line_of (cut_of taken).lines grown.0)
+    let grown = grows_by (cut_of taken) ahead in (
+      map line_of grown.0,
+      ap (λ (x : List ℕ). map line_of (closed (cut_of x))) is ∙ ap (λ (x : Cut). map line_of (closed x)) (fold-append add_byte _ taken ahead)
+          ∙ ap (λ (x : List (List ℕ)). map line_of x) grown.1 ∙ map-append line_of (cut_of taken).lines grown.0,
+    )

@@ -1,8 +1,7 @@
 -- A session under way: what a piece more does to it, and how it ends.
-use Rattle.std.proofs.Common.{◌≡◌, ◌∙◌, ◌⊎◌, inl, inr, ⊎_elim, ◌<◌, ◌≤◌, ◌+◌, ℕ, List, [], ◌∷◌, ◌++◌, length, take, drop, refl, sym, ap, subst, append_assoc, length-append, arith, true}
+use Rattle.std.proofs.Common.{◌≡◌, ◌∙◌, inl, inr, ⊎_elim, ◌<◌, ◌≤◌, ◌+◌, ℕ, List, [], ◌∷◌, ◌++◌, length, take, refl, sym, ap, subst, append_assoc, length-append, arith}
 use Rattle.std.proofs.Math.Seq.{take-append_seam}
-use Rattle.ice_base.specs.Disk.{Image, DiskState, Streams, Everywhere, AgreesOn}
-use Rattle.ice_base.specs.Frames.{Kept, LeavesOnly}
+use Rattle.ice_base.specs.Disk.{Image, DiskState, Everywhere}
 use Rattle.ice_base.specs.Host.{SameDisk, Leaves, GaveOnly}
 use Rattle.ice_base.proofs.Kept.{kept_refl, kept_then, kept_same, every_kept}
 use Rattle.ice_base.specs.declared.status.Status.TheVariants.{Done, Source, Sink, Script}
@@ -11,9 +10,9 @@ use Rattle.tree_spec.specs.World.{World}
 use Rattle.ice_script.specs.Reading.{Gathered}
 use Rattle.ice_text.specs.Text.{text}
 use Rattle.ice_text.proofs.Laws.{text_some}
-use Rattle.tree_spec.specs.Replies.{Response, Accepted, Plain}
+use Rattle.tree_spec.specs.Replies.{Response, Plain}
 use Rattle.ice_run.specs.Images.{Fits, Stands}
-use Rattle.ice_run.specs.Runs.{Answered, end, lines_of, texts, IsProperPrefix, Left}
+use Rattle.ice_run.specs.Runs.{texts, Left}
 use Rattle.ice_run.specs.Scripts.{script_lines, ended_lines, longest_script, cut_of}
 use Rattle.ice_run.specs.Pieces.{TookOnly, TookPiece}
 use Rattle.ice_run.specs.Sessions.{Gave, SoFar, CutShort, Serving}
@@ -27,7 +26,7 @@ append_nil [] = refl
 append_nil (x ∷ xs) = ap (λ (y : List ℕ). x ∷ y) (append_nil xs)
 
 -- whole replies were given, and the image is a volume of the world that they lead to
-between_lines : (w : World) (script lines ahead : List Line) (old mid : DiskState) (image : Image) (out : List ℕ) → Gave w lines [] old mid → script ≡ lines ++ ahead → Fits w image → out ≡ mid.streams.aside
+pub between_lines : (w : World) (script lines ahead : List Line) (old mid : DiskState) (image : Image) (out : List ℕ) → Gave w lines [] old mid → script ≡ lines ++ ahead → Fits w image → out ≡ mid.streams.aside
     → Left old.streams.aside w script image out
 between_lines w script lines ahead old mid image out gave is fits same = let some : Response = Ok Plain in (
   texts gave.steps,

@@ -1,8 +1,8 @@
 -- One more line of a session, answered whole or in part.
 use Rattle.std.proofs.Common.{Result, Ok, Err, OnOk, OnErr, true, ◌≡◌, ◌∙◌, ◌⊎◌, inl, inr, ⊎_elim, ◌<◌, ◌≤◌, ℕ, List, [], ◌∷◌, ◌++◌, length, take, refl, sym, ap, subst, append_assoc, arith}
 use Rattle.std.proofs.lemmas.List.{take_all}
-use Rattle.ice_base.specs.Disk.{Image, DiskState, Streams, AgreesOn, Everywhere}
-use Rattle.ice_base.specs.Frames.{Every, Kept, LeavesOnly}
+use Rattle.ice_base.specs.Disk.{Image, DiskState, Everywhere}
+use Rattle.ice_base.specs.Frames.{Kept, LeavesOnly}
 use Rattle.ice_base.specs.Host.{SameDisk, Leaves, FirstOf, CutOf}
 use Rattle.ice_base.proofs.Kept.{kept_then, kept_same, every_kept}
 use Rattle.tree_spec.specs.Lines.{Line}
@@ -11,7 +11,7 @@ use Rattle.tree_spec.specs.World.{World, Step}
 use Rattle.ice_text.specs.Text.{text}
 use Rattle.ice_text.proofs.Laws.{text_some}
 use Rattle.ice_run.specs.Images.{Fits, Stands}
-use Rattle.ice_run.specs.Runs.{Answered, end, lines_of, texts, IsProperPrefix, RunsFirst, Next, After, Left}
+use Rattle.ice_run.specs.Runs.{Answered, end, lines_of, texts, Left}
 use Rattle.ice_run.specs.Sessions.{Gave, SoFar, CutShort}
 use Rattle.ice_run.proofs.Runs.{push, runs-push, end-push, lines_of-push, texts-push, front, nothing_given}
 
@@ -115,7 +115,7 @@ module _ {D : Type 0} (state : D → DiskState) (left : D → ℕ → Image → 
     each = λ t image out l. ⊎_elim
         (λ before. so_far.crash.each t image out before)
         (λ here. inr (left_in_reply w script lines ahead line r (state start) (state mid) so_far.gave is step image out
-            (every_kept Everywhere (Fits w) (state start) (state mid) so_far.kept stands.fits image here.0) here.1))
+        (every_kept Everywhere (Fits w) (state start) (state mid) so_far.kept stands.fits image here.0) here.1))
         (leaves.left_new t image out l);
   }
 

@@ -1,7 +1,7 @@
 -- What opening a volume gives.
-use Rattle.std.specs.Prelude.{◌≡◌, ◌⊎◌, ◌<◌, ℕ, Bool, true, false, Result, Ok, Err, None, ⊤}
+use Rattle.std.specs.Prelude.{◌≡◌, ◌⊎◌, ℕ, Bool, true, false, Result, Ok, Err, None, ⊤}
 use Rattle.ice_base.specs.Disk.{Image, DiskState, block, Rose}
-use Rattle.ice_layout.specs.Geometry.{total_blocks, zero_block}
+use Rattle.ice_layout.specs.Geometry.{zero_block}
 use Rattle.ice_layout.specs.Supers.{IsSuper, super_fault}
 use Rattle.ice_layout.specs.declared.superblock.Super.{Super}
 use Rattle.ice_run.specs.Images.{IsTable, IsEmptyVolume, NoVolume, TooSmall}

@@ -1,8 +1,11 @@
 -- Why a session ends.
-use Rattle.std.specs.Prelude.{◌≤◌, ℕ, ⊤}
-use Rattle.ice_base.specs.Disk.{Streams, Rose}
+use Rattle.std.specs.Prelude.{◌≡◌, ◌⊎◌, ◌≤◌, ◌<◌, true, ⊤}
+use Rattle.ice_base.specs.Disk.{DiskState, Streams, Rose}
 use Rattle.ice_base.specs.declared.status.Status.{Status}
 use Rattle.ice_base.specs.declared.status.Status.TheVariants.{Done, Usage, Memory, Source, Sink, Disk, Volume, Script, Small}
+use Rattle.ice_layout.specs.Geometry.{total_blocks}
+use Rattle.ice_layout.specs.declared.superblock.Super.{Super}
+use Rattle.ice_run.specs.Images.{NoVolume, TooSmall}
 
 -- no count of faults fell
 pub record NoFewerFaults (old new : Streams) : Type 0 where
@@ -20,3 +23,39 @@ StreamCause Memory old new = ⊥
 StreamCause Disk old new = ⊥
 StreamCause Volume old new = ⊥
 StreamCause Small old new = ⊥
+
+-- why a session ends with its status
+abbrev pub SessionCause : Status → DiskState → DiskState → Type 0
+SessionCause Done old new = ⊤
+SessionCause Memory old new = ⊤
+SessionCause Source old new = Rose old.streams.source_faults new.streams.source_faults
+SessionCause Sink old new = Rose old.streams.sink_faults new.streams.sink_faults
+SessionCause Disk old new = Rose old.faults new.faults
+SessionCause Volume old new = old.tells ≡ true → NoVolume old.now
+SessionCause Small old new = (old.size ≡ 0) ⊎ (old.tells ≡ true → TooSmall old.size old.now)
+SessionCause Script old new = ⊤
+SessionCause Usage old new = ⊥
+
+-- the statuses of a session whose volume attached
+abbrev pub HasAttached : Status → Type 0
+HasAttached Done = ⊤
+HasAttached Source = ⊤
+HasAttached Sink = ⊤
+HasAttached Script = ⊤
+HasAttached Usage = ⊥
+HasAttached Memory = ⊥
+HasAttached Disk = ⊥
+HasAttached Volume = ⊥
+HasAttached Small = ⊥
+
+-- why the making of an image ends with its status
+abbrev pub FormatCause : Super → Status → DiskState → DiskState → Type 0
+FormatCause sup Done old new = ⊤
+FormatCause sup Disk old new = Rose old.faults new.faults
+FormatCause sup Small old new = old.size < total_blocks sup.slots sup.groups
+FormatCause sup Usage old new = ⊥
+FormatCause sup Memory old new = ⊥
+FormatCause sup Source old new = ⊥
+FormatCause sup Sink old new = ⊥
+FormatCause sup Volume old new = ⊥
+FormatCause sup Script old new = ⊥

@@ -16,15 +16,15 @@ abbrev pub Took : Streams → Streams → List ℕ → Type 0
 Took old new taken = old.intake ≡ taken ++ new.intake
 
 -- Which lines are answered at the end: `whole` says of lines that they are, and `cut` that the reply after some was given in part.
--- At Disk, where the volume did not attach, nothing was taken or given.
+-- At Disk, where the volume did not attach, and at Memory nothing was taken or given. The other statuses don't come where the image opens.
 abbrev pub EndsBy : (whole : List Line → Type 0) (cut : Type 0) → Status → Streams → Streams → Type 0
 EndsBy whole cut Done old new = (taken : List ℕ) × Took old new taken × (new.intake ≡ []) × (length taken ≤ longest_script) × whole (script_lines taken)
 EndsBy whole cut Source old new = (taken : List ℕ) × Took old new taken × (length taken ≤ longest_script) × whole (ended_lines taken)
 EndsBy whole cut Sink old new = (taken : List ℕ) × Took old new taken × (length taken ≤ longest_script) × cut
 EndsBy whole cut Script old new = (taken : List ℕ) × Took old new taken × (length taken ≡ longest_script + 1) × whole (ended_lines (take longest_script taken))
 EndsBy whole cut Disk old new = (new.intake ≡ old.intake) × (new.aside ≡ old.aside)
+EndsBy whole cut Memory old new = (new.intake ≡ old.intake) × (new.aside ≡ old.aside)
 EndsBy whole cut Usage old new = ⊥
-EndsBy whole cut Memory old new = ⊥
 EndsBy whole cut Volume old new = ⊥
 EndsBy whole cut Small old new = ⊥
 

@@ -1,6 +1,5 @@
 -- The forms of the program's words.
-use Rattle.std.specs.Prelude.{◌≡◌, ℕ, ◌+◌, Bool, true, false, not, ◌&&◌, ◌==◌, if◌then◌else◌, List, [], length, codes, slice_index, slice_index_or, Option, Some, None, Result, Ok, Err}
-use Rattle.std.specs.Option.{option_and_then}
+use Rattle.std.specs.Prelude.{◌≡◌, ℕ, Bool, not, ◌&&◌, ◌==◌, if◌then◌else◌, List, [], length, codes, slice_index, slice_index_or, Option, Some, None, Result, Ok, Err}
 use Rattle.std.specs.Str.{bytes_eq}
 use Rattle.ice_base.specs.declared.status.Image.{Image}
 use Rattle.ice_base.specs.declared.status.ImageFault.{ImageFault}

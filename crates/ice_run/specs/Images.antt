@@ -1,5 +1,5 @@
 -- What an image stands for.
-use Rattle.std.specs.Prelude.{◌≡◌, ◌≤◌, ◌<◌, ◌⊎◌, ℕ, length, None, Option, List, true}
+use Rattle.std.specs.Prelude.{◌≡◌, ◌≤◌, ◌<◌, ◌⊎◌, ℕ, length, None, true}
 use Rattle.ice_base.specs.Disk.{Image, DiskState, block, Everywhere}
 use Rattle.ice_base.specs.Frames.{Settled, Every}
 use Rattle.ice_layout.specs.Geometry.{total_blocks, zero_block}

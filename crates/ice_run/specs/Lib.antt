@@ -9,3 +9,4 @@ pub mod Runs
 pub mod Scripts
 pub mod Servings
 pub mod Sessions
+pub mod Tops

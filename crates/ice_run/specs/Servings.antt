@@ -1,11 +1,11 @@
 -- A session under way: pieces that were taken and fed, and how it stops.
-use Rattle.std.specs.Prelude.{◌≡◌, ◌≤◌, ◌+◌, ℕ, List, [], ◌++◌, length, Result, Ok, Err}
+use Rattle.std.specs.Prelude.{◌≡◌, ◌+◌, ℕ, List, [], ◌++◌, length, Result, Ok, Err}
 use Rattle.ice_base.specs.Disk.{Image, DiskState}
 use Rattle.ice_base.specs.declared.status.Status.{Status}
 use Rattle.tree_spec.specs.Lines.{Line}
 use Rattle.tree_spec.specs.World.{World}
 use Rattle.ice_script.specs.Reading.{Gathered}
-use Rattle.ice_run.specs.Scripts.{script_lines, longest_script}
+use Rattle.ice_run.specs.Scripts.{script_lines}
 use Rattle.ice_run.specs.Sessions.{SoFar, CutShort, Serving}
 use Rattle.ice_run.specs.Endings.{EndsBy}
 

@@ -6,6 +6,8 @@ mod format;
 mod intake;
 mod serve;
 mod session;
+mod top;
 mod words;
 
+pub use top::run;
 pub use words::image_of;

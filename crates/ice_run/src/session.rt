@@ -91,7 +91,11 @@ fn feed<H: Host>(host: &mut H, session: &mut Session, byte: u8) -> Result<(), Si
 }
 
 /// Reads the bytes of a piece, one after another.
-pub(crate) fn feed_all<H: Host>(host: &mut H, session: &mut Session, piece: &[u8]) -> Result<(), SinkFault>
+pub(crate) fn feed_all<H: Host>(
+    host: &mut H,
+    session: &mut Session,
+    piece: &[u8],
+) -> Result<(), SinkFault>
     requires { session.old.reader.ended ≡ false }
     ensures disk { SameDisk (H.state host.old) (H.state host.new) }
     ensures only { GaveOnly (H.state host.old).streams (H.state host.new).streams }

@@ -1,5 +1,5 @@
-use Rattle.std.proofs.Common.{◌≡◌, ◌∙◌, ◌⊎◌, ◌+◌, ◌<◌, ◌≤◌, ℕ, inl, inr, ⊎_elim, ◌++◌, arith, take}
-use Rattle.ice_run.specs.Scripts.{script_lines, longest_script}
+use Rattle.std.proofs.Common.{◌≡◌, ◌∙◌, ◌⊎◌, ◌+◌, ◌<◌, ◌≤◌, ℕ, ⊎_elim, arith}
+use Rattle.ice_run.specs.Scripts.{longest_script}
 use Rattle.ice_run.proofs.Servings.{took_serving, source_failed, took_more, too_long, fed_more, sink_failed}
 use Rattle.ice_run.proofs.serve.pass.Goals as goal
 
@@ -20,8 +20,8 @@ returns-in-Ok-feed_all-clause-passes g c = λ w start stands fed.
     fed_more state left w start c.args.taken c.args.host.now c.take_piece.new.host c.args.session.now.reader stands fed c.take_piece.ensures.disk c.take_piece.ensures.leaves c.take_piece.ensures.only
     n piece took c.feed_all.new.host c.feed_all.new.session.reader c.feed_all.ensures.only
     (c.in-Ok-feed_all.ensures.served w (state start).streams.intake fed.taken (state c.take_piece.new.host).streams.intake start stands
-      (took_more state left w start c.args.taken c.args.host.now c.take_piece.new.host c.args.session.now.reader stands fed c.take_piece.ensures.disk c.take_piece.ensures.leaves c.take_piece.ensures.only n piece took)
-      (took_serving state left w start c.args.taken c.args.host.now c.take_piece.new.host c.args.session.now.reader stands fed c.take_piece.ensures.disk c.take_piece.ensures.leaves c.take_piece.ensures.only))
+    (took_more state left w start c.args.taken c.args.host.now c.take_piece.new.host c.args.session.now.reader stands fed c.take_piece.ensures.disk c.take_piece.ensures.leaves c.take_piece.ensures.only n piece took)
+    (took_serving state left w start c.args.taken c.args.host.now c.take_piece.new.host c.args.session.now.reader stands fed c.take_piece.ensures.disk c.take_piece.ensures.leaves c.take_piece.ensures.only))
 
 within_limit : (taken n : ℕ) → taken ≤ longest_script → (taken < longest_script → taken + n ≤ longest_script) → ((0 < n) × (taken ≡ 67108864 → ⊥)) ⊎ (n ≤ 0) → taken + n ≤ longest_script
 within_limit taken n le below either = ⊎_elim (λ some. below (omega (arith, some.1))) (λ none. omega arith) either
@@ -33,5 +33,5 @@ returns-in-Err-feed_all-clause-passes g c = λ w start stands fed.
     sink_failed state left w start c.args.taken c.args.host.now c.take_piece.new.host c.args.session.now.reader stands fed c.take_piece.ensures.disk c.take_piece.ensures.leaves c.take_piece.ensures.only
     n piece took c.feed_all.new.host c.feed_all.new.session.reader c.feed_all.ensures.only (within_limit c.args.taken n c.requires.limit c.in-Ok.ensures.count.1 c.else-count-gt0.either)
     (c.in-Err-feed_all.ensures.cut w (state start).streams.intake fed.taken (state c.take_piece.new.host).streams.intake start stands
-      (took_more state left w start c.args.taken c.args.host.now c.take_piece.new.host c.args.session.now.reader stands fed c.take_piece.ensures.disk c.take_piece.ensures.leaves c.take_piece.ensures.only n piece took)
-      (took_serving state left w start c.args.taken c.args.host.now c.take_piece.new.host c.args.session.now.reader stands fed c.take_piece.ensures.disk c.take_piece.ensures.leaves c.take_piece.ensures.only))
+    (took_more state left w start c.args.taken c.args.host.now c.take_piece.new.host c.args.session.now.reader stands fed c.take_piece.ensures.disk c.take_piece.ensures.leaves c.take_piece.ensures.only n piece took)
+    (took_serving state left w start c.args.taken c.args.host.now c.take_piece.new.host c.args.session.now.reader stands fed c.take_piece.ensures.disk c.take_piece.ensures.leaves c.take_piece.ensures.only))

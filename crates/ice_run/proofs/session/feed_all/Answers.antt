@@ -1,4 +1,4 @@
-use Rattle.std.proofs.Common.{◌≡◌, ◌++◌, ◌+◌, List, ℕ, sym, subst, take, drop, arith}
+use Rattle.std.proofs.Common.{◌++◌, ◌+◌, List, ℕ, sym, subst, take, drop, arith}
 use Rattle.std.proofs.lemmas.List.{take_all}
 use Rattle.ice_base.proofs.Frame.{OnErr-always}
 use Rattle.ice_base.proofs.Gives.{same_then, gave_then}

@@ -1,4 +1,4 @@
-use Rattle.std.proofs.Common.{◌≡◌, ◌++◌, ℕ, List, take, drop, false}
+use Rattle.std.proofs.Common.{◌≡◌, ◌++◌, ℕ, List, take, false}
 use Rattle.ice_base.specs.Host.{SameDisk, GaveOnly}
 use Rattle.tree_spec.specs.World.{World}
 use Rattle.ice_run.specs.Images.{Stands}

@@ -1,10 +1,3 @@
-use Rattle.std.proofs.Common.{◌≡◌, ◌∙◌, List, [], refl, sym, ap, Ok, Result}
-use Rattle.tree_spec.specs.declared.reply.Entry.{Entry}
-use Rattle.tree_spec.specs.declared.reply.CubeRow.{CubeRow}
-use Rattle.tree_spec.specs.declared.command.Command.{Command}
-use Rattle.tree_spec.specs.Lines.{Line, Asks, asked}
-use Rattle.tree_spec.specs.Replies.{Listed, Response}
-use Rattle.tree_spec.specs.World.{World, Step, rows_of}
 use Rattle.ice_script.specs.Grammar.{line_of}
 use Rattle.ice_run.proofs.Runs.{listed}
 use Rattle.ice_run.proofs.session.reply_to.Goals as goal
