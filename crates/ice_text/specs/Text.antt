@@ -1,5 +1,5 @@
 -- The text of a reply: its data lines, then its closing line, each ended by an LF.
-use Rattle.std.specs.Prelude.{ℕ, ◌+◌, Bool, ◌||◌, nat_eq, List, [], ◌∷◌, ◌++◌, map, length, if◌then◌else◌, codes, decimal, Option, None, Some, Result, Ok, Err}
+use Rattle.std.specs.Prelude.{ℕ, ◌+◌, ◌==◌, Bool, ◌||◌, nat_eq, count_by, List, [], ◌∷◌, ◌++◌, map, length, if◌then◌else◌, codes, decimal, Option, None, Some, Result, Ok, Err}
 use Rattle.std.specs.List.{starts_with}
 use Rattle.hex.specs.Hex.{encode_lower}
 use Rattle.tree_spec.specs.Why as why
@@ -116,3 +116,17 @@ ended (line ∷ lines) = line ++ 10 ∷ ended lines
 -- the text of a reply
 unfoldable pub text : Response → List ℕ
 text r = ended (data_lines r ++ closing_line r ∷ [])
+
+-- a byte put before the first line, where there is one
+abbrev pub onto_line : ℕ → List (List ℕ) → List (List ℕ)
+onto_line b [] = []
+onto_line b (line ∷ lines) = (b ∷ line) ∷ lines
+
+-- the lines of these bytes that an LF ends
+unfoldable pub lines_in : List ℕ → List (List ℕ)
+lines_in [] = []
+lines_in (b ∷ bytes) = if b == 10 then [] ∷ lines_in bytes else onto_line b (lines_in bytes)
+
+-- how many lines that an LF ends begin with `ok` or `no`
+abbrev pub closings : List ℕ → ℕ
+closings bytes = count_by is_closing (lines_in bytes)
