@@ -1,12 +1,12 @@
 -- The commands that lines ask for so far.
-use Rattle.std.proofs.Common.{◌≡◌, ◌∙◌, ℕ, Bool, true, false, List, [], ◌∷◌, length, if◌then◌else◌, refl, sym, ap}
+use Rattle.std.proofs.Common.{◌≡◌, ℕ, Bool, true, false, List, [], ◌∷◌, length, if◌then◌else◌, refl}
 use Rattle.std.specs.Prelude.{codes, nat_lt}
 use Rattle.std.specs.Str.{bytes_eq}
-use Rattle.tree_spec.specs.Why.{Args, Word, Long}
-use Rattle.tree_spec.specs.Lines.{Line, Bad, Asks, Request, Cubes, asked}
+use Rattle.tree_spec.specs.Why.{Word, Long}
+use Rattle.tree_spec.specs.Lines.{Bad, Asks, Request, Cubes, asked}
 use Rattle.tree_spec.specs.declared.command.Command.{Command}
 use Rattle.tree_spec.specs.declared.command.Command.TheVariants as code
-use Rattle.ice_script.specs.Grammar.{line_of, words_of, word_of, cubes_of, tokens, longest_line}
+use Rattle.ice_script.specs.Grammar.{line_of, words_of, cubes_of, tokens, longest_line}
 
 of_cubes : (args : List (List ℕ)) (r : Request) → cubes_of args ≡ Asks r → r ≡ Cubes
 of_cubes [] r h = cc

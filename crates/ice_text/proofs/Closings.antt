@@ -1,5 +1,5 @@
 -- The closing lines of what was written: one for each whole reply, none for a part of one.
-use Rattle.std.proofs.Common.{◌≡◌, ◌∙◌, ℕ, zero, suc, ◌+◌, ◌<◌, ◌≤◌, Bool, true, false, List, [], ◌∷◌, ◌++◌, length, length-append, get_or, take, drop, refl, sym, ap, subst, arith, append_assoc, if◌then◌else◌, ◌==◌}
+use Rattle.std.proofs.Common.{◌≡◌, ◌∙◌, ℕ, suc, ◌+◌, ◌<◌, ◌≤◌, Bool, true, false, List, [], ◌∷◌, ◌++◌, length, length-append, take, drop, refl, sym, ap, arith, append_assoc, if◌then◌else◌, ◌==◌}
 use Rattle.std.specs.Prelude.{All, not, ◌&&◌, cond, count_by}
 use Rattle.std.proofs.lemmas.List.{take_at, take-append-le, take-append-drop}
 use Rattle.std.proofs.lemmas.List.Sums.{sum_by-append}
@@ -33,13 +33,13 @@ unfolding lines_in
 lines_in-line [] rest h = refl
 lines_in-line (b ∷ line) rest h =
     ap (λ y. if y then [] ∷ lines_in (line ++ 10 ∷ rest) else onto_line b (lines_in (line ++ 10 ∷ rest))) (first_other b line h)
-      ∙ ap (onto_line b) (lines_in-line line rest (rest_whole b line h))
+    ∙ ap (onto_line b) (lines_in-line line rest (rest_whole b line h))
 
 lines_in-ended : (lines : List (List ℕ)) (rest : List ℕ) → All (λ line. is_whole line ≡ true) lines → lines_in (ended lines ++ rest) ≡ lines ++ lines_in rest
 lines_in-ended [] rest h = refl
 lines_in-ended (line ∷ lines) rest h =
     ap lines_in (append_assoc line (10 ∷ ended lines) rest) ∙ lines_in-line line (ended lines ++ rest) (h 0 [] (omega arith))
-      ∙ ap (λ ls. line ∷ ls) (lines_in-ended lines rest (λ k d lt. h (suc k) d (omega arith)))
+    ∙ ap (λ ls. line ∷ ls) (lines_in-ended lines rest (λ k d lt. h (suc k) d (omega arith)))
 
 -- a line without its end
 lines_in-whole : (line : List ℕ) → is_whole line ≡ true → lines_in line ≡ []
@@ -47,7 +47,7 @@ unfolding lines_in
 lines_in-whole [] h = refl
 lines_in-whole (b ∷ line) h =
     ap (λ y. if y then [] ∷ lines_in line else onto_line b (lines_in line)) (first_other b line h)
-      ∙ ap (onto_line b) (lines_in-whole line (rest_whole b line h))
+    ∙ ap (onto_line b) (lines_in-whole line (rest_whole b line h))
 
 -- ---- fronts
 
@@ -95,20 +95,20 @@ parts_append front line rest all is =
 pub lines_in-text-append : (r : Response) (rest : List ℕ) → HasNames r → lines_in (text r ++ rest) ≡ data_lines r ++ closing_line r ∷ lines_in rest
 lines_in-text-append r rest h =
     ap lines_in (parts_append (ended (data_lines r)) (closing_line r) rest (text r) (text_parts r))
-      ∙ lines_in-ended (data_lines r) (closing_line r ++ 10 ∷ rest) (whole_data r h)
-      ∙ ap (λ ls. data_lines r ++ ls) (lines_in-line (closing_line r) rest (whole_closing r))
+    ∙ lines_in-ended (data_lines r) (closing_line r ++ 10 ∷ rest) (whole_data r h)
+    ∙ ap (λ ls. data_lines r ++ ls) (lines_in-line (closing_line r) rest (whole_closing r))
 
 -- a whole reply has one closing line
 pub closings-text-append : (r : Response) (rest : List ℕ) → HasNames r → closings (text r ++ rest) ≡ suc (closings rest)
 closings-text-append r rest h =
     ap (count_by is_closing) (lines_in-text-append r rest h) ∙ count-append is_closing (data_lines r) (closing_line r ∷ lines_in rest)
-      ∙ omega (arith, count_none is_closing (data_lines r) (data_lines_open r), count_one is_closing (closing_line r) (lines_in rest) (is_closing-closing_line r))
+    ∙ omega (arith, count_none is_closing (data_lines r) (data_lines_open r), count_one is_closing (closing_line r) (lines_in rest) (is_closing-closing_line r))
 
 part_of : (whole part rest : List ℕ) → whole ++ 10 ∷ [] ≡ part ++ rest → 0 < length rest → whole ≡ part ++ drop (length part) whole
 part_of whole part rest e some =
     let short : length part ≤ length whole = omega (arith, ap length e, length-append whole (10 ∷ []), length-append part rest) in
     sym (take-append-drop (length part) whole)
-      ∙ ap (λ t. t ++ drop (length part) whole) (sym (take-append-le (length part) whole (10 ∷ []) short) ∙ ap (take (length part)) e ∙ take_at part rest (length part) refl)
+    ∙ ap (λ t. t ++ drop (length part) whole) (sym (take-append-le (length part) whole (10 ∷ []) short) ∙ ap (take (length part)) e ∙ take_at part rest (length part) refl)
 
 -- a part of a reply has none
 pub closings-part : (r : Response) (part rest : List ℕ) → HasNames r → text r ≡ part ++ rest → 0 < length rest → closings part ≡ 0

@@ -1,11 +1,11 @@
 -- Bytes without an LF: each line of a reply is one line of its text.
-use Rattle.std.proofs.Common.{◌≡◌, ◌∙◌, ℕ, zero, suc, ◌+◌, ◌/◌, ◌%◌, ◌<◌, ◌≤◌, Bool, true, false, List, [], ◌∷◌, ◌++◌, length, get_or, refl, sym, ap, arith, if◌then◌else◌, ◌==◌}
-use Rattle.std.specs.Prelude.{Ok, Err, Option, None, Some, codes, decimal, All, nat_eq, nat_le, nat_lt, not, ◌&&◌, slice_index, map}
+use Rattle.std.proofs.Common.{◌≡◌, ℕ, zero, suc, ◌+◌, ◌/◌, ◌%◌, ◌<◌, ◌≤◌, Bool, true, false, List, [], ◌∷◌, ◌++◌, length, get_or, refl, ap, arith, if◌then◌else◌, ◌==◌}
+use Rattle.std.specs.Prelude.{Ok, Err, codes, decimal, All, nat_le, nat_lt, not, ◌&&◌, slice_index, map}
 use Rattle.std.specs.List.{list_all}
 use Rattle.std.specs.Fmt.{digits, digits_onto, digit_glyph}
 use Rattle.std.proofs.lemmas.Bool.Decides.{nat_tests}
 use Rattle.std.proofs.lemmas.List.Elements.{All-append, All-map, All-nil}
-use Rattle.hex.specs.Hex.{encode_with, encode_lower, lower_digits}
+use Rattle.hex.specs.Hex.{encode_with, lower_digits}
 use Rattle.tree_spec.specs.Names.{is_name, is_name_byte, IsNameList, with_slashes, text_of, longest_name}
 use Rattle.tree_spec.specs.Why.{Why, Damaged}
 use Rattle.tree_spec.specs.Replies.{Response, Accepted, Refused, Because, Fault, Memory, Plain, Number, Bytes, Dir, File, Listed, Checked, HasNames}
@@ -13,7 +13,7 @@ use Rattle.tree_spec.specs.declared.reply.Entry.{Entry}
 use Rattle.tree_spec.specs.declared.reply.CubeRow.{CubeRow}
 use Rattle.tree_spec.specs.declared.reply.StateWord.{StateWord}
 use Rattle.tree_spec.specs.declared.reply.StateWord.TheVariants.{Mounted, Unmounted, Stopped, Offline}
-use Rattle.ice_text.specs.Text.{data_lines, closing_line, value_words, refused_words, why_words, number_words, hex_token, state_word, entry_line, row_line}
+use Rattle.ice_text.specs.Text.{data_lines, closing_line, value_words, refused_words, why_words, hex_token, state_word, entry_line, row_line}
 
 -- no byte is an LF
 abbrev pub is_whole : List ℕ → Bool
@@ -73,7 +73,7 @@ unfolding encode_with
 whole_encoded digits [] h = refl
 whole_encoded digits (b ∷ bytes) h =
     both (not (slice_index digits (b / 16) == 10)) (is_whole (slice_index digits (b % 16) ∷ encode_with digits bytes)) (whole_at digits (b / 16) h)
-      (both (not (slice_index digits (b % 16) == 10)) (is_whole (encode_with digits bytes)) (whole_at digits (b % 16) h) (whole_encoded digits bytes h))
+    (both (not (slice_index digits (b % 16) == 10)) (is_whole (encode_with digits bytes)) (whole_at digits (b % 16) h) (whole_encoded digits bytes h))
 
 whole_hex : (bytes : List ℕ) → is_whole (hex_token bytes) ≡ true
 whole_hex [] = refl
