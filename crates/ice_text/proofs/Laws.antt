@@ -1,13 +1,13 @@
 -- What holds of every reply's text.
-use Rattle.std.proofs.Common.{◌≡◌, ◌∙◌, ℕ, zero, suc, ◌+◌, ◌/◌, ◌%◌, ◌<◌, ◌≤◌, Bool, true, false, List, [], ◌∷◌, ◌++◌, length, length-append, map, get_or, refl, sym, ap, arith, append_assoc, if◌then◌else◌, ◌==◌, lit≤}
-use Rattle.std.specs.Prelude.{Ok, Err, decimal, All, codes, nat_eq, nat_lt, ◌||◌}
+use Rattle.std.proofs.Common.{◌≡◌, ◌∙◌, ℕ, zero, suc, ◌/◌, ◌%◌, ◌<◌, ◌≤◌, true, false, List, [], ◌∷◌, ◌++◌, length, length-append, map, get_or, refl, sym, ap, arith, append_assoc, if◌then◌else◌, ◌==◌, lit≤}
+use Rattle.std.specs.Prelude.{Ok, Err, decimal, All, codes, nat_eq, nat_lt}
 use Rattle.std.specs.Fmt.{digits, digits_onto, digit_glyph}
 use Rattle.std.proofs.lemmas.Bool.Decides.{nat_tests}
 use Rattle.std.proofs.lemmas.List.Elements.{All-append, All-map, All-nil}
-use Rattle.tree_spec.specs.Replies.{Response, Accepted, Plain, Number, Bytes, Dir, File, Listed, Checked}
+use Rattle.tree_spec.specs.Replies.{Response, Plain, Number, Bytes, Dir, File, Listed, Checked}
 use Rattle.tree_spec.specs.declared.reply.Entry.{Entry}
 use Rattle.tree_spec.specs.declared.reply.CubeRow.{CubeRow}
-use Rattle.ice_text.specs.Text.{text, ended, data_lines, value_lines, closing_line, entry_line, row_line, is_closing}
+use Rattle.ice_text.specs.Text.{text, ended, data_lines, closing_line, entry_line, row_line, is_closing}
 use Rattle.ice_text.proofs.Endings.{ended-append}
 
 -- the data lines, and then the closing line

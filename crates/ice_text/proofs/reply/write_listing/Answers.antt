@@ -1,4 +1,4 @@
-use Rattle.std.proofs.Common.{ℕ, List, ◌+◌, ◌++◌, ◌∷◌, [], ◌≡◌, ◌∙◌, length, map, sym, ap, refl}
+use Rattle.std.proofs.Common.{List, ◌+◌, ◌++◌, ◌∷◌, [], ◌≡◌, ◌∙◌, length, map, sym, ap}
 use Rattle.std.specs.Prelude.{decimal, codes, Ok}
 use Rattle.tree_spec.specs.Replies.{Listed}
 use Rattle.tree_spec.specs.declared.reply.Entry.{Entry}

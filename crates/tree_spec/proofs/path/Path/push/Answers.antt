@@ -1,10 +1,7 @@
-use Rattle.std.proofs.Common.{rules, ◌≡◌, ℕ, ◌+◌, ◌<◌, ◌≤◌, List, [], ◌∷◌, ◌++◌, length, take, get_or, true, false, refl, sym, ap, ◌∙◌, subst, arith, append_assoc}
-use Rattle.std.specs.Prelude.{nat_le, All}
-use Rattle.std.proofs.lemmas.Grind.{common_steps}
-use Rattle.std.proofs.lemmas.Bool.Decides.{nat_tests}
+use Rattle.std.proofs.Common.{◌≡◌, [], ◌∷◌, ◌++◌, length, take, true, sym, ap, ◌∙◌, subst, arith}
 use Rattle.std.proofs.lemmas.List.Elements.{All-push}
 use Rattle.std.proofs.lemmas.List.{length-append, length-take}
-use Rattle.tree_spec.specs.Names.{is_name, names_of, BeginsAtSlash, longest_text, IsNameList}
+use Rattle.tree_spec.specs.Names.{is_name, names_of, BeginsAtSlash, IsNameList}
 use Rattle.tree_spec.proofs.Texts.{names_of-more, BeginsAtSlash-more, with_slashes-names_of, length-le-with_slashes, text_grows, too_long, fits, length-with_slashes}
 use Rattle.tree_spec.proofs.path.Path.push.Goals as goal
 

@@ -1,5 +1,5 @@
-use Rattle.std.proofs.Common.{◌≡◌, ◌<◌, ◌≤◌, List, length, take, refl, sym, ap, ◌∙◌, arith}
-use Rattle.tree_spec.specs.Names.{names_of, text_of, with_slashes, longest_text}
+use Rattle.std.proofs.Common.{length, take, sym, ap, ◌∙◌, arith}
+use Rattle.tree_spec.specs.Names.{with_slashes}
 use Rattle.tree_spec.proofs.Texts.{text_of-some, with_slashes-names_of, short_text}
 use Rattle.tree_spec.proofs.path.Path.text.Goals as goal
 
