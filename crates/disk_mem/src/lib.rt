@@ -1,0 +1,8 @@
+//! Hosts in memory: one that tells what it holds and what each crash leaves, and one that tells nothing.
+#![tactic(auto)]
+
+mod mem_host;
+mod record;
+mod step;
+
+pub use mem_host::MemHost;
