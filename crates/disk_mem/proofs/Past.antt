@@ -2,7 +2,7 @@
 use Rattle.std.proofs.Common.{◌≡◌, ◌⊎◌, ◌+◌, ◌-◌, ◌≤◌, ◌<◌, ◌^◌, ℕ, min, Bool, true, false, if◌then◌else◌, ◌==◌, nat_lt, List, [], ◌∷◌, ◌++◌, length, length-append, slice_set, slice_index_or, take, inl, inr, ⊎_elim, refl, sym, ◌∙◌, ap, subst, arith}
 use Rattle.std.proofs.lemmas.Bool.{false≢true, cases_eq, cases_lt, cases_Bool}
 use Rattle.std.proofs.lemmas.Bool.Decides.{nat_tests}
-use Rattle.std.proofs.lemmas.List.{length-set, get_or-set_same, get_or-set_other, take-append-le}
+use Rattle.std.proofs.lemmas.List.{length-set, get_or-set_same, get_or-set_other, take-append-le, take_more, get_or_default}
 use Rattle.ice_base.specs.Disk.{Image, block}
 use Rattle.disk_mem.specs.Memory.{Moment, number_of, applied, loosened, after, past_of, fresh, IsLeft, LeftSince, Linked, agrees, settled_flag, take_whole}
 use Rattle.disk_mem.specs.Record.{FailedNoted}
@@ -12,6 +12,14 @@ use Rattle.disk_mem.specs.declared.step.Step.TheVariants.{Write, Failed, Barrier
 after_push : (t : ℕ) (m : Moment) (steps : List Step) (s : Step) → after t m (steps ++ s ∷ []) ≡ (if nat_lt (number_of s) t then applied (after t m steps) s else after t m steps)
 after_push t m [] s = refl
 after_push t m (x ∷ steps) s = after_push t (if nat_lt (number_of x) t then applied m x else m) steps s
+
+pub after_more : (t : ℕ) (m : Moment) (steps : List Step) (i : ℕ) (d : Step) → i < length steps
+    → after t m (take (i + 1) steps) ≡ (if nat_lt (number_of (slice_index_or steps i d)) t then applied (after t m (take i steps)) (slice_index_or steps i d) else after t m (take i steps))
+after_more t m steps i d less = ap (λ (x : List Step). after t m x) (take_more steps i d less) ∙ after_push t m (take i steps) (slice_index_or steps i d)
+
+-- a step that one of the first t calls made
+pub made : (t n : ℕ) (m m' : Moment) → n < t → (if nat_lt n t then m' else m) ≡ m'
+made t n m m' less = grind (arith, nat_tests)
 
 -- the moments up to this call stay, and the later ones have the step too
 pub record Grows (calls : ℕ) (s : Step) (past later : ℕ → Moment) : Type 0 where
@@ -37,6 +45,10 @@ block_set_same image at bytes less = get_or-set_same image at bytes [] less
 pub block_set_other : (image : Image) (at : ℕ) (bytes : List ℕ) (k : ℕ) → ¬ (k ≡ at) → block (slice_set image at bytes) k ≡ block image k
 unfolding block
 block_set_other image at bytes k other = get_or-set_other image at k bytes [] other
+
+pub read_block : (image : Image) (k : ℕ) (bytes : List ℕ) → k < length image → bytes ≡ slice_index_or image k bytes → bytes ≡ block image k
+unfolding block
+read_block image k bytes less is = is ∙ get_or_default image k bytes [] less
 
 pub flag_set : (flags : List Bool) (at : ℕ) → at < length flags → slice_index_or (slice_set flags at true) at false ≡ true
 flag_set flags at less = get_or-set_same flags at true false less
@@ -315,16 +327,16 @@ module _ (first : Image) (steps steps' : List Step) (calls remembered remembered
   pub failed_linked : at < length blocks → Linked (past_of first steps') d remembered' blocks (slice_set flags at true) output
   failed_linked fits = ⊎_elim
       (λ is. subst (λ r. Linked (past_of first steps') d r blocks (slice_set flags at true) output) (sym is.1)
-          (linked_mark (past_of first steps) calls remembered blocks flags output linked (past_of first steps') d at (grows first steps steps' (Failed calls at) calls refl is.0) step last fits))
+      (linked_mark (past_of first steps) calls remembered blocks flags output linked (past_of first steps') d at (grows first steps steps' (Failed calls at) calls refl is.0) step last fits))
       (λ is. subst (λ (x : List Step). Linked (past_of first x) d remembered' blocks (slice_set flags at true) output) (sym is.0)
-          (linked_lost (past_of first steps) calls remembered blocks flags output linked d at remembered' is.1 step last fits)) noted
+      (linked_lost (past_of first steps) calls remembered blocks flags output linked d at remembered' is.1 step last fits)) noted
 
   pub failed_left : (t : ℕ) (i : Image) (o : List ℕ) → LeftSince (past_of first steps') d output t i o
       → LeftSince (past_of first steps) calls output t i o ⊎ But (past_of first steps) calls remembered blocks flags output linked at i o
   failed_left t i o left = ⊎_elim
       (λ is. mark_left (past_of first steps) calls remembered blocks flags output linked (past_of first steps') d at (grows first steps steps' (Failed calls at) calls refl is.0) t i o left)
       (λ is. ⊎_elim (λ l. inl l) (λ now. inr (now.0, λ k other flag. now.1 k flag, now.2))
-          (pass_left (past_of first steps) calls remembered blocks flags output linked d t i o (subst (λ (x : List Step). LeftSince (past_of first x) d output t i o) is.0 left))) noted
+      (pass_left (past_of first steps) calls remembered blocks flags output linked d t i o (subst (λ (x : List Step). LeftSince (past_of first x) d output t i o) is.0 left))) noted
 
   pub failed_kept : (t : ℕ) (i : Image) (o : List ℕ) → LeftSince (past_of first steps) calls output t i o → LeftSince (past_of first steps') d output t i o
   failed_kept t i o left = ⊎_elim

@@ -1,3 +1,5 @@
 pub mod Memory
+pub mod Fill
+pub mod Crash
 pub mod Record
 pub mod MemHostView

@@ -4,6 +4,9 @@ ghost use Rattle.ice_base.specs.Disk.{DiskState, block, Nowhere, HasCause, ReadC
 ghost use Rattle.ice_base.specs.Frames.{Within};
 ghost use Rattle.disk_mem.specs.Memory.{past_of, Linked};
 
+use crate::blocks::zero_blocks;
+use crate::crash::{Replay, given_by};
+use crate::flags::{clear, no_flags};
 use crate::record::{add, note_failed, record};
 use crate::step::Step;
 use ice_base::{Block, Disk, DiskFault, Host, SinkFault, SourceFault};
@@ -43,39 +46,10 @@ pub struct MemHost {
     ghost start: { calls ≡ 0 → steps.items ≡ [] },
 }
 
-// so many blocks of zeros
-fn zero_blocks(alloc: Global, n: usize) -> Result<Vec<Block>, AllocError>
-    ensures { IfOk result (λ v. v.items ≡ replicate n (replicate 1024 0)) }
-{
-    let mut blocks = Vec::with_capacity(alloc, n)?;
-    for _i in 0..n {
-        blocks.push_reserved([0; 1024]);
-    }
-    Ok(blocks)
-}
-
-// nothing loose
-fn no_flags(alloc: Global, n: usize) -> Result<Vec<bool>, AllocError>
-    ensures clear { IfOk result (λ v. (k : ℕ) → slice_index_or v.items k false ≡ false) }
-    ensures len { IfOk result (λ v. length v.items ≡ n) }
-{
-    let mut flags = vec![in alloc; false; n]?;
-    clear(&mut flags);
-    Ok(flags)
-}
-
-fn clear(flags: &mut Vec<bool>)
-    ensures all { (k : ℕ) → slice_index_or flags.new.items k false ≡ false }
-    ensures len { length flags.new.items ≡ length flags.old.items }
-{
-    for i in 0..flags.len() {
-        flags[i] = false;
-    }
-}
-
 impl MemHost {
-    ghost use Rattle.disk_mem.specs.Memory.{Memory, IsNew, Planned};
-    ghost use Rattle.disk_mem.specs.MemHostView.{memory};
+    ghost use Rattle.disk_mem.specs.Memory.{Memory, IsNew, Planned, fresh};
+    ghost use Rattle.disk_mem.specs.MemHostView.{memory, left_by};
+    ghost use Rattle.disk_mem.specs.Crash.{LeavesFilled};
 
     /// A host of so many blocks of zeros.
     pub fn new(alloc: Global, blocks: u32) -> Result<MemHost, AllocError>
@@ -160,6 +134,19 @@ impl MemHost {
         Ok(())
     }
 
+    /// Sets a block before the first call. It is settled.
+    pub fn set_block(&mut self, at: u32, from: &Block)
+        requires inside { at < length (memory self.old).blocks }
+        requires early { (memory self.old).calls ≡ 0 }
+        ensures blocks { (memory self.new).blocks ≡ slice_set (memory self.old).blocks at from.now }
+        ensures past { (t : ℕ) → (memory self.new).past t ≡ fresh (memory self.new).blocks }
+        ensures loose { (k : ℕ) → (memory self.new).loose k ≡ false }
+        ensures rest { memory self.new ≡ record (memory self.old) { blocks = (memory self.new).blocks; past = (memory self.new).past } }
+    {
+        self.blocks[at as usize] = *from;
+        self.first[at as usize] = *from;
+    }
+
     /// A block as it reads.
     pub fn block(&self, at: u32) -> &Block
         requires { at < length (memory self.now).blocks }
@@ -203,6 +190,41 @@ impl MemHost {
         self.barriers
     }
 
+    /// The bytes given by the first `moment` calls.
+    pub fn output_at(&self, moment: u64) -> &[u8]
+        requires { moment ≤ (memory self.now).calls }
+        ensures given { result.now ≡ take ((memory self.now).past moment).given (memory self.now).output }
+        ensures whole { moment ≡ (memory self.now).calls → result.now ≡ (memory self.now).output }
+    {
+        &self.output[..given_by(&self.steps, moment)]
+    }
+
+    /// A host whose image is one that a crash after the first `moment` calls may leave, and otherwise as `new` makes it.
+    /// A loose block has its last settled bytes for fill 0, its newest bytes for fill 1, zeros for fill 2, 0xFF for
+    /// fill 3, and else the low byte of 31 fill + 7 at + 13 j at each j.
+    pub fn crashed(&self, alloc: Global, moment: u64, fill: u64) -> Result<MemHost, AllocError>
+        requires { moment ≤ (memory self.now).calls }
+        ensures new { IfOk result (λ m. IsNew (memory m).blocks (memory m)) }
+        ensures left { IfOk result (λ m. left_by self.now moment (memory m).blocks (take ((memory self.now).past moment).given (memory self.now).output)) }
+        ensures filled { IfOk result (λ m. LeavesFilled fill ((memory self.now).past moment) (memory m).blocks) }
+        // Where the record of a failed write found no memory, there is none for a crash after it.
+        ensures remembered { OnOk result (moment ≤ (memory self.now).remembered) }
+    {
+        if self.remembered < moment {
+            return Err(AllocError);
+        }
+        let mut replay = Replay::new(alloc, &self.first)?;
+        replay.make_all(&self.steps, moment);
+        replay.fill_loose(fill);
+        let Replay {
+            blocks,
+            settled: _,
+            loose: _,
+        } = replay;
+        let host = MemHost::over(alloc, blocks)?;
+        Ok(host)
+    }
+
     // Whether the next call is to fail.
     fn fails(&self) -> bool
         ensures planned { IsTrue result ↔ Planned (memory self.now) }
@@ -244,6 +266,8 @@ impl Disk for MemHost {
         ensures counts { (told_by self.old).tells ≡ true → ReadCounts (told_by self.old) (told_by self.new) }
         // A read needs no record.
         ensures fails { IsErr result ↔ Planned (memory self.old) }
+        ensures present { Present (memory self.new) }
+        ensures settled { ((memory self.new).past (memory self.new).calls).settled ≡ ((memory self.old).past (memory self.old).calls).settled }
         ensures rest { memory self.new ≡ record (memory self.old) {
           calls = next (memory self.old).calls;
           reads = if is_ok result then (memory self.old).reads + 1 else (memory self.old).reads;
@@ -284,10 +308,20 @@ impl Disk for MemHost {
         self.loose[at as usize] = true;
         if fails {
             self.disk_faults = self.disk_faults.saturating_add(1);
-            note_failed(&mut self.steps, &mut self.room, &mut self.remembered, number, at);
+            note_failed(
+                &mut self.steps,
+                &mut self.room,
+                &mut self.remembered,
+                number,
+                at,
+            );
             return Err(DiskFault::Failed);
         }
-        match record(&mut self.steps, &mut self.room, Step::Write(number, at, *from)) {
+        match record(
+            &mut self.steps,
+            &mut self.room,
+            Step::Write(number, at, *from),
+        ) {
             Ok(()) => {
                 self.blocks[at as usize] = *from;
                 self.writes += 1;
@@ -295,7 +329,13 @@ impl Disk for MemHost {
             }
             Err(_) => {
                 self.disk_faults = self.disk_faults.saturating_add(1);
-                note_failed(&mut self.steps, &mut self.room, &mut self.remembered, number, at);
+                note_failed(
+                    &mut self.steps,
+                    &mut self.room,
+                    &mut self.remembered,
+                    number,
+                    at,
+                );
                 Err(DiskFault::Failed)
             }
         }
@@ -352,6 +392,8 @@ impl Host for MemHost {
         // A take needs no record.
         ensures fails { IsErr result ↔ Planned (memory self.old) }
         ensures moves { IfOk result (λ n. n ≡ min (min (length into.old) (memory self.old).piece) (length (memory self.old).intake)) }
+        ensures present { Present (memory self.new) }
+        ensures settled { ((memory self.new).past (memory self.new).calls).settled ≡ ((memory self.old).past (memory self.old).calls).settled }
         ensures rest { memory self.new ≡ record (memory self.old) {
           calls = next (memory self.old).calls;
           intake = (memory self.new).intake;
@@ -396,7 +438,14 @@ impl Host for MemHost {
             return Err(SinkFault::Failed);
         }
         let n = bytes.len().min(self.piece);
-        match add(&mut self.output, &mut self.steps, &mut self.room, &mut self.room_bytes, number, &bytes[..n]) {
+        match add(
+            &mut self.output,
+            &mut self.steps,
+            &mut self.room,
+            &mut self.room_bytes,
+            number,
+            &bytes[..n],
+        ) {
             Ok(()) => Ok(n),
             Err(_) => {
                 self.sink_faults = self.sink_faults.saturating_add(1);

@@ -51,19 +51,19 @@ returns-then-fails-clause-settled c = let self = c.args.self.now in
 pub returns-in-Ok-clause-within : goal.returns-in-Ok-clause-within
 returns-in-Ok-clause-within c = let self = c.args.self.now in let d = c.saturating_add-self.result in
     let grown = grows self.first.items self.steps.items c.record.new.steps.items (Write self.calls c.args.at c.args.from.now) self.calls refl c.in-Ok.ensures.added in record {
-  size = length-set self.blocks.items c.args.at c.args.from.now;
-  tells = refl;
-  streams = refl;
-  faults = omega arith;
-  clock = omega arith;
-  barriers = omega arith;
-  writes = omega arith;
-  same = λ k not. block_set_other self.blocks.items c.args.at c.args.from.now k not;
-  settled = λ k not s. flag_other self.loose.items c.args.at k not ∙ s;
-  left_new = λ t i o l. ⊎_elim (λ before. inl before) (λ but. inr (record { count = but.0; same = but.1 }, but.2))
-      (write_left _ _ _ _ _ _ self.linked (past_of self.first.items c.record.new.steps.items) d c.args.at c.args.from.now grown t i o l);
-  left_old = λ t i o l. grown_kept _ _ _ _ _ _ self.linked (Write self.calls c.args.at c.args.from.now) (past_of self.first.items c.record.new.steps.items) d grown (omega arith) t i o l;
-}
+      size = length-set self.blocks.items c.args.at c.args.from.now;
+      tells = refl;
+      streams = refl;
+      faults = omega arith;
+      clock = omega arith;
+      barriers = omega arith;
+      writes = omega arith;
+      same = λ k not. block_set_other self.blocks.items c.args.at c.args.from.now k not;
+      settled = λ k not s. flag_other self.loose.items c.args.at k not ∙ s;
+      left_new = λ t i o l. ⊎_elim (λ before. inl before) (λ but. inr (record { count = but.0; same = but.1 }, but.2))
+          (write_left _ _ _ _ _ _ self.linked (past_of self.first.items c.record.new.steps.items) d c.args.at c.args.from.now grown t i o l);
+      left_old = λ t i o l. grown_kept _ _ _ _ _ _ self.linked (Write self.calls c.args.at c.args.from.now) (past_of self.first.items c.record.new.steps.items) d grown (omega arith) t i o l;
+    }
 
 pub returns-in-Ok-clause-bytes : goal.returns-in-Ok-clause-bytes
 returns-in-Ok-clause-bytes c = λ told. block_set_same c.args.self.now.blocks.items c.args.at c.args.from.now c.requires
@@ -80,19 +80,19 @@ returns-in-Ok-clause-settled c = let self = c.args.self.now in let low = c.fails
 pub returns-in-Err-clause-within : goal.returns-in-Err-clause-within
 returns-in-Err-clause-within c = let self = c.args.self.now in
     let noted = subst (λ (x : List Step). FailedNoted self.calls c.args.at x c.note_failed-in-Err.new.steps.items self.remembered c.note_failed-in-Err.new.remembered) c.in-Err.ensures.none c.note_failed-in-Err.ensures.noted in record {
-  size = refl;
-  tells = refl;
-  streams = refl;
-  faults = omega arith;
-  clock = omega arith;
-  barriers = omega arith;
-  writes = omega arith;
-  same = λ k not. refl;
-  settled = λ k not s. flag_other self.loose.items c.args.at k not ∙ s;
-  left_new = λ t i o l. ⊎_elim (λ before. inl before) (λ but. inr (record { count = but.0; same = but.1 }, but.2))
-      (failed_left self.first.items self.steps.items _ self.calls self.remembered _ _ _ _ self.linked c.args.at c.saturating_add-self.result noted (omega arith) (omega arith) t i o l);
-  left_old = λ t i o l. failed_kept self.first.items self.steps.items _ self.calls self.remembered _ _ _ _ self.linked c.args.at c.saturating_add-self.result noted (omega arith) (omega arith) t i o l;
-}
+      size = refl;
+      tells = refl;
+      streams = refl;
+      faults = omega arith;
+      clock = omega arith;
+      barriers = omega arith;
+      writes = omega arith;
+      same = λ k not. refl;
+      settled = λ k not s. flag_other self.loose.items c.args.at k not ∙ s;
+      left_new = λ t i o l. ⊎_elim (λ before. inl before) (λ but. inr (record { count = but.0; same = but.1 }, but.2))
+          (failed_left self.first.items self.steps.items _ self.calls self.remembered _ _ _ _ self.linked c.args.at c.saturating_add-self.result noted (omega arith) (omega arith) t i o l);
+      left_old = λ t i o l. failed_kept self.first.items self.steps.items _ self.calls self.remembered _ _ _ _ self.linked c.args.at c.saturating_add-self.result noted (omega arith) (omega arith) t i o l;
+    }
 
 pub returns-in-Err-clause-past : goal.returns-in-Err-clause-past
 returns-in-Err-clause-past c = let self = c.args.self.now in

@@ -1,5 +1,5 @@
 use Rattle.std.proofs.Common.{◌≡◌, ◌<◌, ℕ, false, length, slice_index_or}
-use Rattle.disk_mem.proofs.mem_host.clear.Given as goal
+use Rattle.disk_mem.proofs.flags.clear.Given as goal
 
 abbrev pub invariant-loop-i : goal.invariant-loop-i
 invariant-loop-i l = record {

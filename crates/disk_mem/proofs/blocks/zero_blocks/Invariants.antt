@@ -1,5 +1,5 @@
 use Rattle.std.proofs.Common.{◌≡◌, ◌≤◌, ℕ, replicate, vec_len, vec_capacity}
-use Rattle.disk_mem.proofs.mem_host.zero_blocks.Given as goal
+use Rattle.disk_mem.proofs.blocks.zero_blocks.Given as goal
 
 abbrev pub invariant-loop-i : goal.invariant-loop-i
 invariant-loop-i l = record {

@@ -1,6 +1,6 @@
 use Rattle.std.proofs.Common.{arith, ◌∙◌, ◌++◌, ◌∷◌, [], List, ℕ, ap, replicate}
 use Rattle.std.proofs.lemmas.List.{replicate_more}
-use Rattle.disk_mem.proofs.mem_host.zero_blocks.Goals as goal
+use Rattle.disk_mem.proofs.blocks.zero_blocks.Goals as goal
 
 pub loop-i-preserved : goal.loop-i-preserved
 loop-i-preserved c = record {
