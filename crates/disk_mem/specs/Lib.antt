@@ -3,3 +3,4 @@ pub mod Fill
 pub mod Crash
 pub mod Record
 pub mod MemHostView
+pub mod MuteView

@@ -5,7 +5,12 @@ mod blocks;
 mod crash;
 mod flags;
 mod mem_host;
+mod mute;
 mod record;
 mod step;
 
 pub use mem_host::MemHost;
+pub use mute::MuteHost;
+
+#[cfg(test)]
+mod tests;
