@@ -2,11 +2,23 @@
 #![tactic(auto)]
 
 mod disk;
+mod fault;
+mod form;
 mod host;
+mod keep;
+mod lot;
+mod pool;
 mod status;
+mod view;
 mod words;
 
 pub use disk::{Block, Disk, DiskFault};
+pub use fault::{BlockFault, OpFault, Rule};
+pub use form::{Form, FormOne};
 pub use host::{Host, SinkFault, SourceFault, give_all};
+pub use keep::Keep;
+pub use lot::{Lot, SUB};
+pub use pool::Pool;
 pub use status::{Image, ImageFault, Status};
+pub use view::View;
 pub use words::Words;
