@@ -1,4 +1,5 @@
 pub mod Counts
+pub mod FieldLaws
 pub mod Frame
 pub mod Gives
 pub mod Kept

@@ -1,7 +1,7 @@
 -- Where the inodes of a lot stand, and their fields.
 use Rattle.std.specs.Prelude.{ℕ, ◌+◌, ◌*◌, ◌/◌, ◌%◌, List, map, slice_index}
 use Rattle.std.specs.List.{range_with_len}
-use Rattle.ice_base.specs.Used.{word_at}
+use Rattle.ice_base.specs.Fields.{word_at}
 
 -- the address of the block that holds an inode: eight inodes stand in each of the places 1 to 8 of a group
 abbrev pub inode_address : ℕ → ℕ

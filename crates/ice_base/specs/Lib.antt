@@ -1,4 +1,5 @@
 pub mod Disk
+pub mod Fields
 pub mod Frames
 pub mod FrameLaws
 pub mod Host

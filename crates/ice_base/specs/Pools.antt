@@ -1,8 +1,9 @@
 -- What a take and a give do.
 use Rattle.std.specs.Prelude.{◌≡◌, ◌<◌, ◌+◌, ◌-◌, ◌*◌, ℕ, Bool, true, false, not, List, [], ◌∷◌, length}
 use Rattle.ice_base.specs.Bits.{bit_of, Takes, Gives, IsLeast}
+use Rattle.ice_base.specs.Fields.{WordSet}
 use Rattle.ice_base.specs.Lots.{LotView, sub_address}
-use Rattle.ice_base.specs.Used.{used, bitmap_of, bit_place, count_place, counted, WordSet}
+use Rattle.ice_base.specs.Used.{used, bitmap_of, bit_place, count_place, counted}
 use Rattle.ice_base.specs.Views.{Puts}
 use Rattle.ice_base.specs.declared.view.View as view
 

@@ -1,6 +1,7 @@
 -- What the bitmap blocks of a lot and its sub-super block say is used.
-use Rattle.std.specs.Prelude.{◌≡◌, ◌<◌, ◌≤◌, ◌⊎◌, ℕ, ◌+◌, ◌*◌, ◌/◌, ◌%◌, Bool, true, false, cond, not, ◌&&◌, nat_lt, nat_le, List, length, slice_index}
+use Rattle.std.specs.Prelude.{◌≡◌, ◌<◌, ℕ, ◌+◌, ◌*◌, ◌/◌, ◌%◌, Bool, true, false, cond, not, ◌&&◌, nat_lt, nat_le, List, length}
 use Rattle.ice_base.specs.Bits.{bit_of, count_below}
+use Rattle.ice_base.specs.Fields.{word_at}
 use Rattle.ice_base.specs.Lots.{LotView, sub_address}
 
 -- how many inodes, or blocks, a group has
@@ -46,16 +47,6 @@ is_data lot a = nat_lt a (256 * length lot.groups) && nat_le 9 (a % 256)
 -- each place that holds no data is marked used
 pub record Reserved (lot : LotView) (map : ℕ → List ℕ) : Type 0 where
   pub set : (b : ℕ) → b < 256 * length lot.groups → b % 256 < 9 → used_block map b ≡ true
-
--- the u32 at a place of a block, the least byte first
-unfoldable pub word_at : List ℕ → ℕ → ℕ
-word_at block at = slice_index block at + 256 * (slice_index block (at + 1) + 256 * (slice_index block (at + 2) + 256 * slice_index block (at + 3)))
-
--- the same block but for the u32 at a place
-pub record WordSet (old : List ℕ) (at x : ℕ) (new : List ℕ) : Type 0 where
-  pub len : length new ≡ length old
-  pub value : word_at new at ≡ x
-  pub others : (k : ℕ) → (k < at) ⊎ (at + 4 ≤ k) → slice_index new k ≡ slice_index old k
 
 -- where the sub-super block counts used inodes, or used data blocks
 abbrev pub count_place : Bool → ℕ

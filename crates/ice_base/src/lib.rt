@@ -3,6 +3,7 @@
 
 mod disk;
 mod fault;
+mod field;
 mod form;
 mod host;
 mod keep;
@@ -14,6 +15,7 @@ mod words;
 
 pub use disk::{Block, Disk, DiskFault};
 pub use fault::{BlockFault, OpFault, Rule};
+pub use field::{read_u32, read_u64, write_u32, write_u64};
 pub use form::{Form, FormOne};
 pub use host::{Host, SinkFault, SourceFault, give_all};
 pub use keep::Keep;

@@ -1,0 +1,222 @@
+//! A host over a real file and the standard streams: the trusted edge. It tells nothing of its content.
+#![tactic(auto)]
+
+mod streams;
+mod whole;
+
+ghost use Rattle.std.specs.Prelude.{◌≡◌, ◌≤◌, ◌<◌, ◌^◌, IfOk};
+
+use crate::streams::{give_piece, take_piece};
+use crate::whole::{BLOCK_BYTES, read_whole, write_whole};
+use ice_base::{Block, Disk, DiskFault, Host, SinkFault, SourceFault};
+use std::fs::{File, OpenOptions};
+use std::io::{self, ErrorKind, Stdin, Stdout};
+use std::marker::Model;
+
+/// Why a file can't serve as a host.
+#[derive(Clone, Copy, Debug, PartialEq, Eq)]
+pub enum OpenFault {
+    /// The system named want of memory.
+    Memory,
+    /// Opening or extending it failed otherwise.
+    Failed,
+}
+
+/// A file of blocks of 1,024 bytes with standard input and standard output. It counts the faults of each kind.
+#[derive(Drop)]
+pub struct FileHost {
+    file: Option<File>,
+    blocks: u32,
+    input: Stdin,
+    output: Stdout,
+    disk_faults: u64,
+    source_faults: u64,
+    sink_faults: u64,
+    ghost fits: { blocks < 2 ^ 32 },
+}
+
+impl Model for FileHost {
+    ghost use Rattle.disk_file.specs.Counts.{Counts};
+
+    ghost Value = { Counts };
+
+    ghost view = { λ h. record { blocks = h.blocks; fits = h.fits; disk_faults = h.disk_faults; source_faults = h.source_faults; sink_faults = h.sink_faults } };
+}
+
+fn open_fault(error: io::Error) -> OpenFault {
+    match error.kind() {
+        ErrorKind::OutOfMemory => OpenFault::Memory,
+        _ => OpenFault::Failed,
+    }
+}
+
+/// Opens the file, makes it and extends it with zeros where blocks are asked for, and says how many whole blocks it has.
+fn open(rt: &HostRuntime, name: &str, least: u32) -> io::Result<(File, u32)>
+    ensures { IfOk result (λ opened. least ≤ opened.1) }
+{
+    let file = OpenOptions::new()
+        .read(true)
+        .write(true)
+        .create(least > 0)
+        .open(rt, name)?;
+    let wanted = u64::from(least) * BLOCK_BYTES;
+    if file.metadata()?.len() < wanted {
+        file.set_len(wanted)?;
+    }
+    let whole = file.metadata()?.len() / BLOCK_BYTES;
+    let blocks = u32::try_from(whole).unwrap_or(u32::MAX);
+    if blocks < least {
+        return Err(ErrorKind::UnexpectedEof.into());
+    }
+    Ok((file, blocks))
+}
+
+impl FileHost {
+    /// Opens the file for reading and writing. Where `least` is above 0 it is made if it isn't there, and extended with zeros to `least` blocks.
+    /// Its blocks are the whole blocks of the file, at most 2^32 - 1. Why it refuses is the system's word.
+    pub fn attach(rt: &HostRuntime, name: &str, least: u32) -> Result<FileHost, OpenFault>
+        ensures least { IfOk result (λ h. least ≤ h.blocks) }
+        ensures counts { IfOk result (λ h. (h.disk_faults ≡ 0) × (h.source_faults ≡ 0) × (h.sink_faults ≡ 0)) }
+    {
+        match open(rt, name, least) {
+            Ok((file, blocks)) => Ok(FileHost {
+                file: Some(file),
+                blocks,
+                input: rt.stdin(),
+                output: rt.stdout(),
+                disk_faults: 0,
+                source_faults: 0,
+                sink_faults: 0,
+            }),
+            Err(error) => Err(open_fault(error)),
+        }
+    }
+
+    /// A host of no blocks, for words that name no image.
+    pub fn missing(rt: &HostRuntime) -> FileHost
+        ensures blocks { result.blocks ≡ 0 }
+        ensures counts { (result.disk_faults ≡ 0) × (result.source_faults ≡ 0) × (result.sink_faults ≡ 0) }
+    {
+        FileHost {
+            file: None,
+            blocks: 0,
+            input: rt.stdin(),
+            output: rt.stdout(),
+            disk_faults: 0,
+            source_faults: 0,
+            sink_faults: 0,
+        }
+    }
+}
+
+impl Disk for FileHost {
+    ghost use Rattle.disk_file.specs.Counts.{silent_state};
+
+    ghost state = { λ h. silent_state h };
+
+    ghost left = { λ h t image out. ⊥ };
+
+    ghost agrees_now = { λ h image out left. absurd left };
+
+    ghost counts_now = { λ h t told le. Prim.cc };
+
+    ghost small = { λ h. h.fits };
+
+    ghost whole = { λ h told. Prim.cc };
+
+    fn blocks(&self) -> u32 {
+        self.blocks
+    }
+
+    fn read(&mut self, at: u32, into: &mut Block) -> Result<(), DiskFault> {
+        let done = match &self.file {
+            Some(file) => read_whole(file, at, into).is_ok(),
+            None => false,
+        };
+        if done {
+            return Ok(());
+        }
+        self.disk_faults = self.disk_faults.saturating_add(1);
+        Err(DiskFault::Failed)
+    }
+
+    fn write(&mut self, at: u32, from: &Block) -> Result<(), DiskFault> {
+        let done = match &self.file {
+            Some(file) => write_whole(file, at, from).is_ok(),
+            None => false,
+        };
+        if done {
+            return Ok(());
+        }
+        self.disk_faults = self.disk_faults.saturating_add(1);
+        Err(DiskFault::Failed)
+    }
+
+    fn barrier(&mut self) -> Result<(), DiskFault> {
+        let done = match &self.file {
+            Some(file) => file.sync_all().is_ok(),
+            None => true,
+        };
+        if done {
+            return Ok(());
+        }
+        self.disk_faults = self.disk_faults.saturating_add(1);
+        Err(DiskFault::Failed)
+    }
+}
+
+impl Host for FileHost {
+    fn take(&mut self, into: &mut [u8]) -> Result<usize, SourceFault> {
+        match take_piece(&mut self.input, into) {
+            Some(count) => Ok(count),
+            None => {
+                self.source_faults = self.source_faults.saturating_add(1);
+                Err(SourceFault::Failed)
+            }
+        }
+    }
+
+    fn give(&mut self, bytes: &[u8]) -> Result<usize, SinkFault> {
+        match give_piece(&mut self.output, bytes) {
+            Some(count) => Ok(count),
+            None => {
+                self.sink_faults = self.sink_faults.saturating_add(1);
+                Err(SinkFault::Failed)
+            }
+        }
+    }
+}
+
+#[cfg(test)]
+mod tests {
+    use super::*;
+    use std::test::Fail;
+
+    #[test]
+    fn a_block_reads_back_after_a_barrier(rt: HostRuntime) -> Result<(), Fail> {
+        let mut host = FileHost::attach(&rt, "img", 3)?;
+        assert_eq!(rt; host.blocks(), 3);
+        let mut block = [7; 1024];
+        host.write(2, &block)?;
+        host.barrier()?;
+        block[0] = 0;
+        host.read(2, &mut block)?;
+        assert_eq!(rt; block[0], 7);
+        host.read(1, &mut block)?;
+        assert_eq!(rt; block[0], 0);
+        Ok(())
+    }
+
+    #[test]
+    fn a_file_is_made_only_where_blocks_are_asked_for(rt: HostRuntime) -> Result<(), Fail> {
+        assert!(rt; FileHost::attach(&rt, "none", 0).is_err());
+        assert!(rt; FileHost::attach(&rt, "none", 0).is_err());
+        assert!(rt; FileHost::attach(&rt, ".", 1).is_err());
+        let host = FileHost::attach(&rt, "some", 2)?;
+        assert_eq!(rt; host.blocks(), 2);
+        let again = FileHost::attach(&rt, "some", 0)?;
+        assert_eq!(rt; again.blocks(), 2);
+        assert_eq!(rt; FileHost::missing(&rt).blocks(), 0);
+        Ok(())
+    }
+}

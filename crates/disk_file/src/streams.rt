@@ -1,0 +1,37 @@
+//! One piece of the standard streams, again where a signal interrupts the call.
+ghost use Rattle.std.specs.Prelude.{◌≤◌, ◌<◌, length, IfSome};
+
+use std::io::{ErrorKind, Read, Stdin, Stdout, Write};
+
+/// How often an interrupted call is made again before it counts as failed.
+const TRIES: u32 = 1000;
+
+/// How many bytes came, 0 at the end of the input; none where reading failed.
+pub(crate) fn take_piece(input: &mut Stdin, into: &mut [u8]) -> Option<usize>
+    ensures { IfSome result (λ n. n ≤ length into.new) }
+{
+    for _ in 0..TRIES {
+        match input.read(into) {
+            Ok(count) => return Some(count),
+            Err(error) if error.kind() == ErrorKind::Interrupted => {}
+            Err(_) => return None,
+        }
+    }
+    None
+}
+
+/// How many bytes went, at least one; none where writing failed.
+pub(crate) fn give_piece(output: &mut Stdout, bytes: &[u8]) -> Option<usize>
+    ensures some { IfSome result (λ n. 0 < n) }
+    ensures count { IfSome result (λ n. n ≤ length bytes.now) }
+{
+    for _ in 0..TRIES {
+        match output.write(bytes) {
+            Ok(0) => return None,
+            Ok(count) => return Some(count),
+            Err(error) if error.kind() == ErrorKind::Interrupted => {}
+            Err(_) => return None,
+        }
+    }
+    None
+}

@@ -1,0 +1,9 @@
+//! Lines from bytes, and commands from lines.
+#![tactic(auto)]
+
+mod command;
+mod reader;
+mod token;
+
+pub use reader::LineReader;
+pub use token::read_number;

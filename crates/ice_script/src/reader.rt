@@ -1,0 +1,88 @@
+//! A line that is gathered byte by byte.
+ghost use Rattle.std.specs.Prelude.{◌≡◌, ◌==◌, ◌++◌, ◌∷◌, [], IfOk, IfErr, take, false, if◌then◌else◌, not, length};
+ghost use Rattle.tree_spec.specs.Lines.{Asks, asked};
+ghost use Rattle.ice_script.specs.Grammar.{line_of};
+ghost use Rattle.ice_script.specs.Reading.{IsRefusedAs};
+
+use crate::command::parse;
+use std::alloc::{AllocError, Global};
+use std::marker::Model;
+use tree_spec::{Command, Refusal};
+
+// One byte more than the longest line, which says that a line is too long.
+const LINE_KEPT: usize = 40001;
+
+/// The line that is gathered: its first 40,001 bytes, and whether an LF ended it, so that it stands ready.
+#[derive(Drop)]
+pub struct LineReader {
+    line: Vec<u8>,
+    ended: bool,
+}
+
+impl Model for LineReader {
+    ghost use Rattle.std.specs.Prelude.{◌≤◌, vec_len, vec_capacity};
+    ghost use Rattle.ice_script.specs.Reading.{Gathered};
+
+    ghost Value = { Gathered };
+
+    ghost view = { λ r. record { text = r.line.items; ended = r.ended } };
+
+    ghost invariant = { λ r. (vec_len r.line ≤ 40001) × (40001 ≤ vec_capacity r.line) };
+}
+
+impl LineReader {
+    /// A reader of no bytes. No later call takes memory.
+    pub fn new(alloc: Global) -> Result<LineReader, AllocError>
+        ensures text { IfOk result (λ r. r.text ≡ []) }
+        ensures state { IfOk result (λ r. r.ended ≡ false) }
+    {
+        let line = Vec::with_capacity(alloc, LINE_KEPT)?;
+        Ok(LineReader { line, ended: false })
+    }
+
+    /// Whether the byte was the LF that ends the line, which then stands ready.
+    pub fn push(&mut self, byte: u8) -> bool
+        requires { self.old.ended ≡ false }
+        ensures ended { result ≡ (byte == 10) }
+        ensures state { self.new.ended ≡ result }
+        ensures text { self.new.text ≡ (if byte == 10 then self.old.text else take 40001 (self.old.text ++ byte ∷ [])) }
+    {
+        if byte == b'\n' {
+            self.ended = true;
+            return true;
+        }
+        if self.line.len() < LINE_KEPT {
+            self.line.push_reserved(byte);
+        }
+        false
+    }
+
+    /// Whether bytes stand after the last LF.
+    pub fn finish(&mut self) -> bool
+        requires { self.old.ended ≡ false }
+        ensures some { result ≡ not (length self.old.text == 0) }
+        ensures same { self.new ≡ self.old }
+    {
+        !self.line.is_empty()
+    }
+
+    /// The command of the line, or its refusal. The bytes of a command stay in the reader. What the reader holds afterwards is left open until `clear`.
+    pub fn command(&mut self) -> Result<Command<'_>, Refusal>
+        ensures asks { IfOk result (λ c. line_of self.old.text ≡ Asks (asked c)) }
+        ensures refuses { IfErr result (λ e. IsRefusedAs (line_of self.old.text) e) }
+    {
+        if self.line.len() >= LINE_KEPT {
+            return Err(Refusal::Long);
+        }
+        parse(&self.line)
+    }
+
+    /// Makes it ready for the next line.
+    pub fn clear(&mut self)
+        ensures text { self.new.text ≡ [] }
+        ensures state { self.new.ended ≡ false }
+    {
+        self.line.clear();
+        self.ended = false;
+    }
+}

@@ -1,0 +1,14 @@
+//! Names, paths, commands, replies, room for answers, and the model that says what each line does.
+#![tactic(auto)]
+
+mod command;
+mod name;
+mod path;
+mod reply;
+mod room;
+
+pub use command::Command;
+pub use name::Name;
+pub use path::Path;
+pub use reply::{CubeRow, Entry, Refusal, Reply, StateWord, Value};
+pub use room::Room;
