@@ -7,3 +7,4 @@ pub mod Rests
 pub mod LotLaws
 pub mod SpareLaws
 pub mod UsedLaws
+pub mod CountLaws

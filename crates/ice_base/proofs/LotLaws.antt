@@ -1,10 +1,10 @@
 -- where the addresses of a lot lie
-use Rattle.std.proofs.Common.{◌≡◌, ◌≢◌, ℕ, ◌+◌, ◌*◌, ◌/◌, ◌%◌, ◌<◌, ◌≤◌, Bool, true, false, ◌&&◌, nat_lt, nat_le, ◌⊎◌, List, length, slice_index, ⊎_elim, sym, arith, refl}
-use Rattle.std.specs.List.{list_all}
+use Rattle.std.proofs.Common.{◌≡◌, ◌≢◌, ℕ, suc, [], ◌∷◌, ◌+◌, ◌*◌, ◌/◌, ◌%◌, ◌<◌, ◌≤◌, Bool, true, false, ◌&&◌, nat_lt, nat_le, ◌⊎◌, List, length, slice_index, inl, inr, ⊎_elim, sym, arith, refl}
+use Rattle.std.specs.List.{list_all, list_any}
 use Rattle.std.proofs.lemmas.Bool.Decides.{nat_tests}
 use Rattle.std.proofs.lemmas.Nat.{same_from_place, div-add-mod', mod_below, div_below}
 use Rattle.std.proofs.lemmas.List.Folds.{list_any_at, list_all_at}
-use Rattle.ice_base.specs.Lots.{LotView, IsLot, is_address, place, lies_below, in_extent, sub_address, is_sited}
+use Rattle.ice_base.specs.Lots.{LotView, IsLot, is_address, place, lies_below, in_extent, extent, sub_address, is_sited, area, gate_place, header_place, body_place, NoneShared}
 
 pub address_cases : (lot : LotView) (a : ℕ) → is_address lot a ≡ true → (a ≡ sub_address) ⊎ ((a ≢ sub_address) × (a < 256 * length lot.groups))
 unfolding is_address
@@ -115,3 +115,98 @@ bitmap_address lot a h = is_address_at lot (256 * (a / 256)) (bitmap_below a (25
 pub ruleset address_laws = (is_address_sub, is_address_at, bitmap_address, bitmap_below)
 
 pub ruleset sited_laws = (sited-below, sited-some, sited-few)
+
+pub area_in : (lot : LotView) (k : ℕ) → area lot ≤ k → k < area lot + 256 → extent lot k
+unfolding in_extent
+area_in lot k low high = grind (arith, nat_tests)
+
+pub area_below : (lot : LotView) (n : ℕ) → lies_below lot n ≡ true → area lot + 256 ≤ n
+unfolding lies_below
+area_below lot n h = grind (arith, nat_tests)
+
+-- the journal's blocks are blocks of the lot
+pub gate_in : (lot : LotView) → extent lot (gate_place lot)
+gate_in lot = area_in lot (gate_place lot) (omega arith) (omega arith)
+
+pub header_in : (lot : LotView) → extent lot (header_place lot)
+header_in lot = area_in lot (header_place lot) (omega arith) (omega arith)
+
+pub body_in : (lot : LotView) (i : ℕ) → i < 240 → extent lot (body_place lot i)
+body_in lot i h = area_in lot (body_place lot i) (omega arith) (omega arith)
+
+-- an address has the sub-super block, or one past the slots' areas
+pub home_at : (lot : LotView) (a : ℕ) → IsLot lot → is_address lot a ≡ true → (place lot a ≡ area lot) ⊎ (area lot + 256 ≤ place lot a)
+home_at lot a l k = ⊎_elim
+    (λ e. inl (place-sub lot a e))
+    (λ e. let s = place-group lot a e.0 in let low = l.low in inr (omega arith))
+    (address_cases lot a k)
+
+-- and none of the journal's blocks
+pub home_not_gate : (lot : LotView) (a : ℕ) → IsLot lot → is_address lot a ≡ true → place lot a ≢ gate_place lot
+home_not_gate lot a l k e = ⊎_elim (λ s. omega arith) (λ s. omega arith) (home_at lot a l k)
+
+pub home_not_header : (lot : LotView) (a : ℕ) → IsLot lot → is_address lot a ≡ true → place lot a ≢ header_place lot
+home_not_header lot a l k e = ⊎_elim (λ s. omega arith) (λ s. omega arith) (home_at lot a l k)
+
+pub home_not_body : (lot : LotView) (a i : ℕ) → IsLot lot → i < 240 → is_address lot a ≡ true → place lot a ≢ body_place lot i
+home_not_body lot a i l h k e = ⊎_elim (λ s. omega arith) (λ s. omega arith) (home_at lot a l k)
+
+-- the journal's blocks differ
+pub journal_apart : (lot : LotView) (i j : ℕ) → (gate_place lot ≢ header_place lot) × (gate_place lot ≢ body_place lot i) × (header_place lot ≢ body_place lot i) × (body_place lot i ≡ body_place lot j → i ≡ j)
+journal_apart lot i j = ((λ e. omega arith), (λ e. omega arith), (λ e. omega arith), (λ e. omega arith))
+
+-- where a block of a lot lies: in its slot's area, or in one of its groups
+abbrev pub InGroup : LotView → ℕ → Type 0
+InGroup lot k = (i : ℕ) × (i < length lot.groups) × (lot.base + 256 * slice_index lot.groups i ≤ k) × (k < lot.base + 256 * slice_index lot.groups i + 256)
+
+any_index : (test : ℕ → Bool) (xs : List ℕ) → list_any test xs ≡ true → (i : ℕ) × (i < length xs) × (test (slice_index xs i) ≡ true)
+any_index test [] h = absurd cc
+any_index test (x ∷ xs) h =
+    elim (test x) as (λ b. test x ≡ b → (i : ℕ) × (i < length (x ∷ xs)) × (test (slice_index (x ∷ xs) i) ≡ true)) [
+      | true ↦ λ e. (0, omega arith, e)
+      | false ↦ λ e.
+          let rest : list_any test xs ≡ true = grind arith in
+          let found = any_index test xs rest in
+          (suc found.0, omega (arith, found.1), found.2)
+    ] refl
+
+pub extent_cases : (lot : LotView) (k : ℕ) → extent lot k → ((area lot ≤ k) × (k < area lot + 256)) ⊎ InGroup lot k
+unfolding in_extent
+extent_cases lot k h =
+    elim (nat_le (area lot) k && nat_lt k (area lot + 256)) as (λ b. (nat_le (area lot) k && nat_lt k (area lot + 256)) ≡ b → ((area lot ≤ k) × (k < area lot + 256)) ⊎ InGroup lot k) [
+      | true ↦ λ e. inl ((grind (arith, nat_tests)), (grind (arith, nat_tests)))
+      | false ↦ λ e.
+          let any : list_any (λ g. nat_le (lot.base + 256 * g) k && nat_lt k (lot.base + 256 * g + 256)) lot.groups ≡ true = grind arith in
+          let found = any_index (λ g. nat_le (lot.base + 256 * g) k && nat_lt k (lot.base + 256 * g + 256)) lot.groups any in
+          let test = found.2 in
+          inr (found.0, found.1, grind (arith, nat_tests), grind (arith, nat_tests))
+    ] refl
+
+-- the blocks of a lot lie below a number that it lies below
+pub extent_below : (lot : LotView) (n k : ℕ) → lies_below lot n ≡ true → extent lot k → k < n
+unfolding lies_below
+extent_below lot n k h e = ⊎_elim
+    (λ a. let s = area_below lot n h in omega arith)
+    (λ a.
+    let all : list_all (λ g. nat_le (lot.base + 256 * g + 256) n) lot.groups ≡ true = grind (arith, nat_tests) in
+    let one = all_at (λ g. nat_le (lot.base + 256 * g + 256) n) lot.groups a.0 all a.1 in
+    let low = a.2 in let high = a.3 in
+    grind (arith, nat_tests))
+    (extent_cases lot k e)
+
+-- two lots of one image with different slots and no group of both share no block
+pub lots_apart : (a b : LotView) → IsLot a → IsLot b → a.base ≡ b.base → a.slot ≢ b.slot → NoneShared a.groups b.groups → (k : ℕ) → extent a k → ¬ extent b k
+lots_apart a b la lb base slots groups k ea eb =
+    let lowa = la.low in
+    let lowb = lb.low in
+    ⊎_elim
+    (λ x. ⊎_elim (λ y. omega arith) (λ y. let low = y.2 in omega arith) (extent_cases b k eb))
+    (λ x. ⊎_elim
+    (λ y. let low = x.2 in omega arith)
+    (λ y.
+    let low = x.2 in let high = x.3 in let low' = y.2 in let high' = y.3 in
+    groups x.0 y.0 x.1 y.1 (omega arith))
+    (extent_cases b k eb))
+    (extent_cases a k ea)
+
+pub ruleset journal_laws = (gate_in, header_in, body_in, home_not_gate, home_not_header, home_not_body)

@@ -1,5 +1,5 @@
 -- Blocks as lists of bits, and sets of numbers.
-use Rattle.std.specs.Prelude.{◌≡◌, ◌<◌, ℕ, ◌/◌, ◌%◌, Bool, true, false, cond, ◌==◌, List, slice_index}
+use Rattle.std.specs.Prelude.{◌≡◌, ◌<◌, ℕ, ◌/◌, ◌%◌, Bool, true, false, cond, ◌==◌, List, map, slice_index}
 use Rattle.std.specs.Int.{bit_at}
 use Rattle.std.specs.List.{count_by, range_with_len}
 
@@ -21,4 +21,4 @@ IsLeast set a = (set a ≡ false) × ((b : ℕ) → b < a → set b ≡ true)
 
 -- how many numbers below n are in the set
 unfoldable pub count_below : (ℕ → Bool) → ℕ → ℕ
-count_below set n = count_by set (range_with_len 0 n)
+count_below set n = count_by (λ bit. bit) (map set (range_with_len 0 n))

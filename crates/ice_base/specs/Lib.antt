@@ -13,3 +13,4 @@ pub mod Used
 pub mod Inodes
 pub mod Pools
 pub mod Faults
+pub mod Still
