@@ -1,6 +1,6 @@
 //! A keep of at most two blocks.
 ghost use Rattle.std.specs.Prelude.{◌≡◌, ◌≤◌, ◌+◌, ◌||◌, ◌==◌, cond, true, false, List, ℕ};
-ghost use Rattle.ice_base.specs.Lots.{inside, homes};
+ghost use Rattle.ice_base.specs.Lots.{inside, inside_out, homes};
 ghost use Rattle.ice_base.specs.Still.{Still, still_refl, still_then};
 ghost use Rattle.ice_keep.specs.Pairs.{holds, over, free};
 
@@ -130,6 +130,8 @@ impl<D: Disk> View<D> for PairKeep {
             }
         }
     }
+
+    ghost outside = { λ v d lot. inside_out lot (over v.first (over v.second (homes lot (D.state d).now))) };
 
     ghost steady_trans = { λ lot u d v e w f. still_then D.state D.left d e f };
 

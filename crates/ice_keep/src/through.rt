@@ -1,6 +1,6 @@
 //! A keep that writes home at once.
 ghost use Rattle.std.specs.Prelude.{◌≡◌, ◌^◌, ◌-◌, true};
-ghost use Rattle.ice_base.specs.Lots.{inside, homes};
+ghost use Rattle.ice_base.specs.Lots.{inside, inside_out, homes};
 ghost use Rattle.ice_keep.specs.Through.{Through, through_refl, through_then};
 
 use ice_base::{Block, BlockFault, Disk, Keep, Lot, View};
@@ -43,6 +43,8 @@ impl<D: Disk> View<D> for ThroughKeep {
             },
         }
     }
+
+    ghost outside = { λ v d lot. inside_out lot (homes lot (D.state d).now) };
 
     ghost steady_trans = { λ lot u d v e w f. through_then D.state D.left lot d e f };
 
