@@ -28,6 +28,7 @@ abbrev pub hex_token : List ℕ → List ℕ
 hex_token [] = codes "-"
 hex_token (b ∷ bytes) = encode_lower (b ∷ bytes)
 
+-- the word for a cube's state
 abbrev pub state_word : StateWord → List ℕ
 state_word Mounted = codes "mounted"
 state_word Unmounted = codes "unmounted"
@@ -81,6 +82,7 @@ why_words why.NoSlot = codes "NoSlot"
 why_words why.CubeFull = codes "CubeFull"
 why_words why.NoGroups = codes "NoGroups"
 
+-- what stands behind `no`
 abbrev pub refused_words : Refused → List ℕ
 refused_words (Because why) = why_words why
 refused_words Fault = codes "Fault"
