@@ -1,5 +1,5 @@
 -- The sub-super block of a cube, and the blocks of a fresh group, byte by byte.
-use Rattle.std.specs.Prelude.{◌≡◌, ◌≤◌, ◌<◌, ◌^◌, ℕ, Bool, true, false, not, ◌==◌, ◌&&◌, nat_lt, if◌then◌else◌, List, Option, Some, None, slice_index, slice_set}
+use Rattle.std.specs.Prelude.{◌≡◌, ◌≤◌, ◌<◌, ◌^◌, ℕ, Bool, false, not, ◌==◌, ◌&&◌, nat_lt, if◌then◌else◌, List, Option, Some, None, slice_index, slice_set}
 use Rattle.ice_base.specs.Fields.{word_at, long_at}
 use Rattle.ice_base.specs.declared.fault.Rule.{Rule}
 use Rattle.ice_base.specs.declared.fault.Rule.TheVariants.{Magic, Version, Slot, Mode, Done}
@@ -44,7 +44,7 @@ fresh_bitmap first = slice_set (slice_set (slice_set zero_block 0 255) 1 1) 32 (
 
 -- an inode block of a fresh group: zeros, but the root, an empty directory
 abbrev pub fresh_inodes : Bool → List ℕ
-fresh_inodes root = if root then slice_set zero_block 0 2 else zero_block
+fresh_inodes root = slice_set zero_block 0 (if root then 2 else 0)
 
 -- the block of a fresh group at a place below 9
 abbrev pub fresh_place : Bool → ℕ → List ℕ

@@ -1,6 +1,6 @@
 //! The sub-super block of a cube, and the blocks of a fresh group.
-ghost use Rattle.std.specs.Prelude.{◌≡◌, ◌<◌, true, Some, IfOk, IfErr};
-ghost use Rattle.ice_layout.specs.Subs.{sub_rule, is_proper_sub, IsSub, SubZeros, fresh_place};
+ghost use Rattle.std.specs.Prelude.{◌≡◌, ◌<◌, true, if◌then◌else◌, Some, IfOk, IfErr};
+ghost use Rattle.ice_layout.specs.Subs.{sub_rule, is_proper_sub, IsSub, SubZeros, fresh_bitmap, fresh_inodes, fresh_place};
 
 use ice_base::{Block, Rule, read_u32, read_u64, write_u32, write_u64};
 
@@ -75,18 +75,37 @@ pub fn read_sub(from: &Block, slot: u8) -> Result<SubSuper, Rule>
     })
 }
 
+fn byte_if(holds: bool, byte: u8) -> u8
+    ensures { result ≡ (if holds then byte else 0) }
+{
+    if holds { byte } else { 0 }
+}
+
+fn fresh_bitmap_block(first: bool, into: &mut Block)
+    ensures { into.new ≡ fresh_bitmap first }
+{
+    *into = [0; 1024];
+    into[0] = 0xff;
+    into[1] = 1;
+    into[32] = byte_if(first, 1);
+}
+
+fn fresh_inode_block(root: bool, into: &mut Block)
+    ensures { into.new ≡ fresh_inodes root }
+{
+    *into = [0; 1024];
+    into[0] = byte_if(root, 2);
+}
+
 /// The bitmap block of a fresh group at place 0, `ff 01` and zeros, or an inode block at the places 1 to 8, zeros. The first group of
 /// a cube has its root, inode 0: `01` at 32 of the bitmap block, and kind 2 with size 0 at place 1.
 pub fn fresh_group(first: bool, place: u32, into: &mut Block)
     requires { place < 9 }
     ensures { into.new ≡ fresh_place first place }
 {
-    *into = [0; 1024];
     if place == 0 {
-        into[0] = 0xff;
-        into[1] = 1;
-        into[32] = u8::from(first);
-    } else if first && place == 1 {
-        into[0] = 2;
+        fresh_bitmap_block(first, into);
+    } else {
+        fresh_inode_block(first && place == 1, into);
     }
 }
