@@ -1,5 +1,7 @@
 //! The bytes of the format, by hand.
-use ice_base::{Rule, Status};
+ghost use Rattle.std.specs.Prelude.{◌≡◌, ◌≤◌, ◌<◌, ◌^◌};
+
+use ice_base::{Block, Rule, Status};
 use ice_layout::{
     LayoutFault, SubSuper, Super, fresh_block, fresh_group, read_sub, read_super, write_sub,
     write_super,
@@ -13,7 +15,9 @@ const FRESH_SUB: [u8; 32] = [
 
 const SUB_AFTER_MKDIR: [u8; 16] = [1, 0, 0, 0, 0, 0, 0, 0, 1, 0, 0, 0, 2, 0, 0, 0];
 
-fn sub_of(done: u64, blocks: u32, nodes: u32) -> SubSuper {
+fn sub_of(done: u64, blocks: u32, nodes: u32) -> SubSuper
+    ensures { result ≡ record { version = 1; slot = 0; mode = 0; done = done; blocks = blocks; nodes = nodes } }
+{
     SubSuper {
         version: 1,
         slot: 0,
@@ -24,16 +28,29 @@ fn sub_of(done: u64, blocks: u32, nodes: u32) -> SubSuper {
     }
 }
 
+fn part(block: &Block, start: usize, end: usize) -> &[u8]
+    requires { (start ≤ end) × (end ≤ 1024) }
+{
+    &block[start..end]
+}
+
+/// The sub-super block of slot 0 with these counts.
+fn sub_block(done: u64, blocks: u32, nodes: u32) -> Block
+    requires { done < 2 ^ 63 }
+{
+    let mut block = [7; 1024];
+    write_sub(&sub_of(done, blocks, nodes), &mut block);
+    block
+}
+
 #[test]
 fn sub_super_blocks_have_their_bytes(rt: HostRuntime) -> Result<(), Fail> {
-    let mut block = [7; 1024];
-    write_sub(&sub_of(0, 0, 1), &mut block);
-    assert_eq!(rt; block[..32], FRESH_SUB[..]);
-    assert!(rt; block[32..].iter().all(|byte| *byte == 0));
-    write_sub(&sub_of(1, 1, 2), &mut block);
-    assert_eq!(rt; block[16..32], SUB_AFTER_MKDIR[..]);
-    let read = read_sub(&block, 0)?;
-    assert_eq!(rt; read, sub_of(1, 1, 2));
+    let fresh = sub_block(0, 0, 1);
+    assert_eq!(rt; part(&fresh, 0, 32), FRESH_SUB.as_slice());
+    assert!(rt; part(&fresh, 32, 1024).iter().all(|byte| *byte == 0));
+    let later = sub_block(1, 1, 2);
+    assert_eq!(rt; part(&later, 16, 32), SUB_AFTER_MKDIR.as_slice());
+    assert_eq!(rt; read_sub(&later, 0)?, sub_of(1, 1, 2));
     Ok(())
 }
 
@@ -49,8 +66,7 @@ fn a_changed_byte_breaks_its_rule_first(rt: HostRuntime) {
         (23, Rule::Done),
     ];
     for (at, rule) in rows {
-        let mut block = [0xff; 1024];
-        write_sub(&sub_of(5, 6, 7), &mut block);
+        let mut block = sub_block(5, 6, 7);
         if at < 1024 {
             block[at] = 0x80;
         }

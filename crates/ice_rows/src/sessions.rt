@@ -123,7 +123,8 @@ fn each_crash_of_a_session_leaves_a_volume(rt: HostRuntime) -> Result<(), Fail> 
     let alloc = rt.alloc();
     let mut host = formatted(alloc)?;
     assert_eq!(rt; session(alloc, &mut host, b"cubes\n")?, Status::Done);
-    for moment in 0..host.calls() + 1 {
+    let end = host.calls().saturating_add(1);
+    for moment in 0..end {
         if moment <= host.calls() {
             let mut after = host.crashed(alloc, moment, 2)?;
             after.reserve(100, 100)?;

@@ -1,0 +1,35 @@
+//! A stored session on a real file: formats a new image as `icefs format` does, and answers standard input as `icefs run` does.
+#![tactic(auto)]
+
+use disk_file::{FileHost, OpenFault};
+use ice_base::{Status, Words};
+use ice_run::{image_of, run};
+use std::process::ExitCode;
+
+const FORMAT: [&str; 6] = ["format", "img", "--slots", "4", "--groups", "16"];
+
+const RUN: [&str; 2] = ["run", "img"];
+
+fn work(rt: &HostRuntime, texts: &[&str]) -> Status {
+    let mut words = Words::new(rt.alloc());
+    for text in texts {
+        if words.push(text).is_err() {
+            return Status::Memory;
+        }
+    }
+    let Ok(image) = image_of(rt.alloc(), &words) else {
+        return Status::Usage;
+    };
+    match FileHost::attach(rt, image.name, image.least) {
+        Ok(mut host) => run(rt.alloc(), &words, &mut host),
+        Err(OpenFault::Memory) => Status::Memory,
+        Err(OpenFault::Failed) => Status::Disk,
+    }
+}
+
+fn main(rt: HostRuntime) -> ExitCode {
+    match work(&rt, &FORMAT) {
+        Status::Done => ExitCode::from(work(&rt, &RUN) as u8),
+        status => ExitCode::from(status as u8),
+    }
+}
