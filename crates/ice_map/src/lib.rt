@@ -1,6 +1,10 @@
 //! Inodes, and the maps of their blocks.
 #![tactic(auto)]
 
+mod blocks;
 mod codec;
+mod inodes;
 
+pub use blocks::{fetch, store};
 pub use codec::{Inode, read_inode, write_inode};
+pub use inodes::{get_inode, put_inode};
