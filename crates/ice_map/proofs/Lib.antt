@@ -1,2 +1,3 @@
 pub mod CodecLaws
 pub mod InodeLaws
+pub mod MapLaws

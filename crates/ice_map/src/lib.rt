@@ -4,7 +4,9 @@
 mod blocks;
 mod codec;
 mod inodes;
+mod maps;
 
 pub use blocks::{fetch, store};
 pub use codec::{Inode, read_inode, write_inode};
 pub use inodes::{get_inode, put_inode};
+pub use maps::nth;
