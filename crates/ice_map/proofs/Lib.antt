@@ -1,3 +1,6 @@
 pub mod CodecLaws
 pub mod InodeLaws
+pub mod ListLaws
+pub mod MarkLaws
 pub mod MapLaws
+pub mod GrowLaws

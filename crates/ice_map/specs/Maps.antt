@@ -7,6 +7,7 @@ use Rattle.ice_base.specs.Lots.{LotView, sub_address}
 use Rattle.ice_base.specs.Spare.{has}
 use Rattle.ice_base.specs.Used.{used_block, used_inode, is_data, bitmap_of, count_place, counted, free_count}
 use Rattle.ice_map.specs.declared.codec.Inode.{Inode}
+use Rattle.ice_map.specs.Inodes.{inode_of}
 
 -- the most blocks of a map: twelve that the inode names, and 256 that its indirect block names
 abbrev pub longest : ℕ
@@ -26,7 +27,7 @@ blocks_between m inode rest count = map (nth_block m inode) (range_with_len rest
 
 -- the first `count` blocks of the map, in order
 abbrev pub blocks_of : (ℕ → List ℕ) → Inode → ℕ → List ℕ
-blocks_of m inode count = blocks_between m inode 0 count
+blocks_of m inode count = map (nth_block m inode) (range_with_len 0 count)
 
 -- the indirect block of a map of `count` blocks, where it has one
 abbrev pub indirect_of : Inode → ℕ → List ℕ
@@ -39,3 +40,55 @@ uses m inode count = indirect_of inode count ++ blocks_of m inode count
 -- how often a list has an address
 abbrev pub times : List ℕ → ℕ → ℕ
 times xs a = count_by (λ x. x == a) xs
+
+-- how many blocks a growth of a map of `count` blocks takes: the new one, and with the first past the direct ones the indirect block
+abbrev pub needs : ℕ → ℕ
+needs count = cond (count == 12) 2 1
+
+-- these blocks: the new one, and a new indirect block
+abbrev pub growth : ℕ → ℕ → ℕ → List ℕ
+growth count a single = a ∷ cond (count == 12) (single ∷ []) []
+
+-- what a growth puts: the sub-super block, the bitmap blocks of the blocks that it takes, and the indirect block of the new map
+abbrev pub growth_puts : ℕ → ℕ → ℕ → List ℕ
+growth_puts count a single = sub_address ∷ bitmap_of false a ∷ cond (nat_lt count 12) [] (single ∷ cond (count == 12) (bitmap_of false single ∷ []) [])
+
+-- the inode whose map of `count` blocks got the block a, and with the first past the direct ones the indirect block
+abbrev pub widened : Inode → ℕ → ℕ → ℕ → Inode
+widened inode count a single = record {
+  kind = inode.kind;
+  size = inode.size;
+  direct = cond (nat_lt count 12) (slice_set inode.direct count a) inode.direct;
+  single = cond (count == 12) single inode.single;
+  double = inode.double;
+}
+
+-- These blocks were marked used and counted, or marked free and no longer counted.
+-- Nothing else of the bitmap blocks and of the sub-super block changed.
+pub record Marked (lot : LotView) (taken : Bool) (old new : ℕ → List ℕ) (blocks : List ℕ) : Type 0 where
+  pub used : (b : ℕ) → used_block new b ≡ cond (has blocks b) taken (used_block old b)
+  pub inodes : (i : ℕ) → used_inode new i ≡ used_inode old i
+  pub rest : (o k : ℕ) → 320 ≤ k → bit_of (new (256 * o)) k ≡ bit_of (old (256 * o)) k
+  pub counts : WordSet (old sub_address) (count_place false) (cond taken (counted false old + length blocks) (counted false old - length blocks)) (new sub_address)
+  pub free : free_count false lot new + cond taken (length blocks) 0 ≡ free_count false lot old + cond taken 0 (length blocks)
+
+-- Each inode is as it was, and so is each data block that was marked used, but for these.
+pub record Stays (lot : LotView) (old new : ℕ → List ℕ) (but : List ℕ) : Type 0 where
+  pub inodes : (n : ℕ) → inode_of new n ≡ inode_of old n
+  pub blocks : (b : ℕ) → is_data lot b ≡ true → used_block old b ≡ true → has but b ≡ false → new b ≡ old b
+
+-- the least free block was taken, and then the least one left
+pub record TookTwo (lot : LotView) (old new : ℕ → List ℕ) (a b : ℕ) : Type 0 where
+  pub first : IsLeast (used_block old) a
+  pub second : IsLeast (λ k. cond (k == a) true (used_block old k)) b
+  pub took : Marked lot true old new (a ∷ b ∷ [])
+
+-- A map of `count` blocks got one more, a, which is the least free block. A new indirect block is the least free one after that.
+-- The indirect block names a as well, and has zeros past it where it is new.
+pub record Grown (lot : LotView) (old new : ℕ → List ℕ) (before after : Inode) (count a : ℕ) : Type 0 where
+  pub blocks : blocks_of new after (count + 1) ≡ blocks_of old before count ++ a ∷ []
+  pub least : IsLeast (used_block old) a
+  pub least_single : count ≡ 12 → IsLeast (λ b. cond (b == a) true (used_block old b)) after.single
+  pub took : Marked lot true old new (growth count a after.single)
+  pub used : (b : ℕ) → times (uses new after (count + 1)) b ≡ times (uses old before count) b + times (growth count a after.single) b
+  pub named : 12 ≤ count → WordSet (cond (count == 12) (replicate 1024 0) (old after.single)) (4 * (count - 12)) a (new after.single)

@@ -3,6 +3,7 @@
 
 mod blocks;
 mod codec;
+mod extends;
 mod inodes;
 mod maps;
 

@@ -1,0 +1,142 @@
+-- What a growth of a map does.
+use Rattle.std.proofs.Common.{◌≡◌, ◌≢◌, ◌≤◌, ◌<◌, ◌⊎◌, ◌+◌, ◌-◌, ◌*◌, ◌/◌, ◌%◌, ◌==◌, ◌&&◌, ℕ, Bool, true, false, cond, List, [], ◌∷◌, ◌++◌, map, length, slice_index, slice_set, get_or-set_other, get_or-set_same, inl, inr, ◌∙◌, sym, refl, ap, arith, ⊎_elim, subst, ltb}
+use Rattle.std.proofs.lemmas.Bool.Decides.{nat_tests}
+use Rattle.std.proofs.lemmas.Nat.{div-add-mod', mod_below}
+use Rattle.std.proofs.lemmas.List.FromFn.{map-range_with_len_more}
+use Rattle.ice_base.specs.Bits.{IsLeast}
+use Rattle.ice_base.specs.Fields.{word_at, WordSet}
+use Rattle.ice_base.specs.Inodes.{inode_address}
+use Rattle.ice_base.specs.Lots.{LotView, sub_address}
+use Rattle.ice_base.specs.Pools.{Took}
+use Rattle.ice_base.specs.Spare.{has}
+use Rattle.ice_base.specs.Used.{used_block, is_data, bitmap_of}
+use Rattle.ice_base.proofs.UsedLaws.{data_below, data_place}
+use Rattle.ice_map.specs.declared.codec.Inode.{Inode}
+use Rattle.ice_map.specs.Inodes.{inode_at, inode_of}
+use Rattle.ice_map.specs.Maps.{nth_block, blocks_of, indirect_of, uses, times, growth, Marked, Stays, TookTwo, Grown}
+use Rattle.ice_map.proofs.ListLaws.{map_range_same, times-append, has-one}
+use Rattle.ice_map.proofs.MapLaws.{nth-direct, nth-single}
+use Rattle.ice_map.proofs.MarkLaws.{marked-took, marked-then}
+
+inode_place : (n : ℕ) → inode_address n % 256 ≡ 1 + n % 64 / 8
+inode_place n =
+    let d = div-add-mod' (inode_address n) 256 in
+    let m = mod_below (inode_address n) 256 (omega arith) in
+    let r = mod_below n 64 (omega arith) in
+    let e = div-add-mod' (n % 64) 8 in
+    omega arith
+
+inode_small : (n : ℕ) → inode_address n % 256 ≤ 8
+inode_small n = let p = inode_place n in let r = mod_below n 64 (omega arith) in let e = div-add-mod' (n % 64) 8 in omega arith
+
+-- an inode's block is no bitmap block, no data place and not the sub-super block
+pub inode_not_bitmap : (n o : ℕ) → inode_address n ≢ 256 * o
+inode_not_bitmap n o e = let p = inode_place n in let f : inode_address n % 256 ≡ 256 * o % 256 = ap (λ x. x % 256) e in omega arith
+
+pub inode_not_data : (lot : LotView) (n a : ℕ) → is_data lot a ≡ true → inode_address n ≢ a
+inode_not_data lot n a h e = let p = data_place lot a h in let s = inode_small n in let f : inode_address n % 256 ≡ a % 256 = ap (λ x. x % 256) e in omega arith
+
+pub inode_not_sub : (n : ℕ) → inode_address n ≢ sub_address
+inode_not_sub n e = let s = inode_small n in let f : inode_address n % 256 ≡ 255 = ap (λ x. x % 256) e in omega arith
+
+pub data_apart : (lot : LotView) (a o : ℕ) → is_data lot a ≡ true → a ≢ 256 * o
+data_apart lot a o h e = let p = data_place lot a h in let f : a % 256 ≡ 256 * o % 256 = ap (λ x. x % 256) e in omega arith
+
+-- where only bitmap blocks and the sub-super block changed, every inode and every data block stays
+pub stays-none : (lot : LotView) (m0 m1 : ℕ → List ℕ) (but : List ℕ) → length lot.groups ≤ 64 → ((b : ℕ) → b ≢ sub_address → ((o : ℕ) → b ≢ 256 * o) → m1 b ≡ m0 b) → Stays lot m0 m1 but
+stays-none lot m0 m1 but few only = record {
+  inodes = λ n. ap (λ (b : List ℕ). inode_at b (n % 8)) (only (inode_address n) (inode_not_sub n) (inode_not_bitmap n));
+  blocks = λ b d u h. only b (λ e. let l = data_below lot b d in omega arith) (λ o. data_apart lot b o d);
+}
+
+-- and so where one block changed besides that was not used, or is excepted
+pub stays-one : (lot : LotView) (m0 m1 : ℕ → List ℕ) (but : List ℕ) (s : ℕ) → length lot.groups ≤ 64 → is_data lot s ≡ true → (has but s ≡ false → used_block m0 s ≡ false)
+    → ((b : ℕ) → b ≢ sub_address → ((o : ℕ) → b ≢ 256 * o) → b ≢ s → m1 b ≡ m0 b) → Stays lot m0 m1 but
+stays-one lot m0 m1 but s few place free only = record {
+  inodes = λ n. ap (λ (b : List ℕ). inode_at b (n % 8)) (only (inode_address n) (inode_not_sub n) (inode_not_bitmap n) (inode_not_data lot n s place));
+  blocks = λ b d u h. only b (λ e. let l = data_below lot b d in omega arith) (λ o. data_apart lot b o d)
+      (λ e. let f = free (ap (has but) (sym e) ∙ h) in let g : used_block m0 s ≡ true = ap (used_block m0) (sym e) ∙ u in absurd cc);
+}
+
+set_same : (xs ys : List ℕ) (k a : ℕ) → ys ≡ slice_set xs k a → k < length xs → slice_index ys k ≡ a
+set_same xs ys k a e h = ap (λ (l : List ℕ). slice_index l k) e ∙ get_or-set_same xs k a 0 h
+
+set_other : (xs ys : List ℕ) (k a j : ℕ) → ys ≡ slice_set xs k a → j ≢ k → slice_index ys j ≡ slice_index xs j
+set_other xs ys k a j e ne = ap (λ (l : List ℕ). slice_index l j) e ∙ get_or-set_other xs k j a 0 ne
+
+-- one block more
+pub blocks-grow : (m0 m1 : ℕ → List ℕ) (old new : Inode) (count a : ℕ) → ((n : ℕ) → n < count → nth_block m1 new n ≡ nth_block m0 old n) → nth_block m1 new count ≡ a → blocks_of m1 new (count + 1) ≡ blocks_of m0 old count ++ a ∷ []
+blocks-grow m0 m1 old new count a same next =
+    map-range_with_len_more (nth_block m1 new) 0 count count (omega arith)
+    ∙ ap (λ (xs : List ℕ). xs ++ nth_block m1 new count ∷ []) (map_range_same (nth_block m1 new) (nth_block m0 old) 0 count (λ k l h. same k (omega arith)))
+    ∙ ap (λ x. blocks_of m0 old count ++ x ∷ []) next
+
+indirect-none : (inode : Inode) (count : ℕ) → count ≤ 12 → indirect_of inode count ≡ []
+indirect-none inode count h = grind (arith, nat_tests)
+
+indirect-one : (inode : Inode) (count : ℕ) → 12 < count → indirect_of inode count ≡ inode.single ∷ []
+indirect-one inode count h = grind (arith, nat_tests)
+
+growth-one : (count a s : ℕ) → count ≢ 12 → growth count a s ≡ a ∷ []
+growth-one count a s h = grind (arith, nat_tests)
+
+growth-two : (count a s : ℕ) → count ≡ 12 → growth count a s ≡ a ∷ s ∷ []
+growth-two count a s h = grind (arith, nat_tests)
+
+-- what the grown map uses: what it used, and the blocks that were taken
+pub uses-grow : (m0 m1 : ℕ → List ℕ) (old new : Inode) (count a : ℕ) → blocks_of m1 new (count + 1) ≡ blocks_of m0 old count ++ a ∷ [] → (count ≢ 12 → new.single ≡ old.single)
+    → (b : ℕ) → times (uses m1 new (count + 1)) b ≡ times (uses m0 old count) b + times (growth count a new.single) b
+uses-grow m0 m1 old new count a blocks single b =
+    let all = times-append (indirect_of new (count + 1)) (blocks_of m1 new (count + 1)) b in
+    let more = ap (λ xs. times xs b) blocks ∙ times-append (blocks_of m0 old count) (a ∷ []) b in
+    let before = times-append (indirect_of old count) (blocks_of m0 old count) b in
+    elim (ltb count 12) as (λ t. ltb count 12 ≡ t → times (uses m1 new (count + 1)) b ≡ times (uses m0 old count) b + times (growth count a new.single) b) [
+      | true ↦ λ t.
+          let h : count < 12 = grind (arith, nat_tests) in
+          let x = ap (λ xs. times xs b) (indirect-none new (count + 1) (omega arith)) in
+          let y = ap (λ xs. times xs b) (indirect-none old count (omega arith)) in
+          let z = ap (λ xs. times xs b) (growth-one count a new.single (λ e. omega arith)) in
+          omega arith
+      | false ↦ λ t.
+          let x = ap (λ xs. times xs b) (indirect-one new (count + 1) (grind (arith, nat_tests))) in
+          elim (count == 12) as (λ u. (count == 12) ≡ u → times (uses m1 new (count + 1)) b ≡ times (uses m0 old count) b + times (growth count a new.single) b) [
+            | true ↦ λ u.
+                let h : count ≡ 12 = grind (arith, nat_tests) in
+                let y = ap (λ xs. times xs b) (indirect-none old count (omega arith)) in
+                let z = ap (λ xs. times xs b) (growth-two count a new.single h) ∙ times-append (a ∷ []) (new.single ∷ []) b in
+                omega arith
+            | false ↦ λ u.
+                let h : count ≢ 12 = grind (arith, nat_tests) in
+                let y = ap (λ xs. times xs b) (indirect-one old count (grind (arith, nat_tests))) in
+                let z = ap (λ xs. times xs b) (growth-one count a new.single h) in
+                let s = ap (λ k. times (k ∷ []) b) (single h) in
+                omega arith
+          ] refl
+    ] refl
+
+least-same : (p q : ℕ → Bool) (a : ℕ) → ((b : ℕ) → q b ≡ p b) → IsLeast p a → IsLeast q a
+least-same p q a h l = (h a ∙ l.0, λ b k. h b ∙ l.1 b k)
+
+-- two blocks that were taken one after the other
+pub took-two : (lot : LotView) (m0 m1 m2 : ℕ → List ℕ) (a b : ℕ) → IsLeast (used_block m0) a → Marked lot true m0 m1 (a ∷ []) → IsLeast (used_block m1) b → Marked lot true m1 m2 (b ∷ []) → TookTwo lot m0 m2 a b
+took-two lot m0 m1 m2 a b la ma lb mb = record {
+  first = la;
+  second = least-same (used_block m1) (λ k. cond (k == a) true (used_block m0 k)) b (λ k. ap (λ t. cond t true (used_block m0 k)) (sym (has-one a k)) ∙ sym (ma.used k)) lb;
+  took = marked-then lot true m0 m1 m2 (a ∷ []) (b ∷ []) ma mb;
+}
+
+pub grown-direct : (lot : LotView) (m0 m1 : ℕ → List ℕ) (old new : Inode) (count a : ℕ) → new.direct ≡ slice_set old.direct count a → new.single ≡ old.single → count < 12 → length old.direct ≡ 12
+    → is_data lot a ≡ true → Took false m0 m1 a → ((b : ℕ) → b ≢ sub_address → b ≢ bitmap_of false a → m1 b ≡ m0 b) → Grown lot m0 m1 old new count a
+grown-direct lot m0 m1 old new count a d single h l place t only =
+    let blocks = blocks-grow m0 m1 old new count a
+    (λ n p. nth-direct m1 new n (omega arith) ∙ set_other old.direct new.direct count a n d (λ e. omega arith) ∙ sym (nth-direct m0 old n (omega arith)))
+    (nth-direct m1 new count h ∙ set_same old.direct new.direct count a d (omega arith)) in
+    let one : (count == 12) ≡ false = grind (arith, nat_tests) in
+    record {
+      blocks = blocks;
+      least = t.least;
+      least_single = λ e. absurd (omega arith);
+      took = rw one (marked-took lot m0 m1 a place t only);
+      used = uses-grow m0 m1 old new count a blocks (λ ne. single);
+      named = λ e. absurd (omega arith);
+    }

@@ -1,0 +1,114 @@
+//! One block more for an inode's map.
+ghost use Rattle.std.specs.Prelude.{◌≡◌, ◌≢◌, ◌≤◌, ◌<◌, ◌+◌, ◌*◌, ◌-◌, ◌^◌, ◌==◌, cond, ℕ, true, false, List, [], ◌∷◌, OnOk, OnErr, IfOk, IfErr, IsErrOf, length, slice_set, replicate};
+ghost use Rattle.ice_base.specs.Bits.{IsLeast};
+ghost use Rattle.ice_base.specs.Disk.{Rose};
+ghost use Rattle.ice_base.specs.Faults.{IsTakeBlockFault, IsGiveFault};
+ghost use Rattle.ice_base.specs.Fields.{WordSet};
+ghost use Rattle.ice_base.specs.Lots.{is_sited, sub_address};
+ghost use Rattle.ice_base.specs.Pools.{TookBlock, PutsFor, PutsInOne};
+ghost use Rattle.ice_base.specs.Spare.{Pays, FitsAny};
+ghost use Rattle.ice_base.specs.Used.{is_data, used_block, bitmap_of, counted, free_count, AllUsed, Reserved};
+ghost use Rattle.ice_base.specs.Views.{Looked, Spent, Puts};
+ghost use Rattle.ice_base.specs.declared.fault.OpFault.TheVariants.{Disk as FaultDisk, Damaged, NoSpace};
+ghost use Rattle.ice_base.specs.declared.fault.Rule.TheVariants.{Counts, Pointer, Bitmap};
+ghost use Rattle.ice_map.specs.Faults.{IsGrowFault};
+ghost use Rattle.ice_map.specs.Maps.{longest, indirect_of, needs, growth, growth_puts, widened, Marked, Stays, TookTwo, Grown};
+
+use crate::blocks::{fetch, store};
+use crate::codec::Inode;
+use crate::maps::checked;
+use ice_base::{Disk, Form, Keep, Lot, OpFault, Pool, Rule, View, write_u32};
+
+fn set_direct(direct: &mut [u32; 12], k: u32, value: u32)
+    requires { k < 12 }
+    ensures set { direct.new ≡ slice_set direct.old k value }
+    ensures long { length direct.old ≡ 12 }
+{
+    direct[k as usize] = value;
+}
+
+#[tactic(auto, using(ice_base::proofs::SpareLaws::room_laws))]
+fn extend_direct<D: Disk, K: Keep<D>, P: Pool<D, K>>(
+    keep: &mut K,
+    pool: &mut P,
+    disk: &mut D,
+    lot: &Lot,
+    inode: &mut Inode,
+    count: u32,
+) -> Result<u32, OpFault>
+    requires sited { is_sited lot.now (D.state disk.old).size ≡ true }
+    requires room { 2 ≤ K.room keep.old }
+    requires short { count < 12 }
+    ensures grown { K.shows lot.now keep.old disk.old → IfOk result (Grown lot.now (K.map keep.old disk.old lot.now) (K.map keep.new disk.new lot.now) inode.old inode.new count) }
+    ensures data { IfOk result (λ a. is_data lot.now a ≡ true) }
+    ensures fields { IfOk result (λ a. inode.new ≡ record inode.old { direct = slice_set inode.old.direct count a }) }
+    ensures kept { OnErr result (inode.new ≡ inode.old) }
+    ensures puts { IfOk result (λ a. PutsFor K.View lot.now true false a keep.old disk.old keep.new disk.new) }
+    ensures stays { Stays lot.now (K.map keep.old disk.old lot.now) (K.map keep.new disk.new lot.now) [] }
+    ensures spent { Spent D.Disk K.View lot.now 2 keep.old disk.old keep.new disk.new }
+    ensures none { IsErrOf result NoSpace → K.shows lot.now keep.old disk.old → AllUsed false lot.now (K.map keep.old disk.old lot.now) }
+    ensures full { IsErrOf result (Damaged Counts) → K.shows lot.now keep.old disk.old → counted false (K.map keep.old disk.old lot.now) ≡ 2 ^ 32 - 1 }
+    ensures unreserved { IsErrOf result (Damaged Bitmap) → K.shows lot.now keep.old disk.old → ¬ Reserved lot.now (K.map keep.old disk.old lot.now) }
+    ensures looked { IsErrOf result NoSpace → Looked D.Disk K.View lot.now keep.old disk.old keep.new disk.new }
+    ensures faults { IfErr result IsTakeBlockFault }
+    ensures failed { IsErrOf result FaultDisk → Rose (D.state disk.old).faults (D.state disk.new).faults }
+{
+    let taken = pool.take_block(keep, disk, lot)?;
+    set_direct(&mut inode.direct, count, taken);
+    Ok(taken)
+}
+
+/// Takes a block where one is counted free. Damaged: as for a take of the pool, or none is marked free after all.
+#[tactic(auto, using(ice_base::proofs::SpareLaws::room_laws, crate::proofs::MarkLaws::none_free))]
+fn take_counted<D: Disk, K: Keep<D>, P: Pool<D, K>>(
+    keep: &mut K,
+    pool: &mut P,
+    disk: &mut D,
+    lot: &Lot,
+) -> Result<u32, OpFault>
+    requires sited { is_sited lot.now (D.state disk.old).size ≡ true }
+    requires room { 2 ≤ K.room keep.old }
+    ensures least { K.shows lot.now keep.old disk.old → IfOk result (IsLeast (used_block (K.map keep.old disk.old lot.now))) }
+    ensures marked { K.shows lot.now keep.old disk.old → IfOk result (λ a. Marked lot.now true (K.map keep.old disk.old lot.now) (K.map keep.new disk.new lot.now) (a ∷ [])) }
+    ensures data { IfOk result (λ a. is_data lot.now a ≡ true) }
+    ensures puts { IfOk result (λ a. PutsFor K.View lot.now true false a keep.old disk.old keep.new disk.new) }
+    ensures others { (b : ℕ) → b ≢ sub_address → ((o : ℕ) → b ≢ 256 * o) → K.map keep.new disk.new lot.now b ≡ K.map keep.old disk.old lot.now b }
+    ensures spent { Spent D.Disk K.View lot.now 2 keep.old disk.old keep.new disk.new }
+    ensures full { IsErrOf result (Damaged Counts) → K.shows lot.now keep.old disk.old → counted false (K.map keep.old disk.old lot.now) ≡ 2 ^ 32 - 1 }
+    ensures unreserved { IsErrOf result (Damaged Bitmap) → K.shows lot.now keep.old disk.old → 1 ≤ free_count false lot.now (K.map keep.old disk.old lot.now) → ¬ Reserved lot.now (K.map keep.old disk.old lot.now) }
+    ensures faults { IfErr result IsGiveFault }
+    ensures failed { IsErrOf result FaultDisk → Rose (D.state disk.old).faults (D.state disk.new).faults }
+{
+    match pool.take_block(keep, disk, lot) {
+        Ok(taken) => Ok(taken),
+        Err(OpFault::NoSpace) => Err(OpFault::Damaged(Rule::Bitmap)),
+        Err(fault) => Err(fault),
+    }
+}
+
+/// Takes two blocks where two are counted free.
+#[tactic(auto, using(ice_base::proofs::SpareLaws::room_laws, crate::proofs::MarkLaws::two_laws))]
+fn take_two<D: Disk, K: Keep<D>, P: Pool<D, K>>(
+    keep: &mut K,
+    pool: &mut P,
+    disk: &mut D,
+    lot: &Lot,
+) -> Result<(u32, u32), OpFault>
+    requires sited { is_sited lot.now (D.state disk.old).size ≡ true }
+    requires room { 4 ≤ K.room keep.old }
+    ensures took { K.shows lot.now keep.old disk.old → IfOk result (λ p. TookTwo lot.now (K.map keep.old disk.old lot.now) (K.map keep.new disk.new lot.now) p.0 p.1) }
+    ensures first { IfOk result (λ p. is_data lot.now p.0 ≡ true) }
+    ensures second { IfOk result (λ p. is_data lot.now p.1 ≡ true) }
+    ensures only { IfOk result (λ p. (b : ℕ) → b ≢ sub_address → b ≢ bitmap_of false p.0 → b ≢ bitmap_of false p.1 → K.map keep.new disk.new lot.now b ≡ K.map keep.old disk.old lot.now b) }
+    ensures pays { IfOk result (λ p. Pays (K.held keep.old) (K.room keep.old) (K.held keep.new) (K.room keep.new) true (sub_address ∷ bitmap_of false p.0 ∷ bitmap_of false p.1 ∷ [])) }
+    ensures others { (b : ℕ) → b ≢ sub_address → ((o : ℕ) → b ≢ 256 * o) → K.map keep.new disk.new lot.now b ≡ K.map keep.old disk.old lot.now b }
+    ensures spent { Spent D.Disk K.View lot.now 4 keep.old disk.old keep.new disk.new }
+    ensures full { IsErrOf result (Damaged Counts) → K.shows lot.now keep.old disk.old → 2 ^ 32 ≤ counted false (K.map keep.old disk.old lot.now) + 2 }
+    ensures unreserved { IsErrOf result (Damaged Bitmap) → K.shows lot.now keep.old disk.old → 2 ≤ free_count false lot.now (K.map keep.old disk.old lot.now) → ¬ Reserved lot.now (K.map keep.old disk.old lot.now) }
+    ensures faults { IfErr result IsGiveFault }
+    ensures failed { IsErrOf result FaultDisk → Rose (D.state disk.old).faults (D.state disk.new).faults }
+{
+    let first = take_counted(keep, pool, disk, lot)?;
+    let second = take_counted(keep, pool, disk, lot)?;
+    Ok((first, second))
+}
