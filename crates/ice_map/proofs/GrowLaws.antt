@@ -1,5 +1,5 @@
 -- What a growth of a map does.
-use Rattle.std.proofs.Common.{◌≡◌, ◌≢◌, ◌≤◌, ◌<◌, ◌⊎◌, ◌+◌, ◌-◌, ◌*◌, ◌/◌, ◌%◌, ◌==◌, ◌&&◌, ℕ, Bool, true, false, cond, List, [], ◌∷◌, ◌++◌, map, length, slice_index, slice_set, get_or-set_other, get_or-set_same, inl, inr, ◌∙◌, sym, refl, ap, arith, ⊎_elim, subst, ltb}
+use Rattle.std.proofs.Common.{◌≡◌, ◌≢◌, ◌≤◌, ◌<◌, ◌⊎◌, ◌+◌, ◌-◌, ◌*◌, ◌/◌, ◌%◌, ◌==◌, ◌&&◌, ℕ, Bool, true, false, cond, List, [], ◌∷◌, ◌++◌, map, length, slice_index, slice_set, replicate, get_or-set_other, get_or-set_same, inl, inr, ◌∙◌, sym, refl, ap, arith, ⊎_elim, subst, ltb}
 use Rattle.std.proofs.lemmas.Bool.Decides.{nat_tests}
 use Rattle.std.proofs.lemmas.Nat.{div-add-mod', mod_below}
 use Rattle.std.proofs.lemmas.List.FromFn.{map-range_with_len_more}
@@ -11,12 +11,13 @@ use Rattle.ice_base.specs.Pools.{Took}
 use Rattle.ice_base.specs.Spare.{has}
 use Rattle.ice_base.specs.Used.{used_block, is_data, bitmap_of}
 use Rattle.ice_base.proofs.UsedLaws.{data_below, data_place}
+use Rattle.ice_base.proofs.FieldLaws.{word-others}
 use Rattle.ice_map.specs.declared.codec.Inode.{Inode}
 use Rattle.ice_map.specs.Inodes.{inode_at, inode_of}
 use Rattle.ice_map.specs.Maps.{nth_block, blocks_of, indirect_of, uses, times, growth, Marked, Stays, TookTwo, Grown}
 use Rattle.ice_map.proofs.ListLaws.{map_range_same, times-append, has-one}
 use Rattle.ice_map.proofs.MapLaws.{nth-direct, nth-single}
-use Rattle.ice_map.proofs.MarkLaws.{marked-took, marked-then}
+use Rattle.ice_map.proofs.MarkLaws.{marked-took, marked-then, marked-same, data_not_bitmap, data_not_sub}
 
 inode_place : (n : ℕ) → inode_address n % 256 ≡ 1 + n % 64 / 8
 inode_place n =
@@ -140,3 +141,70 @@ grown-direct lot m0 m1 old new count a d single h l place t only =
       used = uses-grow m0 m1 old new count a blocks (λ ne. single);
       named = λ e. absurd (omega arith);
     }
+
+-- a data place that is written leaves the bitmap blocks and the sub-super block
+beside-bitmaps : (lot : LotView) (m1 m2 : ℕ → List ℕ) (s : ℕ) → is_data lot s ≡ true → ((b : ℕ) → b ≢ s → m2 b ≡ m1 b) → (o : ℕ) → m2 (256 * o) ≡ m1 (256 * o)
+beside-bitmaps lot m1 m2 s place only o = only (256 * o) (data_not_bitmap lot s o place)
+
+beside-sub : (lot : LotView) (m1 m2 : ℕ → List ℕ) (s : ℕ) → length lot.groups ≤ 64 → is_data lot s ≡ true → ((b : ℕ) → b ≢ s → m2 b ≡ m1 b) → m2 sub_address ≡ m1 sub_address
+beside-sub lot m1 m2 s few place only = only sub_address (data_not_sub lot s few place)
+
+pub marked-beside : (lot : LotView) (v : Bool) (m0 m1 m2 : ℕ → List ℕ) (xs : List ℕ) (s : ℕ) → length lot.groups ≤ 64 → is_data lot s ≡ true → ((b : ℕ) → b ≢ s → m2 b ≡ m1 b) → Marked lot v m0 m1 xs → Marked lot v m0 m2 xs
+marked-beside lot v m0 m1 m2 xs s few place only k = marked-same lot v m0 m1 m2 xs (beside-bitmaps lot m1 m2 s place only) (beside-sub lot m1 m2 s few place only) k
+
+pub grown-first : (lot : LotView) (m0 m1 m2 : ℕ → List ℕ) (old new : Inode) (block text : List ℕ) (a s : ℕ) → new.direct ≡ old.direct → new.single ≡ s → length lot.groups ≤ 64 → is_data lot s ≡ true
+    → TookTwo lot m0 m1 a s → block ≡ replicate 1024 0 → WordSet block 0 a text → m2 s ≡ text → ((b : ℕ) → b ≢ s → m2 b ≡ m1 b) → Grown lot m0 m2 old new 12 a
+grown-first lot m0 m1 m2 old new block text a s d e few place two z w at only =
+    let blocks = blocks-grow m0 m2 old new 12 a
+    (λ n h. nth-direct m2 new n h ∙ ap (λ (x : List ℕ). slice_index x n) d ∙ sym (nth-direct m0 old n h))
+    (nth-single m2 new 12 (omega arith) ∙ ap (λ (x : List ℕ). word_at x 0) (ap m2 e ∙ at) ∙ w.value) in
+    let named : WordSet (replicate 1024 0) 0 a (m2 new.single) = rw (ap m2 e ∙ at) (subst (λ (x : List ℕ). WordSet x 0 a text) z w) in
+    let took : Marked lot true m0 m2 (a ∷ new.single ∷ []) = rw e (marked-beside lot true m0 m1 m2 (a ∷ s ∷ []) s few place only two.took) in
+    record {
+      blocks = blocks;
+      least = two.first;
+      least_single = λ _. rw e two.second;
+      took = took;
+      used = uses-grow m0 m2 old new 12 a blocks (λ ne. absurd (ne refl));
+      named = λ _. named;
+    }
+
+pub grown-single : (lot : LotView) (m0 m1 m2 : ℕ → List ℕ) (inode : Inode) (block text : List ℕ) (count a : ℕ) → 12 < count → length lot.groups ≤ 64 → is_data lot inode.single ≡ true → is_data lot a ≡ true
+    → Took false m0 m1 a → ((b : ℕ) → b ≢ sub_address → b ≢ bitmap_of false a → m1 b ≡ m0 b)
+    → block ≡ m0 inode.single → WordSet block (4 * (count - 12)) a text → m2 inode.single ≡ text → ((b : ℕ) → b ≢ inode.single → m2 b ≡ m1 b) → Grown lot m0 m2 inode inode count a
+grown-single lot m0 m1 m2 inode block text count a h few place new t puts e w at only =
+    let blocks = blocks-grow m0 m2 inode inode count a
+    (λ n q. elim (ltb n 12) as (λ t. ltb n 12 ≡ t → nth_block m2 inode n ≡ nth_block m0 inode n) [
+      | true ↦ λ t. let l : n < 12 = grind (arith, nat_tests) in nth-direct m2 inode n l ∙ sym (nth-direct m0 inode n l)
+      | false ↦ λ t. let l : 12 ≤ n = grind (arith, nat_tests) in
+          nth-single m2 inode n l ∙ ap (λ (x : List ℕ). word_at x (4 * (n - 12))) at
+          ∙ word-others block text (4 * (count - 12)) a (4 * (n - 12)) w (inl (omega arith))
+          ∙ ap (λ (x : List ℕ). word_at x (4 * (n - 12))) e ∙ sym (nth-single m0 inode n l)
+    ] refl)
+    (nth-single m2 inode count (omega arith) ∙ ap (λ (x : List ℕ). word_at x (4 * (count - 12))) at ∙ w.value) in
+    let one : (count == 12) ≡ false = grind (arith, nat_tests) in
+    let named : WordSet (m0 inode.single) (4 * (count - 12)) a (m2 inode.single) = rw at (subst (λ (x : List ℕ). WordSet x (4 * (count - 12)) a text) e w) in
+    record {
+      blocks = blocks;
+      least = t.least;
+      least_single = λ e. absurd (omega arith);
+      took = rw one (marked-beside lot true m0 m1 m2 (a ∷ []) inode.single few place only (marked-took lot m0 m1 a new t puts));
+      used = uses-grow m0 m2 inode inode count a blocks (λ ne. refl);
+      named = λ _. rw one named;
+    }
+
+-- the second of two blocks that were taken was free
+pub two-free : (lot : LotView) (m0 m1 : ℕ → List ℕ) (a s : ℕ) → TookTwo lot m0 m1 a s → used_block m0 s ≡ false
+two-free lot m0 m1 a s t = let e = t.second.0 in grind arith
+
+-- where the excepted block changed
+pub stays-own : (lot : LotView) (m0 m1 : ℕ → List ℕ) (s : ℕ) → length lot.groups ≤ 64 → is_data lot s ≡ true
+    → ((b : ℕ) → b ≢ sub_address → ((o : ℕ) → b ≢ 256 * o) → b ≢ s → m1 b ≡ m0 b) → Stays lot m0 m1 (s ∷ [])
+stays-own lot m0 m1 s few place only = stays-one lot m0 m1 (s ∷ []) s few place (λ h. let e = has-one s s in absurd (grind (arith, nat_tests))) only
+
+-- what is said of equal maps
+pub grown-from : (lot : LotView) (m0 m1 m2 : ℕ → List ℕ) (old new : Inode) (count a : ℕ) → m1 ≡ m0 → Grown lot m1 m2 old new count a → Grown lot m0 m2 old new count a
+grown-from lot m0 m1 m2 old new count a e g = subst (λ (m : ℕ → List ℕ). Grown lot m m2 old new count a) e g
+
+pub stays-from : (lot : LotView) (m0 m1 m2 : ℕ → List ℕ) (but : List ℕ) → m1 ≡ m0 → Stays lot m1 m2 but → Stays lot m0 m2 but
+stays-from lot m0 m1 m2 but e s = subst (λ (m : ℕ → List ℕ). Stays lot m m2 but) e s

@@ -112,3 +112,77 @@ fn take_two<D: Disk, K: Keep<D>, P: Pool<D, K>>(
     let second = take_counted(keep, pool, disk, lot)?;
     Ok((first, second))
 }
+
+/// The first block past the direct ones: it comes with an indirect block, whose other pointers are zeros.
+#[tactic(auto, using(ice_base::proofs::SpareLaws::room_laws, ice_base::proofs::UsedLaws::group_laws, ice_base::proofs::LotLaws::address_laws))]
+fn extend_first<D: Disk, K: Keep<D>, P: Pool<D, K>>(
+    keep: &mut K,
+    pool: &mut P,
+    disk: &mut D,
+    lot: &Lot,
+    inode: &mut Inode,
+) -> Result<u32, OpFault>
+    requires sited { is_sited lot.now (D.state disk.old).size ≡ true }
+    requires room { 6 ≤ K.room keep.old }
+    ensures grown { K.shows lot.now keep.old disk.old → IfOk result (Grown lot.now (K.map keep.old disk.old lot.now) (K.map keep.new disk.new lot.now) inode.old inode.new 12) }
+    ensures data { IfOk result (λ a. is_data lot.now a ≡ true) }
+    ensures single { OnOk result (is_data lot.now inode.new.single ≡ true) }
+    ensures fields { OnOk result (inode.new ≡ record inode.old { single = inode.new.single }) }
+    ensures kept { OnErr result (inode.new ≡ inode.old) }
+    ensures puts { IfOk result (λ a. Puts K.View lot.now true (sub_address ∷ bitmap_of false a ∷ inode.new.single ∷ bitmap_of false inode.new.single ∷ []) keep.old disk.old keep.new disk.new) }
+    ensures stays { K.shows lot.now keep.old disk.old → Stays lot.now (K.map keep.old disk.old lot.now) (K.map keep.new disk.new lot.now) [] }
+    ensures spent { Spent D.Disk K.View lot.now 6 keep.old disk.old keep.new disk.new }
+    ensures none { IsErrOf result NoSpace → K.shows lot.now keep.old disk.old → free_count false lot.now (K.map keep.old disk.old lot.now) < 2 }
+    ensures full { IsErrOf result (Damaged Counts) → K.shows lot.now keep.old disk.old → 2 ^ 32 ≤ counted false (K.map keep.old disk.old lot.now) + 2 }
+    ensures unreserved { IsErrOf result (Damaged Bitmap) → K.shows lot.now keep.old disk.old → ¬ Reserved lot.now (K.map keep.old disk.old lot.now) }
+    ensures looked { IsErrOf result NoSpace → Looked D.Disk K.View lot.now keep.old disk.old keep.new disk.new }
+    ensures faults { IfErr result IsTakeBlockFault }
+    ensures failed { IsErrOf result FaultDisk → Rose (D.state disk.old).faults (D.state disk.new).faults }
+{
+    if pool.free_blocks(keep, disk, lot)? < 2 {
+        return Err(OpFault::NoSpace);
+    }
+    let (taken, single) = take_two(keep, pool, disk, lot)?;
+    let mut block = [0; 1024];
+    write_u32(&mut block, 0, taken);
+    store(keep, disk, lot, single, &block)?;
+    inode.single = single;
+    Ok(taken)
+}
+
+/// A block past the first that the indirect block names.
+#[tactic(auto, using(ice_base::proofs::SpareLaws::room_laws, ice_base::proofs::UsedLaws::group_laws, ice_base::proofs::LotLaws::address_laws))]
+fn extend_single<D: Disk, K: Keep<D>, P: Pool<D, K>>(
+    keep: &mut K,
+    pool: &mut P,
+    disk: &mut D,
+    lot: &Lot,
+    inode: &Inode,
+    count: u32,
+) -> Result<u32, OpFault>
+    requires sited { is_sited lot.now (D.state disk.old).size ≡ true }
+    requires room { 3 ≤ K.room keep.old }
+    requires long { 12 < count }
+    requires short { count < longest }
+    ensures grown { K.shows lot.now keep.old disk.old → IfOk result (Grown lot.now (K.map keep.old disk.old lot.now) (K.map keep.new disk.new lot.now) inode.now inode.now count) }
+    ensures data { IfOk result (λ a. is_data lot.now a ≡ true) }
+    ensures single { OnOk result (is_data lot.now inode.now.single ≡ true) }
+    ensures puts { IfOk result (λ a. Puts K.View lot.now true (sub_address ∷ bitmap_of false a ∷ inode.now.single ∷ []) keep.old disk.old keep.new disk.new) }
+    ensures stays { Stays lot.now (K.map keep.old disk.old lot.now) (K.map keep.new disk.new lot.now) (inode.now.single ∷ []) }
+    ensures spent { Spent D.Disk K.View lot.now 3 keep.old disk.old keep.new disk.new }
+    ensures pointer { IsErrOf result (Damaged Pointer) → is_data lot.now inode.now.single ≡ false }
+    ensures none { IsErrOf result NoSpace → K.shows lot.now keep.old disk.old → AllUsed false lot.now (K.map keep.old disk.old lot.now) }
+    ensures full { IsErrOf result (Damaged Counts) → K.shows lot.now keep.old disk.old → counted false (K.map keep.old disk.old lot.now) ≡ 2 ^ 32 - 1 }
+    ensures unreserved { IsErrOf result (Damaged Bitmap) → K.shows lot.now keep.old disk.old → ¬ Reserved lot.now (K.map keep.old disk.old lot.now) }
+    ensures looked { IsErrOf result NoSpace → Looked D.Disk K.View lot.now keep.old disk.old keep.new disk.new }
+    ensures faults { IfErr result IsGrowFault }
+    ensures failed { IsErrOf result FaultDisk → Rose (D.state disk.old).faults (D.state disk.new).faults }
+{
+    let single = checked(lot, inode.single)?;
+    let mut block = [0; 1024];
+    fetch(keep, disk, lot, single, &mut block)?;
+    let taken = pool.take_block(keep, disk, lot)?;
+    write_u32(&mut block, 4 * (count - 12) as usize, taken);
+    store(keep, disk, lot, single, &block)?;
+    Ok(taken)
+}
