@@ -8,14 +8,16 @@ use Rattle.ice_base.specs.Fields.{word_at, WordSet}
 use Rattle.ice_base.specs.Inodes.{inode_address}
 use Rattle.ice_base.specs.Lots.{LotView, sub_address}
 use Rattle.ice_base.specs.Pools.{Took}
+use Rattle.ice_base.specs.Views.{Puts}
+use Rattle.ice_base.specs.declared.view.View as view
 use Rattle.ice_base.specs.Spare.{has}
 use Rattle.ice_base.specs.Used.{used_block, is_data, bitmap_of}
 use Rattle.ice_base.proofs.UsedLaws.{data_below, data_place}
 use Rattle.ice_base.proofs.FieldLaws.{word-others}
 use Rattle.ice_map.specs.declared.codec.Inode.{Inode}
 use Rattle.ice_map.specs.Inodes.{inode_at, inode_of}
-use Rattle.ice_map.specs.Maps.{nth_block, blocks_of, indirect_of, uses, times, growth, Marked, Stays, TookTwo, Grown}
-use Rattle.ice_map.proofs.ListLaws.{map_range_same, times-append, has-one}
+use Rattle.ice_map.specs.Maps.{nth_block, blocks_of, indirect_of, uses, times, growth, Marked, Stays, TookTwo, Grown, growth_puts, needs, Owns, MapStays, OthersStay}
+use Rattle.ice_map.proofs.ListLaws.{map_range_same, times-append, has-append, has-one, has-none}
 use Rattle.ice_map.proofs.MapLaws.{nth-direct, nth-single}
 use Rattle.ice_map.proofs.MarkLaws.{marked-took, marked-then, marked-same, data_not_bitmap, data_not_sub}
 
@@ -71,6 +73,18 @@ blocks-grow m0 m1 old new count a same next =
     map-range_with_len_more (nth_block m1 new) 0 count count (omega arith)
     ∙ ap (λ (xs : List ℕ). xs ++ nth_block m1 new count ∷ []) (map_range_same (nth_block m1 new) (nth_block m0 old) 0 count (λ k l h. same k (omega arith)))
     ∙ ap (λ x. blocks_of m0 old count ++ x ∷ []) next
+
+-- the blocks that were taken were free
+fresh-one : (m : ℕ → List ℕ) (a b : ℕ) → used_block m a ≡ false → has (a ∷ []) b ≡ true → used_block m b ≡ false
+fresh-one m a b f h = let e : b ≡ a = grind (arith, nat_tests, has-one) in ap (used_block m) e ∙ f
+
+fresh-two : (m : ℕ → List ℕ) (a s b : ℕ) → used_block m a ≡ false → used_block m s ≡ false → has (a ∷ s ∷ []) b ≡ true → used_block m b ≡ false
+fresh-two m a s b f g h =
+    let l = has-append (a ∷ []) (s ∷ []) b in
+    elim (has (a ∷ []) b) as (λ t. has (a ∷ []) b ≡ t → used_block m b ≡ false) [
+      | true ↦ λ t. fresh-one m a b f t
+      | false ↦ λ t. fresh-one m s b g (grind arith)
+    ] refl
 
 indirect-none : (inode : Inode) (count : ℕ) → count ≤ 12 → indirect_of inode count ≡ []
 indirect-none inode count h = grind (arith, nat_tests)
@@ -137,10 +151,15 @@ grown-direct lot m0 m1 old new count a d single h l place t only =
       blocks = blocks;
       least = t.least;
       least_single = λ e. absurd (omega arith);
+      fresh = rw one (λ b. fresh-one m0 a b t.least.0);
       took = rw one (marked-took lot m0 m1 a place t only);
       used = uses-grow m0 m1 old new count a blocks (λ ne. single);
       named = λ e. absurd (omega arith);
     }
+
+-- the second of two blocks that were taken was free
+pub two-free : (lot : LotView) (m0 m1 : ℕ → List ℕ) (a s : ℕ) → TookTwo lot m0 m1 a s → used_block m0 s ≡ false
+two-free lot m0 m1 a s t = let e = t.second.0 in grind arith
 
 -- a data place that is written leaves the bitmap blocks and the sub-super block
 beside-bitmaps : (lot : LotView) (m1 m2 : ℕ → List ℕ) (s : ℕ) → is_data lot s ≡ true → ((b : ℕ) → b ≢ s → m2 b ≡ m1 b) → (o : ℕ) → m2 (256 * o) ≡ m1 (256 * o)
@@ -159,11 +178,13 @@ grown-first lot m0 m1 m2 old new block text a s d e few place two z w at only =
     (λ n h. nth-direct m2 new n h ∙ ap (λ (x : List ℕ). slice_index x n) d ∙ sym (nth-direct m0 old n h))
     (nth-single m2 new 12 (omega arith) ∙ ap (λ (x : List ℕ). word_at x 0) (ap m2 e ∙ at) ∙ w.value) in
     let named : WordSet (replicate 1024 0) 0 a (m2 new.single) = rw (ap m2 e ∙ at) (subst (λ (x : List ℕ). WordSet x 0 a text) z w) in
+    let fresh : (b : ℕ) → has (a ∷ new.single ∷ []) b ≡ true → used_block m0 b ≡ false = (λ b. fresh-two m0 a new.single b two.first.0 (ap (used_block m0) e ∙ two-free lot m0 m1 a s two)) in
     let took : Marked lot true m0 m2 (a ∷ new.single ∷ []) = rw e (marked-beside lot true m0 m1 m2 (a ∷ s ∷ []) s few place only two.took) in
     record {
       blocks = blocks;
       least = two.first;
       least_single = λ _. rw e two.second;
+      fresh = fresh;
       took = took;
       used = uses-grow m0 m2 old new 12 a blocks (λ ne. absurd (ne refl));
       named = λ _. named;
@@ -188,23 +209,77 @@ grown-single lot m0 m1 m2 inode block text count a h few place new t puts e w at
       blocks = blocks;
       least = t.least;
       least_single = λ e. absurd (omega arith);
+      fresh = rw one (λ b. fresh-one m0 a b t.least.0);
       took = rw one (marked-beside lot true m0 m1 m2 (a ∷ []) inode.single few place only (marked-took lot m0 m1 a new t puts));
       used = uses-grow m0 m2 inode inode count a blocks (λ ne. refl);
       named = λ _. rw one named;
     }
 
--- the second of two blocks that were taken was free
-pub two-free : (lot : LotView) (m0 m1 : ℕ → List ℕ) (a s : ℕ) → TookTwo lot m0 m1 a s → used_block m0 s ≡ false
-two-free lot m0 m1 a s t = let e = t.second.0 in grind arith
-
--- where the excepted block changed
-pub stays-own : (lot : LotView) (m0 m1 : ℕ → List ℕ) (s : ℕ) → length lot.groups ≤ 64 → is_data lot s ≡ true
-    → ((b : ℕ) → b ≢ sub_address → ((o : ℕ) → b ≢ 256 * o) → b ≢ s → m1 b ≡ m0 b) → Stays lot m0 m1 (s ∷ [])
-stays-own lot m0 m1 s few place only = stays-one lot m0 m1 (s ∷ []) s few place (λ h. let e = has-one s s in absurd (grind (arith, nat_tests))) only
+-- where the indirect block of the map changed
+pub stays-own : (lot : LotView) (m0 m1 : ℕ → List ℕ) (inode : Inode) (count : ℕ) → 12 < count → length lot.groups ≤ 64 → is_data lot inode.single ≡ true
+    → ((b : ℕ) → b ≢ sub_address → ((o : ℕ) → b ≢ 256 * o) → b ≢ inode.single → m1 b ≡ m0 b) → Stays lot m0 m1 (indirect_of inode count)
+stays-own lot m0 m1 inode count h few place only =
+    let mine = ap (λ xs. has xs inode.single) (indirect-one inode count h) ∙ has-one inode.single inode.single in
+    stays-one lot m0 m1 (indirect_of inode count) inode.single few place (λ e. absurd (grind (arith, nat_tests))) only
 
 -- what is said of equal maps
 pub grown-from : (lot : LotView) (m0 m1 m2 : ℕ → List ℕ) (old new : Inode) (count a : ℕ) → m1 ≡ m0 → Grown lot m1 m2 old new count a → Grown lot m0 m2 old new count a
 grown-from lot m0 m1 m2 old new count a e g = subst (λ (m : ℕ → List ℕ). Grown lot m m2 old new count a) e g
 
+pub grown-twelve : (lot : LotView) (m0 m2 : ℕ → List ℕ) (old new : Inode) (count a : ℕ) → count ≡ 12 → Grown lot m0 m2 old new 12 a → Grown lot m0 m2 old new count a
+grown-twelve lot m0 m2 old new count a e g = subst (λ n. Grown lot m0 m2 old new n a) (sym e) g
+
 pub stays-from : (lot : LotView) (m0 m1 m2 : ℕ → List ℕ) (but : List ℕ) → m1 ≡ m0 → Stays lot m1 m2 but → Stays lot m0 m2 but
 stays-from lot m0 m1 m2 but e s = subst (λ (m : ℕ → List ℕ). Stays lot m m2 but) e s
+
+-- which addresses a growth puts, by its three cases
+pub puts-direct : (count a s : ℕ) → count < 12 → growth_puts count a s ≡ sub_address ∷ bitmap_of false a ∷ []
+puts-direct count a s h = grind (arith, nat_tests)
+
+pub puts-first : (count a s : ℕ) → count ≡ 12 → growth_puts count a s ≡ sub_address ∷ bitmap_of false a ∷ s ∷ bitmap_of false s ∷ []
+puts-first count a s h = grind (arith, nat_tests)
+
+pub puts-single : (count a s : ℕ) → 12 < count → growth_puts count a s ≡ sub_address ∷ bitmap_of false a ∷ s ∷ []
+puts-single count a s h = grind (arith, nat_tests)
+
+pub puts-same : {V D : Type 0} (k : view.Ghosts V D) (lot : LotView) (ok : Bool) (xs ys : List ℕ) (v : V) (e : D) (w : V) (f : D) → ys ≡ xs → Puts k lot ok xs v e w f → Puts k lot ok ys v e w f
+puts-same {V} {D} k lot ok xs ys v e w f same p = subst (λ (zs : List ℕ). Puts k lot ok zs v e w f) (sym same) p
+
+-- how many blocks a growth takes, by its cases
+pub needs-one : (count : ℕ) → count ≢ 12 → needs count ≡ 1
+needs-one count h = grind (arith, nat_tests)
+
+pub needs-two : (count : ℕ) → count ≡ 12 → needs count ≡ 2
+needs-two count h = grind (arith, nat_tests)
+
+pub ruleset needs_laws = (needs-one, needs-two)
+
+-- a map whose blocks stay
+pub map-stays : (m0 m1 : ℕ → List ℕ) (inode : Inode) (count : ℕ) → ((b : ℕ) → has (uses m0 inode count) b ≡ true → m1 b ≡ m0 b) → MapStays m0 m1 inode count
+map-stays m0 m1 inode count same = record {
+  blocks = map_range_same (nth_block m1 inode) (nth_block m0 inode) 0 count
+      (λ k l h. elim (ltb k 12) as (λ t. ltb k 12 ≡ t → nth_block m1 inode k ≡ nth_block m0 inode k) [
+        | true ↦ λ t. let n : k < 12 = grind (arith, nat_tests) in nth-direct m1 inode k n ∙ sym (nth-direct m0 inode k n)
+        | false ↦ λ t. let n : 12 ≤ k = grind (arith, nat_tests) in
+            let one = indirect-one inode count (omega arith) in
+            let front = has-append (indirect_of inode count) (blocks_of m0 inode count) inode.single in
+            let mine = ap (λ xs. has xs inode.single) one ∙ has-one inode.single inode.single in
+            let e = same inode.single (grind (arith, nat_tests)) in
+            nth-single m1 inode k n ∙ ap (λ (x : List ℕ). word_at x (4 * (k - 12))) e ∙ sym (nth-single m0 inode k n)
+      ] refl);
+  bytes = same;
+}
+
+-- what stays of the others
+pub others-stay : (lot : LotView) (m0 m1 : ℕ → List ℕ) (inode : Inode) (count : ℕ) → Stays lot m0 m1 (indirect_of inode count) → OthersStay lot m0 m1 inode count
+others-stay lot m0 m1 inode count s other n owns apart = map-stays m0 m1 other n (λ b h. s.blocks b (owns b h).0 (owns b h).1
+    (elim (ltb 12 count) as (λ t. ltb 12 count ≡ t → has (indirect_of inode count) b ≡ false) [
+      | true ↦ λ t. let l : 12 < count = grind (arith, nat_tests) in
+          let not_mine = apart l in
+          let one = ap (λ xs. has xs b) (indirect-one inode count l) ∙ has-one inode.single b in
+          elim (b == inode.single) as (λ u. (b == inode.single) ≡ u → has (indirect_of inode count) b ≡ false) [
+            | true ↦ λ u. let e : b ≡ inode.single = grind (arith, nat_tests) in let q = ap (λ x. has (uses m0 other n) x) e in absurd cc
+            | false ↦ λ u. one ∙ u
+          ] refl
+      | false ↦ λ t. let l : count ≤ 12 = grind (arith, nat_tests) in ap (λ xs. has xs b) (indirect-none inode count l) ∙ has-none b
+    ] refl))

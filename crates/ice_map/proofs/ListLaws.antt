@@ -19,6 +19,10 @@ pub has-one : (a b : ℕ) → has (a ∷ []) b ≡ (b == a)
 unfolding has
 has-one a b = grind (arith, nat_tests)
 
+pub has-none : (b : ℕ) → has [] b ≡ false
+unfolding has
+has-none b = refl
+
 pub times-append : (xs ys : List ℕ) (b : ℕ) → times (xs ++ ys) b ≡ times xs b + times ys b
 times-append xs ys b = sum_by-append (λ x. cond (x == b) 1 0) xs ys
 

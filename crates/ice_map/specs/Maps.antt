@@ -89,6 +89,20 @@ pub record Grown (lot : LotView) (old new : ℕ → List ℕ) (before after : In
   pub blocks : blocks_of new after (count + 1) ≡ blocks_of old before count ++ a ∷ []
   pub least : IsLeast (used_block old) a
   pub least_single : count ≡ 12 → IsLeast (λ b. cond (b == a) true (used_block old b)) after.single
+  pub fresh : (b : ℕ) → has (growth count a after.single) b ≡ true → used_block old b ≡ false
   pub took : Marked lot true old new (growth count a after.single)
   pub used : (b : ℕ) → times (uses new after (count + 1)) b ≡ times (uses old before count) b + times (growth count a after.single) b
   pub named : 12 ≤ count → WordSet (cond (count == 12) (replicate 1024 0) (old after.single)) (4 * (count - 12)) a (new after.single)
+
+-- every block that a map uses is a data place that is marked used
+abbrev pub Owns : LotView → (ℕ → List ℕ) → Inode → ℕ → Type 0
+Owns lot m inode count = (b : ℕ) → has (uses m inode count) b ≡ true → (is_data lot b ≡ true) × (used_block m b ≡ true)
+
+-- a map of `count` blocks is as it was: the list of its blocks, and the bytes of each block that it uses
+pub record MapStays (old new : ℕ → List ℕ) (inode : Inode) (count : ℕ) : Type 0 where
+  pub blocks : blocks_of new inode count ≡ blocks_of old inode count
+  pub bytes : (b : ℕ) → has (uses old inode count) b ≡ true → new b ≡ old b
+
+-- so is each map that uses used blocks, and not the indirect block of a map of `count` blocks of this inode
+abbrev pub OthersStay : LotView → (ℕ → List ℕ) → (ℕ → List ℕ) → Inode → ℕ → Type 0
+OthersStay lot old new inode count = (other : Inode) (n : ℕ) → Owns lot old other n → (12 < count → has (uses old other n) inode.single ≡ false) → MapStays old new other n

@@ -12,7 +12,7 @@ ghost use Rattle.ice_base.specs.Views.{Looked, Spent, Puts};
 ghost use Rattle.ice_base.specs.declared.fault.OpFault.TheVariants.{Disk as FaultDisk, Damaged, NoSpace};
 ghost use Rattle.ice_base.specs.declared.fault.Rule.TheVariants.{Counts, Pointer, Bitmap};
 ghost use Rattle.ice_map.specs.Faults.{IsGrowFault};
-ghost use Rattle.ice_map.specs.Maps.{longest, indirect_of, needs, growth, growth_puts, widened, Marked, Stays, TookTwo, Grown};
+ghost use Rattle.ice_map.specs.Maps.{longest, indirect_of, needs, growth, growth_puts, widened, Marked, Stays, OthersStay, TookTwo, Grown};
 
 use crate::blocks::{fetch, store};
 use crate::codec::Inode;
@@ -27,7 +27,7 @@ fn set_direct(direct: &mut [u32; 12], k: u32, value: u32)
     direct[k as usize] = value;
 }
 
-#[tactic(auto, using(ice_base::proofs::SpareLaws::room_laws))]
+#[tactic(auto, using(ice_base::proofs::SpareLaws::room_laws, crate::proofs::MarkLaws::none_free, crate::proofs::GrowLaws::needs_laws))]
 fn extend_direct<D: Disk, K: Keep<D>, P: Pool<D, K>>(
     keep: &mut K,
     pool: &mut P,
@@ -37,20 +37,22 @@ fn extend_direct<D: Disk, K: Keep<D>, P: Pool<D, K>>(
     count: u32,
 ) -> Result<u32, OpFault>
     requires sited { is_sited lot.now (D.state disk.old).size ≡ true }
-    requires room { 2 ≤ K.room keep.old }
+    requires room { 6 ≤ K.room keep.old }
     requires short { count < 12 }
     ensures grown { K.shows lot.now keep.old disk.old → IfOk result (Grown lot.now (K.map keep.old disk.old lot.now) (K.map keep.new disk.new lot.now) inode.old inode.new count) }
     ensures data { IfOk result (λ a. is_data lot.now a ≡ true) }
-    ensures fields { IfOk result (λ a. inode.new ≡ record inode.old { direct = slice_set inode.old.direct count a }) }
+    ensures single { OnOk result (12 ≤ count → is_data lot.now inode.new.single ≡ true) }
+    ensures fields { IfOk result (λ a. inode.new ≡ widened inode.old count a inode.new.single) }
     ensures kept { OnErr result (inode.new ≡ inode.old) }
-    ensures puts { IfOk result (λ a. PutsFor K.View lot.now true false a keep.old disk.old keep.new disk.new) }
-    ensures stays { Stays lot.now (K.map keep.old disk.old lot.now) (K.map keep.new disk.new lot.now) [] }
-    ensures spent { Spent D.Disk K.View lot.now 2 keep.old disk.old keep.new disk.new }
-    ensures none { IsErrOf result NoSpace → K.shows lot.now keep.old disk.old → AllUsed false lot.now (K.map keep.old disk.old lot.now) }
-    ensures full { IsErrOf result (Damaged Counts) → K.shows lot.now keep.old disk.old → counted false (K.map keep.old disk.old lot.now) ≡ 2 ^ 32 - 1 }
+    ensures puts { IfOk result (λ a. Puts K.View lot.now true (growth_puts count a inode.new.single) keep.old disk.old keep.new disk.new) }
+    ensures stays { K.shows lot.now keep.old disk.old → Stays lot.now (K.map keep.old disk.old lot.now) (K.map keep.new disk.new lot.now) (indirect_of inode.old count) }
+    ensures spent { Spent D.Disk K.View lot.now 6 keep.old disk.old keep.new disk.new }
+    ensures none { IsErrOf result NoSpace → K.shows lot.now keep.old disk.old → free_count false lot.now (K.map keep.old disk.old lot.now) < needs count }
+    ensures full { IsErrOf result (Damaged Counts) → K.shows lot.now keep.old disk.old → 2 ^ 32 ≤ counted false (K.map keep.old disk.old lot.now) + needs count }
     ensures unreserved { IsErrOf result (Damaged Bitmap) → K.shows lot.now keep.old disk.old → ¬ Reserved lot.now (K.map keep.old disk.old lot.now) }
+    ensures pointer { IsErrOf result (Damaged Pointer) → (12 < count) × (is_data lot.now inode.old.single ≡ false) }
     ensures looked { IsErrOf result NoSpace → Looked D.Disk K.View lot.now keep.old disk.old keep.new disk.new }
-    ensures faults { IfErr result IsTakeBlockFault }
+    ensures faults { IfErr result IsGrowFault }
     ensures failed { IsErrOf result FaultDisk → Rose (D.state disk.old).faults (D.state disk.new).faults }
 {
     let taken = pool.take_block(keep, disk, lot)?;
@@ -114,29 +116,32 @@ fn take_two<D: Disk, K: Keep<D>, P: Pool<D, K>>(
 }
 
 /// The first block past the direct ones: it comes with an indirect block, whose other pointers are zeros.
-#[tactic(auto, using(ice_base::proofs::SpareLaws::room_laws, ice_base::proofs::UsedLaws::group_laws, ice_base::proofs::LotLaws::address_laws))]
+#[tactic(auto, using(ice_base::proofs::SpareLaws::room_laws, ice_base::proofs::UsedLaws::group_laws, ice_base::proofs::LotLaws::address_laws, crate::proofs::MarkLaws::none_free, crate::proofs::GrowLaws::needs_laws))]
 fn extend_first<D: Disk, K: Keep<D>, P: Pool<D, K>>(
     keep: &mut K,
     pool: &mut P,
     disk: &mut D,
     lot: &Lot,
     inode: &mut Inode,
+    count: u32,
 ) -> Result<u32, OpFault>
     requires sited { is_sited lot.now (D.state disk.old).size ≡ true }
     requires room { 6 ≤ K.room keep.old }
-    ensures grown { K.shows lot.now keep.old disk.old → IfOk result (Grown lot.now (K.map keep.old disk.old lot.now) (K.map keep.new disk.new lot.now) inode.old inode.new 12) }
+    requires twelve { count ≡ 12 }
+    ensures grown { K.shows lot.now keep.old disk.old → IfOk result (Grown lot.now (K.map keep.old disk.old lot.now) (K.map keep.new disk.new lot.now) inode.old inode.new count) }
     ensures data { IfOk result (λ a. is_data lot.now a ≡ true) }
-    ensures single { OnOk result (is_data lot.now inode.new.single ≡ true) }
-    ensures fields { OnOk result (inode.new ≡ record inode.old { single = inode.new.single }) }
+    ensures single { OnOk result (12 ≤ count → is_data lot.now inode.new.single ≡ true) }
+    ensures fields { IfOk result (λ a. inode.new ≡ widened inode.old count a inode.new.single) }
     ensures kept { OnErr result (inode.new ≡ inode.old) }
-    ensures puts { IfOk result (λ a. Puts K.View lot.now true (sub_address ∷ bitmap_of false a ∷ inode.new.single ∷ bitmap_of false inode.new.single ∷ []) keep.old disk.old keep.new disk.new) }
-    ensures stays { K.shows lot.now keep.old disk.old → Stays lot.now (K.map keep.old disk.old lot.now) (K.map keep.new disk.new lot.now) [] }
+    ensures puts { IfOk result (λ a. Puts K.View lot.now true (growth_puts count a inode.new.single) keep.old disk.old keep.new disk.new) }
+    ensures stays { K.shows lot.now keep.old disk.old → Stays lot.now (K.map keep.old disk.old lot.now) (K.map keep.new disk.new lot.now) (indirect_of inode.old count) }
     ensures spent { Spent D.Disk K.View lot.now 6 keep.old disk.old keep.new disk.new }
-    ensures none { IsErrOf result NoSpace → K.shows lot.now keep.old disk.old → free_count false lot.now (K.map keep.old disk.old lot.now) < 2 }
-    ensures full { IsErrOf result (Damaged Counts) → K.shows lot.now keep.old disk.old → 2 ^ 32 ≤ counted false (K.map keep.old disk.old lot.now) + 2 }
+    ensures none { IsErrOf result NoSpace → K.shows lot.now keep.old disk.old → free_count false lot.now (K.map keep.old disk.old lot.now) < needs count }
+    ensures full { IsErrOf result (Damaged Counts) → K.shows lot.now keep.old disk.old → 2 ^ 32 ≤ counted false (K.map keep.old disk.old lot.now) + needs count }
     ensures unreserved { IsErrOf result (Damaged Bitmap) → K.shows lot.now keep.old disk.old → ¬ Reserved lot.now (K.map keep.old disk.old lot.now) }
+    ensures pointer { IsErrOf result (Damaged Pointer) → (12 < count) × (is_data lot.now inode.old.single ≡ false) }
     ensures looked { IsErrOf result NoSpace → Looked D.Disk K.View lot.now keep.old disk.old keep.new disk.new }
-    ensures faults { IfErr result IsTakeBlockFault }
+    ensures faults { IfErr result IsGrowFault }
     ensures failed { IsErrOf result FaultDisk → Rose (D.state disk.old).faults (D.state disk.new).faults }
 {
     if pool.free_blocks(keep, disk, lot)? < 2 {
@@ -151,29 +156,31 @@ fn extend_first<D: Disk, K: Keep<D>, P: Pool<D, K>>(
 }
 
 /// A block past the first that the indirect block names.
-#[tactic(auto, using(ice_base::proofs::SpareLaws::room_laws, ice_base::proofs::UsedLaws::group_laws, ice_base::proofs::LotLaws::address_laws))]
+#[tactic(auto, using(ice_base::proofs::SpareLaws::room_laws, ice_base::proofs::UsedLaws::group_laws, ice_base::proofs::LotLaws::address_laws, crate::proofs::MarkLaws::none_free, crate::proofs::GrowLaws::needs_laws))]
 fn extend_single<D: Disk, K: Keep<D>, P: Pool<D, K>>(
     keep: &mut K,
     pool: &mut P,
     disk: &mut D,
     lot: &Lot,
-    inode: &Inode,
+    inode: &mut Inode,
     count: u32,
 ) -> Result<u32, OpFault>
     requires sited { is_sited lot.now (D.state disk.old).size ≡ true }
-    requires room { 3 ≤ K.room keep.old }
+    requires room { 6 ≤ K.room keep.old }
     requires long { 12 < count }
     requires short { count < longest }
-    ensures grown { K.shows lot.now keep.old disk.old → IfOk result (Grown lot.now (K.map keep.old disk.old lot.now) (K.map keep.new disk.new lot.now) inode.now inode.now count) }
+    ensures grown { K.shows lot.now keep.old disk.old → IfOk result (Grown lot.now (K.map keep.old disk.old lot.now) (K.map keep.new disk.new lot.now) inode.old inode.new count) }
     ensures data { IfOk result (λ a. is_data lot.now a ≡ true) }
-    ensures single { OnOk result (is_data lot.now inode.now.single ≡ true) }
-    ensures puts { IfOk result (λ a. Puts K.View lot.now true (sub_address ∷ bitmap_of false a ∷ inode.now.single ∷ []) keep.old disk.old keep.new disk.new) }
-    ensures stays { Stays lot.now (K.map keep.old disk.old lot.now) (K.map keep.new disk.new lot.now) (inode.now.single ∷ []) }
-    ensures spent { Spent D.Disk K.View lot.now 3 keep.old disk.old keep.new disk.new }
-    ensures pointer { IsErrOf result (Damaged Pointer) → is_data lot.now inode.now.single ≡ false }
-    ensures none { IsErrOf result NoSpace → K.shows lot.now keep.old disk.old → AllUsed false lot.now (K.map keep.old disk.old lot.now) }
-    ensures full { IsErrOf result (Damaged Counts) → K.shows lot.now keep.old disk.old → counted false (K.map keep.old disk.old lot.now) ≡ 2 ^ 32 - 1 }
+    ensures single { OnOk result (12 ≤ count → is_data lot.now inode.new.single ≡ true) }
+    ensures fields { IfOk result (λ a. inode.new ≡ widened inode.old count a inode.new.single) }
+    ensures kept { OnErr result (inode.new ≡ inode.old) }
+    ensures puts { IfOk result (λ a. Puts K.View lot.now true (growth_puts count a inode.new.single) keep.old disk.old keep.new disk.new) }
+    ensures stays { K.shows lot.now keep.old disk.old → Stays lot.now (K.map keep.old disk.old lot.now) (K.map keep.new disk.new lot.now) (indirect_of inode.old count) }
+    ensures spent { Spent D.Disk K.View lot.now 6 keep.old disk.old keep.new disk.new }
+    ensures none { IsErrOf result NoSpace → K.shows lot.now keep.old disk.old → free_count false lot.now (K.map keep.old disk.old lot.now) < needs count }
+    ensures full { IsErrOf result (Damaged Counts) → K.shows lot.now keep.old disk.old → 2 ^ 32 ≤ counted false (K.map keep.old disk.old lot.now) + needs count }
     ensures unreserved { IsErrOf result (Damaged Bitmap) → K.shows lot.now keep.old disk.old → ¬ Reserved lot.now (K.map keep.old disk.old lot.now) }
+    ensures pointer { IsErrOf result (Damaged Pointer) → (12 < count) × (is_data lot.now inode.old.single ≡ false) }
     ensures looked { IsErrOf result NoSpace → Looked D.Disk K.View lot.now keep.old disk.old keep.new disk.new }
     ensures faults { IfErr result IsGrowFault }
     ensures failed { IsErrOf result FaultDisk → Rose (D.state disk.old).faults (D.state disk.new).faults }
@@ -185,4 +192,44 @@ fn extend_single<D: Disk, K: Keep<D>, P: Pool<D, K>>(
     write_u32(&mut block, 4 * (count - 12) as usize, taken);
     store(keep, disk, lot, single, &block)?;
     Ok(taken)
+}
+
+/// Gives a map of `count` blocks one more, which is answered: the least free block, and with the first block past the direct ones
+/// the least free block after that as the indirect block. The inode is the caller's to put.
+/// NoSpace: fewer blocks are free than that takes. Damaged: the count of used blocks can't grow so far, or the least free block is no data place, or the indirect block is none.
+pub fn extend<D: Disk, K: Keep<D>, P: Pool<D, K>, F: Form>(
+    keep: &mut K,
+    pool: &mut P,
+    disk: &mut D,
+    lot: &Lot,
+    inode: &mut Inode,
+    count: u32,
+) -> Result<u32, OpFault>
+    requires sited { is_sited lot.now (D.state disk.old).size ≡ true }
+    requires room { 6 ≤ K.room keep.old }
+    requires short { count < longest }
+    ensures grown { K.shows lot.now keep.old disk.old → IfOk result (Grown lot.now (K.map keep.old disk.old lot.now) (K.map keep.new disk.new lot.now) inode.old inode.new count) }
+    ensures data { IfOk result (λ a. is_data lot.now a ≡ true) }
+    ensures single { OnOk result (12 ≤ count → is_data lot.now inode.new.single ≡ true) }
+    ensures fields { IfOk result (λ a. inode.new ≡ widened inode.old count a inode.new.single) }
+    ensures kept { OnErr result (inode.new ≡ inode.old) }
+    ensures puts { IfOk result (λ a. Puts K.View lot.now true (growth_puts count a inode.new.single) keep.old disk.old keep.new disk.new) }
+    ensures stays { K.shows lot.now keep.old disk.old → Stays lot.now (K.map keep.old disk.old lot.now) (K.map keep.new disk.new lot.now) (indirect_of inode.old count) }
+    ensures others { K.shows lot.now keep.old disk.old → OthersStay lot.now (K.map keep.old disk.old lot.now) (K.map keep.new disk.new lot.now) inode.old count }
+    ensures spent { Spent D.Disk K.View lot.now 6 keep.old disk.old keep.new disk.new }
+    ensures none { IsErrOf result NoSpace → K.shows lot.now keep.old disk.old → free_count false lot.now (K.map keep.old disk.old lot.now) < needs count }
+    ensures full { IsErrOf result (Damaged Counts) → K.shows lot.now keep.old disk.old → 2 ^ 32 ≤ counted false (K.map keep.old disk.old lot.now) + needs count }
+    ensures unreserved { IsErrOf result (Damaged Bitmap) → K.shows lot.now keep.old disk.old → ¬ Reserved lot.now (K.map keep.old disk.old lot.now) }
+    ensures pointer { IsErrOf result (Damaged Pointer) → (12 < count) × (is_data lot.now inode.old.single ≡ false) }
+    ensures looked { IsErrOf result NoSpace → Looked D.Disk K.View lot.now keep.old disk.old keep.new disk.new }
+    ensures faults { IfErr result IsGrowFault }
+    ensures failed { IsErrOf result FaultDisk → Rose (D.state disk.old).faults (D.state disk.new).faults }
+{
+    if count < 12 {
+        return extend_direct(keep, pool, disk, lot, inode, count);
+    }
+    if count == 12 {
+        return extend_first(keep, pool, disk, lot, inode, count);
+    }
+    extend_single(keep, pool, disk, lot, inode, count)
 }

@@ -9,5 +9,6 @@ mod maps;
 
 pub use blocks::{fetch, store};
 pub use codec::{Inode, read_inode, write_inode};
+pub use extends::extend;
 pub use inodes::{get_inode, put_inode};
 pub use maps::nth;

@@ -4,22 +4,22 @@ use Rattle.ice_map.proofs.GrowLaws.{stays-none, stays-own, stays-from, grown-sin
 use Rattle.ice_map.proofs.extends.extend_single.Goals as goal
 
 pub returns-in_err-taken-clause-stays : goal.returns-in_err-taken-clause-stays
-returns-in_err-taken-clause-stays g c =
+returns-in_err-taken-clause-stays g c = λ s.
     let p = c.in_err-taken.ensures.broken in
     stays-from _ _ _ _ _ c.fetch.ensures.looked.map (stays-none c.args.lot.now _ _ _ (sited-few _ _ c.requires.sited) (λ b n h. p.2.only b n (h p.0)))
 
 pub returns-in_err-store-clause-stays : goal.returns-in_err-store-clause-stays
-returns-in_err-store-clause-stays g c =
+returns-in_err-store-clause-stays g c = λ s.
     let e = c.in_ok-single.ensures.same in
     stays-from _ _ _ _ _ c.fetch.ensures.looked.map
-    (stays-own c.args.lot.now _ _ c.args.inode.now.single (sited-few _ _ c.requires.sited) c.in_ok-single.ensures.data
+    (stays-own c.args.lot.now _ _ c.args.inode.now c.args.count c.requires.long (sited-few _ _ c.requires.sited) c.in_ok-single.ensures.data
     (λ b n h k. c.store.ensures.puts.only b (λ q. k (q ∙ e)) ∙ c.in_ok-taken.ensures.puts.only b n (h _)))
 
 pub returns-clause-stays : goal.returns-clause-stays
-returns-clause-stays g c =
+returns-clause-stays g c = λ s.
     let e = c.in_ok-single.ensures.same in
     stays-from _ _ _ _ _ c.fetch.ensures.looked.map
-    (stays-own c.args.lot.now _ _ c.args.inode.now.single (sited-few _ _ c.requires.sited) c.in_ok-single.ensures.data
+    (stays-own c.args.lot.now _ _ c.args.inode.now c.args.count c.requires.long (sited-few _ _ c.requires.sited) c.in_ok-single.ensures.data
     (λ b n h k. c.store.ensures.puts.only b (λ q. k (q ∙ e)) ∙ c.in_ok-taken.ensures.puts.only b n (h _)))
 
 pub returns-clause-grown : goal.returns-clause-grown
