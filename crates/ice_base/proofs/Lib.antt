@@ -8,3 +8,4 @@ pub mod LotLaws
 pub mod SpareLaws
 pub mod UsedLaws
 pub mod CountLaws
+pub mod PutsLaws

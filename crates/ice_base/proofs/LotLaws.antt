@@ -1,10 +1,10 @@
 -- where the addresses of a lot lie
-use Rattle.std.proofs.Common.{◌≡◌, ◌≢◌, ℕ, suc, [], ◌∷◌, ◌+◌, ◌*◌, ◌/◌, ◌%◌, ◌<◌, ◌≤◌, Bool, true, false, ◌&&◌, nat_lt, nat_le, ◌⊎◌, List, length, slice_index, inl, inr, ⊎_elim, sym, arith, refl}
+use Rattle.std.proofs.Common.{◌≡◌, ◌≢◌, ℕ, suc, [], ◌∷◌, ◌+◌, ◌*◌, ◌/◌, ◌%◌, ◌<◌, ◌≤◌, Bool, true, false, cond, ◌&&◌, nat_lt, nat_le, ◌⊎◌, List, length, slice_index, inl, inr, ⊎_elim, sym, arith, refl}
 use Rattle.std.specs.List.{list_all, list_any}
 use Rattle.std.proofs.lemmas.Bool.Decides.{nat_tests}
 use Rattle.std.proofs.lemmas.Nat.{same_from_place, div-add-mod', mod_below, div_below}
 use Rattle.std.proofs.lemmas.List.Folds.{list_any_at, list_all_at}
-use Rattle.ice_base.specs.Lots.{LotView, IsLot, is_address, place, lies_below, in_extent, extent, sub_address, is_sited, area, gate_place, header_place, body_place, NoneShared}
+use Rattle.ice_base.specs.Lots.{LotView, IsLot, is_address, place, lies_below, in_extent, extent, sub_address, is_sited, area, gate_place, header_place, body_place, NoneShared, inside}
 
 pub address_cases : (lot : LotView) (a : ℕ) → is_address lot a ≡ true → (a ≡ sub_address) ⊎ ((a ≢ sub_address) × (a < 256 * length lot.groups))
 unfolding is_address
@@ -210,3 +210,15 @@ lots_apart a b la lb base slots groups k ea eb =
     (extent_cases a k ea)
 
 pub ruleset journal_laws = (gate_in, header_in, body_in, home_not_gate, home_not_header, home_not_body)
+
+-- a map of the lot's addresses, at an address
+pub inside_at : (lot : LotView) (m : ℕ → List ℕ) (a : ℕ) → is_address lot a ≡ true → inside lot m a ≡ m a
+unfolding inside
+inside_at lot m a h = grind arith
+
+-- and where two maps agree on the lot
+pub inside_same : (lot : LotView) (m n : ℕ → List ℕ) (a : ℕ) → (is_address lot a ≡ true → n a ≡ m a) → inside lot n a ≡ inside lot m a
+unfolding inside
+inside_same lot m n a h = elim (is_address lot a) as (λ b. is_address lot a ≡ b → cond b (n a) [] ≡ cond b (m a) []) [ true ↦ λ e. h e | false ↦ λ e. refl ] refl
+
+pub ruleset inside_laws = (inside_at)

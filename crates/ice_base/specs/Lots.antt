@@ -1,5 +1,5 @@
 -- The blocks that one cube owns, and the addresses by which it names them.
-use Rattle.std.specs.Prelude.{◌≡◌, ◌≢◌, ℕ, ◌+◌, ◌*◌, ◌/◌, ◌%◌, ◌<◌, ◌≤◌, Bool, true, false, cond, ◌&&◌, nat_lt, nat_le, ◌==◌, List, [], length, slice_index}
+use Rattle.std.specs.Prelude.{◌≡◌, ◌≢◌, ℕ, ◌+◌, ◌*◌, ◌/◌, ◌%◌, ◌<◌, ◌≤◌, Bool, true, false, cond, ◌&&◌, nat_lt, nat_le, ◌==◌, List, [], length, slice_index, refl}
 use Rattle.std.specs.List.{list_all, list_any}
 use Rattle.ice_base.specs.Disk.{Image, block}
 
@@ -71,6 +71,10 @@ NoneShared gs hs = (i j : ℕ) → i < length gs → j < length hs → slice_ind
 -- a map of the lot's addresses: no block at any other
 unfoldable pub inside : LotView → (ℕ → List ℕ) → ℕ → List ℕ
 inside lot m a = cond (is_address lot a) (m a) []
+
+pub inside_out : (lot : LotView) (m : ℕ → List ℕ) (a : ℕ) → is_address lot a ≡ false → inside lot m a ≡ []
+unfolding inside
+inside_out lot m a h = rw h refl
 
 -- what the blocks of the lot's addresses hold in an image
 abbrev pub homes : LotView → Image → ℕ → List ℕ

@@ -2,7 +2,7 @@
 ghost use Rattle.std.specs.Prelude.{is_ok, ◌≡◌, ◌≤◌, ℕ, true, false, [], ◌∷◌, OnOk, IsErrOf};
 ghost use Rattle.ice_base.specs.Disk.{Rose};
 ghost use Rattle.ice_base.specs.Lots.{is_address, is_sited};
-ghost use Rattle.ice_base.specs.Views.{Spent, Puts};
+ghost use Rattle.ice_base.specs.Views.{Looked, Spent, Puts};
 ghost use Rattle.ice_base.specs.declared.fault.BlockFault.TheVariants.{Disk as FaultDisk, Range};
 
 use crate::{Block, BlockFault, Disk, Lot, View};
@@ -20,6 +20,7 @@ pub trait Keep<D: Disk>: View<D> {
         ensures free { Self.held self.old at ≡ true → Self.room self.old ≤ Self.room self.new }
         ensures good { OnOk result (is_address lot.now at ≡ true) }
         ensures range { IsErrOf result Range → is_address lot.now at ≡ false }
+        ensures untouched { IsErrOf result Range → Looked D.Disk Self.View lot.now self.old disk.old self.new disk.new }
         ensures placed { IsErrOf result FaultDisk → is_address lot.now at ≡ true }
         ensures failed { IsErrOf result FaultDisk → Rose (D.state disk.old).faults (D.state disk.new).faults };
 

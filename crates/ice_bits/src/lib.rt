@@ -15,7 +15,8 @@ fn index(inodes: bool, i: u32) -> usize
     if inodes { 256 + i as usize } else { i as usize }
 }
 
-fn bits(inodes: bool) -> u32
+/// How many bits of that kind a bitmap block has.
+pub fn bits(inodes: bool) -> u32
     ensures { result ≡ bits_of inodes }
 {
     if inodes { 64 } else { 256 }
