@@ -7,9 +7,9 @@ ghost use Rattle.ice_base.specs.Inodes.{inode_address};
 ghost use Rattle.ice_base.specs.Faults.{IsDiskFault};
 ghost use Rattle.ice_map.specs.Inodes.{inode_of, InodeSet};
 
-use crate::blocks::{fetch, store};
+
 use crate::codec::{Inode, read_inode, write_inode};
-use ice_base::{Disk, Form, Keep, Lot, OpFault, Pool, View};
+use ice_base::{Disk, Form, Keep, Lot, OpFault, Pool, View, fetch, store};
 
 #[tactic(auto, using(crate::proofs::InodeLaws::inode_laws))]
 fn block_of(lot: &Lot, number: u32) -> u32

@@ -1,13 +1,11 @@
 //! Inodes, and the maps of their blocks.
 #![tactic(auto)]
 
-mod blocks;
 mod codec;
 mod extends;
 mod inodes;
 mod maps;
 
-pub use blocks::{fetch, store};
 pub use codec::{Inode, read_inode, write_inode};
 pub use extends::extend;
 pub use inodes::{get_inode, put_inode};

@@ -9,9 +9,9 @@ ghost use Rattle.ice_base.specs.declared.fault.Rule.TheVariants.{Pointer};
 ghost use Rattle.ice_map.specs.Faults.{IsLookFault};
 ghost use Rattle.ice_map.specs.Maps.{longest, nth_block, leads};
 
-use crate::blocks::fetch;
+
 use crate::codec::Inode;
-use ice_base::{Disk, Form, Lot, OpFault, Rule, View, read_u32};
+use ice_base::{Disk, Form, Lot, OpFault, Rule, View, fetch, read_u32};
 
 #[tactic(auto, unfolding(ice_base::specs::Used::is_data))]
 fn is_data_place(lot: &Lot, at: u32) -> bool
