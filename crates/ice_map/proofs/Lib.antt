@@ -3,4 +3,5 @@ pub mod InodeLaws
 pub mod ListLaws
 pub mod MarkLaws
 pub mod MapLaws
+pub mod PutsLaws
 pub mod GrowLaws

@@ -1,5 +1,5 @@
 -- The maps of the blocks of inodes.
-use Rattle.std.specs.Prelude.{◌≡◌, ◌≢◌, ◌≤◌, ◌<◌, ℕ, ◌+◌, ◌-◌, ◌*◌, Bool, true, false, cond, ◌==◌, ◌&&◌, ◌||◌, nat_lt, nat_le, List, [], ◌∷◌, ◌++◌, map, length, slice_index, slice_set, replicate}
+use Rattle.std.specs.Prelude.{◌≡◌, ◌≢◌, ◌≤◌, ◌<◌, ℕ, ◌+◌, ◌-◌, ◌*◌, Bool, true, false, cond, ◌==◌, ◌&&◌, ◌||◌, nat_lt, nat_le, List, [], ◌∷◌, ◌++◌, map, length, slice_index, slice_set, replicate, take}
 use Rattle.std.specs.List.{count_by, range_with_len}
 use Rattle.ice_base.specs.Bits.{bit_of, IsLeast}
 use Rattle.ice_base.specs.Fields.{word_at, WordSet}
@@ -106,3 +106,41 @@ pub record MapStays (old new : ℕ → List ℕ) (inode : Inode) (count : ℕ) :
 -- so is each map that uses used blocks, and not the indirect block of a map of `count` blocks of this inode
 abbrev pub OthersStay : LotView → (ℕ → List ℕ) → (ℕ → List ℕ) → Inode → ℕ → Type 0
 OthersStay lot old new inode count = (other : Inode) (n : ℕ) → Owns lot old other n → (12 < count → has (uses old other n) inode.single ≡ false) → MapStays old new other n
+
+-- the inode with the first `rest` blocks of its map alone; pointers past them are 0
+abbrev pub shortened : Inode → ℕ → Inode
+shortened inode rest = record {
+  kind = inode.kind;
+  size = inode.size;
+  direct = take rest inode.direct ++ replicate (12 - rest) 0;
+  single = cond (nat_lt 12 rest) inode.single 0;
+  double = 0;
+}
+
+-- what a map of `count` blocks gives back where the first `rest` are to stay: the other blocks, and the indirect block where no pointer is left in it
+abbrev pub cut_off : (ℕ → List ℕ) → Inode → ℕ → ℕ → List ℕ
+cut_off m inode count rest = blocks_between m inode rest count ++ cond (nat_lt 12 count && nat_le rest 12) (inode.single ∷ []) []
+
+-- what is put where these blocks are given back: the sub-super block and their bitmap blocks
+abbrev pub given_puts : List ℕ → List ℕ
+given_puts [] = []
+given_puts (a ∷ blocks) = sub_address ∷ map (bitmap_of false) (a ∷ blocks)
+
+-- how many further addresses a keep must be able to hold for a cut
+abbrev pub cut_room : ℕ → ℕ → ℕ
+cut_room count rest = cond (nat_le count (rest + 1)) 6 66
+
+-- these blocks are marked used, and the list has none twice
+pub record OwnsOnce (m : ℕ → List ℕ) (blocks : List ℕ) : Type 0 where
+  pub used : (b : ℕ) → has blocks b ≡ true → used_block m b ≡ true
+  pub once : (b : ℕ) → times blocks b ≤ 1
+
+-- every block that a map uses is a data place
+abbrev pub Placed : LotView → (ℕ → List ℕ) → Inode → ℕ → Type 0
+Placed lot m inode count = (b : ℕ) → has (uses m inode count) b ≡ true → is_data lot b ≡ true
+
+-- A map of `count` blocks was cut to its first `rest`: they stayed, and what it uses no more was given back.
+pub record Cut (lot : LotView) (old new : ℕ → List ℕ) (before after : Inode) (count rest : ℕ) : Type 0 where
+  pub blocks : blocks_of new after rest ≡ blocks_of old before rest
+  pub gave : Marked lot false old new (cut_off old before count rest)
+  pub used : (b : ℕ) → times (uses old before count) b ≡ times (uses new after rest) b + times (cut_off old before count rest) b
