@@ -5,7 +5,8 @@ use Rattle.std.proofs.lemmas.Bool.Decides.{nat_tests}
 use Rattle.ice_base.specs.Lots.{LotView, sub_address}
 use Rattle.ice_base.specs.Spare.{has, lacks, bitmaps}
 use Rattle.ice_base.specs.Used.{is_data, bitmap_of}
-use Rattle.ice_base.specs.Views.{Puts}
+use Rattle.ice_base.specs.Views.{Puts, Spent}
+use Rattle.ice_base.specs.declared.disk.Disk as disk
 use Rattle.ice_base.specs.declared.view.View as view
 use Rattle.ice_base.proofs.SpareLaws.{lacks_part, lacks_few, has-bitmaps, lacks-bitmaps}
 use Rattle.ice_base.proofs.UsedLaws.{data_below, bitmap_not_sub, ordinal_below}
@@ -73,3 +74,49 @@ bitmaps-one lot a d x h =
             | false ↦ λ u. absurd (cc)
           ] refl
     ] refl
+
+module _ {V D : Type 0} (d : disk.Ghosts D) (k : view.Ghosts V D) (lot : LotView) where
+  -- what a call leaves that does nothing
+  pub spent-none : (n : ℕ) (v : V) (e : D) → Spent d k lot n v e v e
+  spent-none n v e = record {
+    shows = λ s. s;
+    grows = λ a h. h;
+    room = omega arith;
+    size = refl;
+    tells = refl;
+    streams = refl;
+    later = omega arith;
+    steady = λ u f s. s;
+  }
+
+  -- and two calls
+  pub spent-then : (n m p : ℕ) (v : V) (e : D) (w : V) (f : D) (x : V) (h : D) → Spent d k lot n v e w f → Spent d k lot m w f x h → n + m ≤ p → Spent d k lot p v e x h
+  spent-then n m p v e w f x h a b l = record {
+    shows = λ s. b.shows (a.shows s);
+    grows = λ q i. b.grows q (a.grows q i);
+    room = let i = a.room in let j = b.room in omega arith;
+    size = b.size ∙ a.size;
+    tells = b.tells ∙ a.tells;
+    streams = b.streams ∙ a.streams;
+    later = let i = a.later in let j = b.later in omega arith;
+    steady = λ u q s. b.steady u q (a.steady u q s);
+  }
+
+  -- the room that was spent, counted otherwise
+  pub spent-by : (n m : ℕ) (v : V) (e : D) (w : V) (f : D) → Spent d k lot n v e w f → k.room v ≤ k.room w + m → Spent d k lot m v e w f
+  spent-by n m v e w f a l = record {
+    shows = a.shows;
+    grows = a.grows;
+    room = l;
+    size = a.size;
+    tells = a.tells;
+    streams = a.streams;
+    later = a.later;
+    steady = a.steady;
+  }
+
+pub puts-none : {V D : Type 0} (k : view.Ghosts V D) (lot : LotView) (xs : List ℕ) (v : V) (d : D) → Puts k lot true xs v d v d
+puts-none k lot xs v d = record {
+  only = λ a. except_intro a xs _ (λ out. refl);
+  pays = λ wide. where_intro wide xs _ (λ all. omega arith);
+}

@@ -2,6 +2,7 @@
 #![tactic(auto)]
 
 mod codec;
+mod cuts;
 mod extends;
 mod inodes;
 mod maps;
