@@ -5,7 +5,7 @@ use Rattle.std.proofs.lemmas.Bool.Decides.{nat_tests}
 use Rattle.ice_base.specs.Lots.{LotView, sub_address}
 use Rattle.ice_base.specs.Spare.{has, lacks, bitmaps}
 use Rattle.ice_base.specs.Used.{is_data, bitmap_of}
-use Rattle.ice_base.specs.Views.{Puts, Spent}
+use Rattle.ice_base.specs.Views.{Puts, Spent, Looked}
 use Rattle.ice_base.specs.declared.disk.Disk as disk
 use Rattle.ice_base.specs.declared.view.View as view
 use Rattle.ice_base.proofs.SpareLaws.{lacks_part, lacks_few, has-bitmaps, lacks-bitmaps}
@@ -87,6 +87,26 @@ module _ {V D : Type 0} (d : disk.Ghosts D) (k : view.Ghosts V D) (lot : LotView
     streams = refl;
     later = omega arith;
     steady = λ u f s. s;
+  }
+
+  -- what a look leaves, and then a call
+  pub spent-after : (n : ℕ) (v : V) (e : D) (w : V) (f : D) (x : V) (h : D) → Looked d k lot v e w f → Spent d k lot n w f x h → Spent d k lot n v e x h
+  spent-after n v e w f x h a b = record {
+    shows = λ s. b.shows (a.shows s);
+    grows = λ q i. b.grows q (let s = a.held in cc);
+    room = let i = a.room in let j = b.room in omega arith;
+    size = b.size ∙ a.size;
+    tells = b.tells ∙ a.tells;
+    streams = b.streams ∙ a.streams;
+    later = let i = a.later in let j = b.later in omega arith;
+    steady = λ u q s. b.steady u q (a.steady u q s);
+  }
+
+  -- a look puts nothing
+  pub puts-look : (ok : Bool) (xs : List ℕ) (v : V) (e : D) (w : V) (f : D) → Looked d k lot v e w f → Puts k lot ok xs v e w f
+  puts-look ok xs v e w f a = record {
+    only = λ b. except_intro b xs _ (λ out. let m = a.map in cc);
+    pays = λ wide. where_intro wide xs _ (λ all. let r = a.room in let s = ap (λ (h : ℕ → Bool). lacks h wide) a.held in omega arith);
   }
 
   -- and two calls
