@@ -1,8 +1,9 @@
 -- What a cut of a map does.
 use Rattle.std.proofs.Common.{◌≡◌, ◌≢◌, ◌≤◌, ◌<◌, ◌⊎◌, ◌+◌, ◌-◌, ◌*◌, ◌/◌, ◌%◌, ◌==◌, ◌&&◌, ℕ, zero, suc, Bool, true, false, cond, List, [], ◌∷◌, ◌++◌, map, length, slice_index, replicate, take, ◌∙◌, sym, refl, ap, arith, ltb, subst, nat_lt, nat_le, length-append}
 use Rattle.std.proofs.lemmas.Bool.Decides.{nat_tests}
-use Rattle.std.proofs.lemmas.List.{append-nil}
+use Rattle.std.proofs.lemmas.List.{append-nil, ext_get_or}
 use Rattle.std.proofs.lemmas.List.FromFn.{map-range_with_len_more, length-map-range_with_len}
+use Rattle.std.proofs.lemmas.Grind.{elements, common_steps}
 use Rattle.std.specs.List.{range_with_len}
 use Rattle.ice_base.specs.Lots.{LotView, sub_address}
 use Rattle.ice_base.specs.Fields.{word_at}
@@ -14,7 +15,7 @@ use Rattle.ice_base.specs.declared.view.View as view
 use Rattle.ice_base.proofs.SpareLaws.{lacks_part, lacks_few, lacks-bitmaps}
 use Rattle.ice_base.proofs.UsedLaws.{bitmap_not_sub}
 use Rattle.ice_map.specs.declared.codec.Inode.{Inode}
-use Rattle.ice_map.specs.Maps.{nth_block, blocks_of, indirect_of, Placed, blocks_between, cut_off, cut_room, given_puts, shortened, uses, times, Marked, OwnsOnce}
+use Rattle.ice_map.specs.Maps.{nth_block, blocks_of, indirect_of, Placed, blocks_between, cut_off, cut_room, given_puts, shortened, uses, times, Marked, OwnsOnce, Cut}
 use Rattle.ice_map.proofs.ListLaws.{AllHas, map_range_same, times-append, has-append, has-head, has-tail, has-left, has-right, has-times, has-none, has-range, range-append, lacks-wide, where_elim}
 use Rattle.ice_map.proofs.MapLaws.{nth-direct, nth-single}
 use Rattle.ice_map.proofs.MarkLaws.{marked-then, marked-gave}
@@ -201,7 +202,7 @@ cut-room-by g lot ok v d w e count rest n few puts spent small =
     let wide = sub_address ∷ bitmaps (length lot.groups) in
     let p = where_elim wide wide _ (puts.pays wide) (all-self wide) in
     let l = wide_room (g.held v) (length lot.groups) in
-    let one : cond ok 0 1 ≤ 1 = elim ok as (λ o. cond o 0 1 ≤ 1) [ | true ↦ omega arith | false ↦ omega arith ] in
+    let one : cond ok 0 1 ≤ 1 = elim ok as (λ o. cond o 0 1 ≤ 1) [ true ↦ omega arith | false ↦ omega arith ] in
     elim (ltb (rest + 1) count) as (λ t. ltb (rest + 1) count ≡ t → g.room v ≤ g.room w + cut_room count rest) [
       | true ↦ λ t. let long : cut_room count rest ≡ 66 = grind (arith, nat_tests) in omega arith
       | false ↦ λ t. let short : cut_room count rest ≡ 6 = grind (arith, nat_tests) in let s = small (grind (arith, nat_tests)) in omega arith
@@ -238,3 +239,89 @@ pub shortened-none : (inode : Inode) (rest : ℕ) → rest ≤ 12 → (shortened
 shortened-none inode rest h = grind (arith, nat_tests)
 
 pub ruleset shortened_laws = (shortened-single, shortened-none)
+
+-- where nothing but direct blocks is given back
+pub on-cut : (P : List ℕ → Type 0) (m : ℕ → List ℕ) (b : List ℕ) (inode : Inode) (count rest : ℕ) → count ≤ 12 → P (blocks_between (λ _. b) inode rest count) → P (cut_off m inode count rest)
+on-cut P m b inode count rest h p = subst P (sym (cut-direct m inode count rest h ∙ same-run m b inode rest count (λ n. absurd (omega arith)))) p
+
+-- the blocks that stay
+rest-stays : (m0 m1 : ℕ → List ℕ) (old : Inode) (rest : ℕ) → length old.direct ≡ 12 → (12 < rest → m1 old.single ≡ m0 old.single) → (k : ℕ) → k < rest → nth_block m1 (shortened old rest) k ≡ nth_block m0 old k
+rest-stays m0 m1 old rest l same k h =
+    elim (ltb k 12) as (λ t. ltb k 12 ≡ t → nth_block m1 (shortened old rest) k ≡ nth_block m0 old k) [
+      | true ↦ λ t. let n : k < 12 = grind (arith, nat_tests) in
+          nth-direct m1 (shortened old rest) k n ∙ front old.direct rest k (omega arith) h ∙ sym (nth-direct m0 old k n)
+      | false ↦ λ t. let n : 12 ≤ k = grind (arith, nat_tests) in
+          let s = shortened-single old rest (omega arith) in
+          nth-single m1 (shortened old rest) k n ∙ ap (λ x. word_at (m1 x) (4 * (k - 12))) s ∙ ap (λ (u : List ℕ). word_at u (4 * (k - 12))) (same (omega arith)) ∙ sym (nth-single m0 old k n)
+    ] refl
+  where
+    front : (xs : List ℕ) (rest k : ℕ) → k < length xs → k < rest → slice_index (take rest xs ++ replicate (12 - rest) 0) k ≡ slice_index xs k
+    front xs rest k h l = grind (arith, elements)
+
+-- what a map uses: what it uses after the cut, and what was cut off
+indirect-cut : (old : Inode) (count rest : ℕ) → rest ≤ count → (b : ℕ) → times (indirect_of old count) b ≡ times (indirect_of (shortened old rest) rest) b + times (cond (nat_lt 12 count && nat_le rest 12) (old.single ∷ []) []) b
+indirect-cut old count rest h b =
+    elim (ltb 12 count) as (λ t. ltb 12 count ≡ t → times (indirect_of old count) b ≡ times (indirect_of (shortened old rest) rest) b + times (cond (nat_lt 12 count && nat_le rest 12) (old.single ∷ []) []) b) [
+      | false ↦ λ t.
+          let x : indirect_of old count ≡ [] = grind (arith, nat_tests) in
+          let y : indirect_of (shortened old rest) rest ≡ [] = grind (arith, nat_tests) in
+          let z : cond (nat_lt 12 count && nat_le rest 12) (old.single ∷ []) [] ≡ [] = grind (arith, nat_tests) in
+          let p = ap (λ xs. times xs b) x in let q = ap (λ xs. times xs b) y in let r = ap (λ xs. times xs b) z in omega arith
+      | true ↦ λ t.
+          let x : indirect_of old count ≡ old.single ∷ [] = grind (arith, nat_tests) in
+          let p = ap (λ xs. times xs b) x in
+          elim (ltb 12 rest) as (λ u. ltb 12 rest ≡ u → times (indirect_of old count) b ≡ times (indirect_of (shortened old rest) rest) b + times (cond (nat_lt 12 count && nat_le rest 12) (old.single ∷ []) []) b) [
+            | true ↦ λ u.
+                let s = shortened-single old rest (grind (arith, nat_tests)) in
+                let y : indirect_of (shortened old rest) rest ≡ (shortened old rest).single ∷ [] = grind (arith, nat_tests) in
+                let z : cond (nat_lt 12 count && nat_le rest 12) (old.single ∷ []) [] ≡ [] = grind (arith, nat_tests) in
+                let q = ap (λ xs. times xs b) (y ∙ ap (λ x. x ∷ []) s) in let r = ap (λ xs. times xs b) z in omega arith
+            | false ↦ λ u.
+                let y : indirect_of (shortened old rest) rest ≡ [] = grind (arith, nat_tests) in
+                let z : cond (nat_lt 12 count && nat_le rest 12) (old.single ∷ []) [] ≡ old.single ∷ [] = grind (arith, nat_tests) in
+                let q = ap (λ xs. times xs b) y in let r = ap (λ xs. times xs b) z in omega arith
+          ] refl
+    ] refl
+
+pub cut-made : (lot : LotView) (m0 m1 : ℕ → List ℕ) (old new : Inode) (count rest : ℕ) → new ≡ shortened old rest → length old.direct ≡ 12 → rest ≤ count → (12 < rest → m1 old.single ≡ m0 old.single)
+    → Marked lot false m0 m1 (cut_off m0 old count rest) → Cut lot m0 m1 old new count rest
+cut-made lot m0 m1 old new count rest e l h same gave =
+    let blocks = map_range_same (nth_block m1 (shortened old rest)) (nth_block m0 old) 0 rest (λ k low high. rest-stays m0 m1 old rest l same k (omega arith)) in
+    subst (λ (x : Inode). Cut lot m0 m1 old x count rest) (sym e) (record {
+      blocks = blocks;
+      gave = gave;
+      used = λ b.
+          let i = indirect-cut old count rest h b in
+          let parts = range-append (nth_block m0 old) 0 rest (count - rest) in
+          let n : rest + (count - rest) ≡ count = omega arith in
+          let z : 0 + rest ≡ rest = omega arith in
+          let whole = ap (λ x. map (nth_block m0 old) (range_with_len 0 x)) (sym n) ∙ sym parts ∙ ap (λ x. blocks_of m0 old rest ++ map (nth_block m0 old) (range_with_len x (count - rest))) z in
+          let p = times-append (indirect_of old count) (blocks_of m0 old count) b in
+          let q = ap (λ xs. times xs b) whole ∙ times-append (blocks_of m0 old rest) (blocks_between m0 old rest count) b in
+          let r = times-append (indirect_of (shortened old rest) rest) (blocks_of m1 (shortened old rest) rest) b in
+          let s = ap (λ xs. times xs b) blocks in
+          let t = times-append (blocks_between m0 old rest count) (cond (nat_lt 12 count && nat_le rest 12) (old.single ∷ []) []) b in
+          omega arith;
+    })
+
+-- pointers that were cleared from a place on
+pub cleared : (xs ys : List ℕ) (rest first : ℕ) → length xs ≡ 12 → length ys ≡ 12 → (rest < 12 → first ≡ rest) → (12 ≤ rest → first ≡ 12) → ((j : ℕ) → j < first → slice_index ys j ≡ slice_index xs j)
+    → ((j : ℕ) → first ≤ j → j < 12 → slice_index ys j ≡ 0) → ys ≡ take rest xs ++ replicate (12 - rest) 0
+cleared xs ys rest first lx ly low high front back = ext_get_or 0 ys (take rest xs ++ replicate (12 - rest) 0) (let e : length (take rest xs ++ replicate (12 - rest) 0) ≡ 12 = grind (arith, common_steps) in cc)
+    (λ k h. elim (ltb k rest) as (λ t. ltb k rest ≡ t → slice_index ys k ≡ slice_index (take rest xs ++ replicate (12 - rest) 0) k) [
+      | true ↦ λ t. let n : k < rest = grind (arith, nat_tests) in
+          let f : k < first = elim (ltb rest 12) as (λ u. ltb rest 12 ≡ u → k < first) [
+            | true ↦ λ u. let e = low (grind (arith, nat_tests)) in omega arith
+            | false ↦ λ u. let e = high (grind (arith, nat_tests)) in omega arith
+          ] refl in
+          front k f ∙ sym (old_part xs rest k (omega arith) n)
+      | false ↦ λ t. let n : rest ≤ k = grind (arith, nat_tests) in
+          let e = low (omega arith) in
+          back k (omega arith) (omega arith) ∙ sym (new_part xs rest k (omega arith) n (omega arith))
+    ] refl)
+  where
+    old_part : (xs : List ℕ) (rest k : ℕ) → k < length xs → k < rest → slice_index (take rest xs ++ replicate (12 - rest) 0) k ≡ slice_index xs k
+    old_part xs rest k h l = grind (arith, elements)
+
+    new_part : (xs : List ℕ) (rest k : ℕ) → length xs ≡ 12 → rest ≤ k → k < 12 → slice_index (take rest xs ++ replicate (12 - rest) 0) k ≡ 0
+    new_part xs rest k l h n = grind (arith, elements)

@@ -1,5 +1,5 @@
 -- Puts one after another.
-use Rattle.std.proofs.Common.{◌≡◌, ◌≢◌, ◌≤◌, ◌<◌, ◌+◌, ◌-◌, ◌*◌, ◌/◌, ◌==◌, ℕ, Bool, true, false, cond, List, [], ◌∷◌, ◌++◌, map, length, ◌∙◌, sym, refl, ap, arith}
+use Rattle.std.proofs.Common.{◌≡◌, ◌≢◌, ◌≤◌, ◌<◌, ◌+◌, ◌-◌, ◌*◌, ◌/◌, ◌==◌, ℕ, zero, suc, Bool, true, false, cond, List, [], ◌∷◌, ◌++◌, map, length, ◌∙◌, sym, refl, ap, arith}
 use Rattle.std.proofs.lemmas.List.{map-append}
 use Rattle.std.proofs.lemmas.Bool.Decides.{nat_tests}
 use Rattle.ice_base.specs.Lots.{LotView, sub_address}
@@ -19,9 +19,9 @@ module _ {V D : Type 0} (k : view.Ghosts V D) (lot : LotView) where
   puts-then ok xs ys zs v d w e x f p q inx iny = record {
     only = λ a. except_intro a zs _ (λ out. except_elim a ys _ (q.only a) (has-not zs ys a iny out) ∙ except_elim a xs _ (p.only a) (has-not zs xs a inx out));
     pays = λ wide. where_intro wide zs _ (λ all.
-    let r = where_elim wide xs _ (p.pays wide) (λ y h. all y (inx y h)) in
-    let s = where_elim wide ys _ (q.pays wide) (λ y h. all y (iny y h)) in
-    omega arith);
+        let r = where_elim wide xs _ (p.pays wide) (λ y h. all y (inx y h)) in
+        let s = where_elim wide ys _ (q.pays wide) (λ y h. all y (iny y h)) in
+        omega arith);
   }
 
   -- puts of a list are puts of a longer one
@@ -140,3 +140,14 @@ puts-none k lot xs v d = record {
   only = λ a. except_intro a xs _ (λ out. refl);
   pays = λ wide. where_intro wide xs _ (λ all. omega arith);
 }
+
+-- an address that is no bitmap block
+not_bitmap : (n a : ℕ) → ((o : ℕ) → a ≢ 256 * o) → has (bitmaps n) a ≡ false
+unfolding has bitmaps
+not_bitmap zero a h = refl
+not_bitmap (suc n) a h = let r = not_bitmap n a h in let ne = h n in grind (arith, nat_tests)
+
+-- what is put where only bitmap blocks and the sub-super block are
+pub bitmaps-only : {V D : Type 0} (k : view.Ghosts V D) (lot : LotView) (ok : Bool) (n : ℕ) (v : V) (d : D) (w : V) (e : D) → Puts k lot ok (sub_address ∷ bitmaps n) v d w e → (b : ℕ) → b ≢ sub_address → ((o : ℕ) → b ≢ 256 * o) → k.map w e lot b ≡ k.map v d lot b
+bitmaps-only k lot ok n v d w e p b ns nb =
+    except_elim b (sub_address ∷ bitmaps n) _ (p.only b) (let c = has-cons sub_address b (bitmaps n) in let r = not_bitmap n b nb in let t : (sub_address == b) ≡ false = grind (arith, nat_tests) in c ∙ ap (λ t. cond t true (has (bitmaps n) b)) t ∙ r)

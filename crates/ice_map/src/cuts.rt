@@ -105,7 +105,7 @@ fn give_indirect<D: Disk, K: Keep<D>, P: Pool<D, K>>(
     ensures gave { K.shows lot.now keep.old disk.old → OnOk result (Marked lot.now false (K.map keep.old disk.old lot.now) (K.map keep.new disk.new lot.now) (cut_off (K.map keep.old disk.old lot.now) inode.now count rest)) }
     ensures puts { K.shows lot.now keep.old disk.old → Puts K.View lot.now (is_ok result) (given_puts (cut_off (K.map keep.old disk.old lot.now) inode.now count rest)) keep.old disk.old keep.new disk.new }
     ensures bitmaps { Puts K.View lot.now (is_ok result) (sub_address ∷ bitmaps (length lot.now.groups)) keep.old disk.old keep.new disk.new }
-    ensures data { OnOk result (is_data lot.now inode.now.single ≡ true) }
+    ensures single { OnOk result (K.map keep.new disk.new lot.now inode.now.single ≡ K.map keep.old disk.old lot.now inode.now.single) }
     ensures spent { Spent D.Disk K.View lot.now (cut_room count rest) keep.old disk.old keep.new disk.new }
     ensures zero { IsErrOf result (Damaged Counts) → K.shows lot.now keep.old disk.old → counted false (K.map keep.old disk.old lot.now) < length (cut_off (K.map keep.old disk.old lot.now) inode.now count rest) }
     ensures unused { IsErrOf result (Damaged Bitmap) → K.shows lot.now keep.old disk.old → ¬ OwnsOnce (K.map keep.old disk.old lot.now) (cut_off (K.map keep.old disk.old lot.now) inode.now count rest) }
@@ -132,7 +132,8 @@ fn give_indirect<D: Disk, K: Keep<D>, P: Pool<D, K>>(
 }
 
 fn clear_direct(direct: &mut [u32; 12], rest: u32)
-    ensures { direct.new ≡ take rest direct.old ++ replicate (12 - rest) 0 }
+    ensures cleared { direct.new ≡ take rest direct.old ++ replicate (12 - rest) 0 }
+    ensures long { length direct.old ≡ 12 }
 {
     let first = if rest < 12 { rest as usize } else { 12 };
     for k in first..12usize {
@@ -143,7 +144,8 @@ fn clear_direct(direct: &mut [u32; 12], rest: u32)
 /// Only the first `rest` pointers stay.
 #[tactic(auto, using(crate::proofs::CutLaws::shortened_laws))]
 fn shorten(inode: &mut Inode, rest: u32)
-    ensures { inode.new ≡ shortened inode.old rest }
+    ensures shortened { inode.new ≡ shortened inode.old rest }
+    ensures long { length inode.old.direct ≡ 12 }
 {
     clear_direct(&mut inode.direct, rest);
     if rest <= 12 {

@@ -1,8 +1,10 @@
-use Rattle.std.proofs.Common.{◌≡◌, ◌++◌, ◌-◌, take, drop, length, replicate, ◌×◌}
+use Rattle.std.proofs.Common.{◌≡◌, ◌<◌, ◌≤◌, ℕ, length, slice_index}
 use Rattle.ice_map.proofs.cuts.clear_direct.Given as goal
 
 abbrev pub invariant-loop-k : goal.invariant-loop-k
 invariant-loop-k l = record {
-  long : length l.initial.direct ≡ 12;
-  cleared : l.direct ≡ take l.first l.initial.direct ++ replicate (l.k - l.first) 0 ++ drop l.k l.initial.direct;
+  before : length l.initial.direct ≡ 12;
+  long : length l.direct ≡ 12;
+  front : (j : ℕ) → j < l.first → slice_index l.direct j ≡ slice_index l.initial.direct j;
+  back : (j : ℕ) → l.first ≤ j → j < l.k → slice_index l.direct j ≡ 0;
 }

@@ -1,8 +1,9 @@
-use Rattle.std.proofs.Common.{◌≡◌, ◌<◌, ◌+◌, ◌∙◌, ◌-◌, ◌*◌, arith}
+use Rattle.std.proofs.Common.{◌≡◌, ◌<◌, ◌+◌, ◌∙◌, ◌-◌, ◌*◌, sym, arith}
 use Rattle.ice_base.proofs.LotLaws.{sited-few}
 use Rattle.ice_base.proofs.PutsLaws.{puts_after}
 use Rattle.ice_map.proofs.CutLaws.{all-self, give-room, gave-next, cut-length, puts-part, owns-part, owns-last, placed-single, placed-run, marked-from, cut-room-by, cut-run-more, cut-run-last, last-puts, counted-from}
-use Rattle.ice_map.proofs.PutsLaws.{puts-then, puts-widen, puts-look, spent-then, spent-by, spent-after, bitmaps-one}
+use Rattle.ice_map.proofs.PutsLaws.{puts-then, puts-widen, puts-look, spent-then, spent-by, spent-after, bitmaps-one, bitmaps-only}
+use Rattle.ice_map.proofs.MarkLaws.{data_not_bitmap, data_not_sub}
 use Rattle.ice_map.proofs.cuts.give_indirect.Goals as goal
 
 pub returns-in-Err-clause-puts : goal.returns-in-Err-clause-puts
@@ -103,3 +104,13 @@ returns-in-Err-give_block-clause-unused g c = λ e s owns.
     let t = c.read_indirect.ensures.looked.shows s in
     owns-last c.args.lot.now _ _ _ c.read_indirect.new.into c.args.inode.now c.args.count c.args.rest c.read_indirect.ensures.looked.map c.requires.long (omega arith) (λ _. c.in-Ok.ensures.content s)
     (c.in-Ok-give_between.ensures.gave t) (c.in-Err-give_block.ensures.unused e (c.give_between.ensures.spent.shows t)) owns
+
+pub returns-then-rest-gt12-clause-single : goal.returns-then-rest-gt12-clause-single
+returns-then-rest-gt12-clause-single g c =
+    bitmaps-only g.K.View c.args.lot.now _ _ _ _ _ _ (puts_after g.D.Disk g.K.View c.args.lot.now _ _ _ _ _ _ _ _ c.read_indirect.ensures.looked c.in-Ok-give_between.ensures.bitmaps)
+    c.args.inode.now.single (λ e. data_not_sub c.args.lot.now _ (sited-few _ _ c.requires.sited) c.in-Ok.ensures.data (sym e)) (λ o e. data_not_bitmap c.args.lot.now _ o c.in-Ok.ensures.data (sym e))
+
+pub returns-in-Ok-give_block-clause-single : goal.returns-in-Ok-give_block-clause-single
+returns-in-Ok-give_block-clause-single g c =
+    bitmaps-only g.K.View c.args.lot.now _ _ _ _ _ _ (returns-in-Ok-give_block-clause-bitmaps g c)
+    c.args.inode.now.single (λ e. data_not_sub c.args.lot.now _ (sited-few _ _ c.requires.sited) c.in-Ok.ensures.data (sym e)) (λ o e. data_not_bitmap c.args.lot.now _ o c.in-Ok.ensures.data (sym e))
