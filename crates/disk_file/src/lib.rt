@@ -17,7 +17,7 @@ use std::marker::Model;
 #[derive(Clone, Copy, Debug, PartialEq, Eq)]
 pub enum OpenFault {
     /// The system named want of memory.
-    Memory,
+    Memory = 1,
     /// Opening or extending it failed otherwise.
     Failed,
 }

@@ -1,11 +1,11 @@
 -- Numbers that were written to a block read back, and the other bytes stay.
-use Rattle.std.proofs.Common.{List, ap, arith, get_or, length, slice_index, subst, sym, ℕ, ⊎_elim, ◌++◌, ◌+◌, ◌<◌, ◌^◌, ◌∙◌, ◌≡◌, ◌≤◌, ◌⊎◌}
+use Rattle.std.proofs.Common.{List, ap, arith, get_or, length, slice_index, subst, sym, ℕ, ⊎_elim, ◌*◌, ◌++◌, ◌+◌, ◌<◌, ◌^◌, ◌∙◌, ◌≡◌, ◌≤◌, ◌⊎◌}
 use borrow.Rule.Slice.PartMut.{put_mid}
 use Rattle.std.proofs.lemmas.Grind.{elements}
 use Rattle.std.specs.Int.{bytes_low_first}
 use Rattle.byteorder.specs.Numbers.{little_number-reads_back}
 use Rattle.byteorder.specs.Endian.{little_number}
-use Rattle.ice_base.specs.Fields.{word_at, long_at, WordSet, LongSet}
+use Rattle.ice_base.specs.Fields.{word_at, long_at, WordSet, LongSet, SameBeside}
 
 pub mid_before : (xs ys : List ℕ) (a k j : ℕ) → j < a → a ≤ length xs → get_or (put_mid a k xs ys) j 0 ≡ get_or xs j 0
 mid_before xs ys a k j h l = grind (arith, elements)
@@ -94,3 +94,13 @@ word-same xs ys at h =
     let c = h (at + 2) (omega arith) (omega arith) in
     let d = h (at + 3) (omega arith) (omega arith) in
     grind arith
+
+-- numbers beside a part that changed stay
+pub word-beside : (old new : List ℕ) (at n other : ℕ) → SameBeside at n old new → (other + 4 ≤ at) ⊎ (at + n ≤ other) → word_at new other ≡ word_at old other
+word-beside old new at n other same apart = word-same new old other (λ k low high. same k (grind arith))
+
+pub long-beside : (old new : List ℕ) (at n other : ℕ) → SameBeside at n old new → (other + 8 ≤ at) ⊎ (at + n ≤ other) → long_at new other ≡ long_at old other
+long-beside old new at n other same apart =
+    let low = word-beside old new at n other same (grind arith) in
+    let high = word-beside old new at n (other + 4) same (grind arith) in
+    ap (λ x. x + 4294967296 * word_at new (other + 4)) low ∙ ap (λ x. word_at old other + 4294967296 * x) high

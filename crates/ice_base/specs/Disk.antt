@@ -1,5 +1,5 @@
 -- What a disk holds, what a crash may leave of it, and what one call changes.
-use Rattle.std.specs.Prelude.{◌≡◌, ◌+◌, ◌-◌, ◌≤◌, ◌^◌, min, ℕ, Bool, true, false, if◌then◌else◌, List, [], length, slice_index_or, Result, OnErr}
+use Rattle.std.specs.Prelude.{◌≡◌, ◌+◌, ◌-◌, ◌≤◌, ◌<◌, ◌^◌, min, ℕ, Bool, true, false, if◌then◌else◌, List, [], length, slice_index_or, Result, OnErr}
 
 -- an image: the list of the blocks
 abbrev pub Image : Type 0
@@ -60,7 +60,7 @@ Minus E S k = E k × ¬ S k
 
 -- the blocks below a number
 abbrev pub Below : ℕ → ℕ → Type 0
-Below n k = k + 1 ≤ n
+Below n k = k < n
 
 -- an Err comes only where the count of disk faults rose
 pub record HasCause {T E : Type 0} (old new : DiskState) (result : Result T E) : Type 0 where

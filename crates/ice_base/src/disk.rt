@@ -9,7 +9,7 @@ pub type Block = [u8; 1024];
 /// Why a call of a disk gave up. The disk's count of faults says so as well.
 #[derive(Clone, Copy, Debug, PartialEq, Eq)]
 pub enum DiskFault {
-    Failed,
+    Failed = 1,
 }
 
 /// A disk of numbered blocks. One that tells its content says what reads give and which blocks are loose,

@@ -8,13 +8,13 @@ use crate::Disk;
 /// Why a source gave up. The host's count of source faults says so as well.
 #[derive(Clone, Copy, Debug, PartialEq, Eq)]
 pub enum SourceFault {
-    Failed,
+    Failed = 1,
 }
 
 /// Why a sink gave up. The host's count of sink faults says so as well.
 #[derive(Clone, Copy, Debug, PartialEq, Eq)]
 pub enum SinkFault {
-    Failed,
+    Failed = 1,
 }
 
 /// A disk that also hands in bytes and takes bytes, so that a crash shows the image together with the bytes given by then.

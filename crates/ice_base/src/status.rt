@@ -27,7 +27,7 @@ pub enum Status {
 #[derive(Clone, Copy, Debug, PartialEq, Eq)]
 pub enum ImageFault {
     /// They are no form of the program.
-    Usage,
+    Usage = 1,
     /// There was no memory.
     Memory,
 }

@@ -1,1 +1,2 @@
+pub mod SubLaws
 pub mod SuperLaws

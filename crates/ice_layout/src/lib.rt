@@ -1,6 +1,8 @@
 //! The blocks of an image: what each byte means, read and written.
 #![tactic(auto)]
 
+mod sub;
 mod superblock;
 
+pub use sub::{SubSuper, fresh_group, read_sub, write_sub};
 pub use superblock::{LayoutFault, Super, fresh_block, read_super, total, write_super};

@@ -21,7 +21,7 @@ pub struct Super {
 #[derive(Clone, Copy, Debug, PartialEq, Eq)]
 pub enum LayoutFault {
     /// The first four bytes are not `IceF`.
-    Magic,
+    Magic = 1,
     /// The version is not 1.
     Version,
     /// The number of slots is not 1 to 16.

@@ -1,5 +1,5 @@
 -- The tokens of a line.
-use Rattle.std.proofs.Common.{◌≡◌, ◌∙◌, ℕ, ◌+◌, ◌<◌, ◌≤◌, Bool, true, false, not, List, [], ◌∷◌, length, take, drop, get_or, cond, refl, arith}
+use Rattle.std.proofs.Common.{◌≡◌, ℕ, ◌+◌, ◌<◌, ◌≤◌, Bool, true, false, not, List, [], ◌∷◌, length, take, drop, get_or, cond, refl, arith}
 use Rattle.std.specs.Prelude.{Option, Some, None, MatchOption, nat_lt, codes}
 use denote.Bor.{Bor}
 use Rattle.std.specs.List.{position, position_or_len, slice_split, onto_first}
@@ -9,7 +9,7 @@ use Rattle.std.proofs.lemmas.List.Splits.{slice_split_first, slice_split_none}
 use Rattle.std.proofs.lemmas.Bool.Decides.{nat_tests}
 use Rattle.std.proofs.Common.{sym}
 use Rattle.tree_spec.specs.Why.{Args, Word}
-use Rattle.tree_spec.specs.Lines.{Line, Bad, Asks, Cubes}
+use Rattle.tree_spec.specs.Lines.{Bad}
 use Rattle.ice_script.specs.Grammar.{tokens, is_blank, cubes_of, words_of}
 
 at : (n len i : ℕ) → cond (nat_lt n len) (Some n) None ≡ Some i → (n ≡ i) × (n < len)

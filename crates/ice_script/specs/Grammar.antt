@@ -10,6 +10,7 @@ use Rattle.tree_spec.specs.Lines.{Line, Bad, Asks, Cubes}
 abbrev pub longest_line : ℕ
 longest_line = 40000
 
+-- the byte between tokens
 abbrev pub is_blank : ℕ → Bool
 is_blank b = b == 32
 

@@ -3,6 +3,8 @@
 
 mod command;
 mod reader;
+#[cfg(test)]
+mod tests;
 mod token;
 
 pub use reader::LineReader;

@@ -1,1 +1,4 @@
+pub mod Closings
 pub mod Endings
+pub mod Laws
+pub mod Whole

@@ -1,5 +1,6 @@
 -- The text of a reply: its data lines, then its closing line, each ended by an LF.
-use Rattle.std.specs.Prelude.{ℕ, ◌+◌, List, [], ◌∷◌, ◌++◌, map, length, if◌then◌else◌, codes, decimal, Option, None, Some, Result, Ok, Err}
+use Rattle.std.specs.Prelude.{ℕ, ◌+◌, ◌==◌, Bool, ◌||◌, nat_eq, count_by, List, [], ◌∷◌, ◌++◌, map, length, if◌then◌else◌, codes, decimal, Option, None, Some, Ok, Err}
+use Rattle.std.specs.List.{starts_with}
 use Rattle.hex.specs.Hex.{encode_lower}
 use Rattle.tree_spec.specs.Why as why
 use Rattle.tree_spec.specs.Why.{Why}
@@ -10,11 +11,24 @@ use Rattle.tree_spec.specs.declared.reply.CubeRow.{CubeRow}
 use Rattle.tree_spec.specs.declared.reply.StateWord.{StateWord}
 use Rattle.tree_spec.specs.declared.reply.StateWord.TheVariants.{Mounted, Unmounted, Stopped, Offline}
 
+-- the room for a reply: more than 16,384 bytes in hex, or 4,095 lines of entries with 16 of rows
+abbrev pub most_text : ℕ
+most_text = 600000
+
+-- the longest line of an entry with its LF: `file `, and a name of 123 bytes
+abbrev pub most_entry_line : ℕ
+most_entry_line = 129
+
+-- no line of a row is longer, with its LF: two numbers of 20 digits, `unmounted`, and a path of 3,200 bytes
+abbrev pub most_row_line : ℕ
+most_row_line = 3253
+
 -- bytes as a token: two hex digits in lower case for each, `-` for none
 abbrev pub hex_token : List ℕ → List ℕ
 hex_token [] = codes "-"
 hex_token (b ∷ bytes) = encode_lower (b ∷ bytes)
 
+-- the word for a cube's state
 abbrev pub state_word : StateWord → List ℕ
 state_word Mounted = codes "mounted"
 state_word Unmounted = codes "unmounted"
@@ -68,6 +82,7 @@ why_words why.NoSlot = codes "NoSlot"
 why_words why.CubeFull = codes "CubeFull"
 why_words why.NoGroups = codes "NoGroups"
 
+-- what stands behind `no`
 abbrev pub refused_words : Refused → List ℕ
 refused_words (Because why) = why_words why
 refused_words Fault = codes "Fault"
@@ -103,6 +118,10 @@ abbrev pub data_lines : Response → List (List ℕ)
 data_lines (Ok value) = value_lines value
 data_lines (Err refused) = []
 
+-- a line that begins with `ok` or `no`
+abbrev pub is_closing : List ℕ → Bool
+is_closing line = starts_with nat_eq line (codes "ok") || starts_with nat_eq line (codes "no")
+
 -- the lines, each ended by an LF
 abbrev pub ended : List (List ℕ) → List ℕ
 ended [] = []
@@ -111,3 +130,17 @@ ended (line ∷ lines) = line ++ 10 ∷ ended lines
 -- the text of a reply
 unfoldable pub text : Response → List ℕ
 text r = ended (data_lines r ++ closing_line r ∷ [])
+
+-- a byte put before the first line, where there is one
+abbrev pub onto_line : ℕ → List (List ℕ) → List (List ℕ)
+onto_line b [] = []
+onto_line b (line ∷ lines) = (b ∷ line) ∷ lines
+
+-- the lines of these bytes that an LF ends
+unfoldable pub lines_in : List ℕ → List (List ℕ)
+lines_in [] = []
+lines_in (b ∷ bytes) = if b == 10 then [] ∷ lines_in bytes else onto_line b (lines_in bytes)
+
+-- how many lines that an LF ends begin with `ok` or `no`
+abbrev pub closings : List ℕ → ℕ
+closings bytes = count_by is_closing (lines_in bytes)

@@ -3,6 +3,8 @@
 
 mod out;
 mod reply;
+#[cfg(test)]
+mod tests;
 
 pub use out::Out;
 pub use reply::write_reply;

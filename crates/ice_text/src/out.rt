@@ -1,5 +1,6 @@
 //! The bytes of a reply, with room for the longest.
 ghost use Rattle.std.specs.Prelude.{◌≡◌, ◌≤◌, ◌+◌, ◌++◌, [], length, decimal, IfOk};
+ghost use Rattle.ice_text.specs.Text.{most_text};
 
 use std::alloc::{AllocError, Global};
 use std::marker::Model;
@@ -14,12 +15,13 @@ pub struct Out {
 
 impl Model for Out {
     ghost use Rattle.std.specs.Prelude.{List, ℕ, ◌≤◌, vec_capacity};
+    ghost use Rattle.ice_text.specs.Text.{most_text};
 
     ghost Value = { List ℕ };
 
     ghost view = { λ o. o.text.items };
 
-    ghost invariant = { λ o. 600000 ≤ vec_capacity o.text };
+    ghost invariant = { λ o. most_text ≤ vec_capacity o.text };
 }
 
 impl Out {
@@ -44,14 +46,14 @@ impl Out {
     }
 
     pub(crate) fn add(&mut self, bytes: &[u8])
-        requires { length self.old + length bytes.now ≤ 600000 }
+        requires { length self.old + length bytes.now ≤ most_text }
         ensures { self.new ≡ self.old ++ bytes.now }
     {
         let _ = self.text.extend_from_slice(bytes);
     }
 
     pub(crate) fn add_number(&mut self, number: u64)
-        requires { length self.old + 20 ≤ 600000 }
+        requires { length self.old + 20 ≤ most_text }
         ensures text { self.new ≡ self.old ++ decimal number }
         ensures short { length self.new ≤ length self.old + 20 }
     {

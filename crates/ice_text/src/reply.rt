@@ -2,7 +2,7 @@
 ghost use Rattle.std.specs.Prelude.{◌≡◌, ◌≤◌, ◌+◌, ◌*◌, ◌++◌, ◌∷◌, [], length, map, decimal};
 ghost use Rattle.tree_spec.specs.Replies.{accepted_of, meant, refused_of, Checked, Listed};
 ghost use Rattle.tree_spec.specs.Held.{most_bytes, most_entries, most_rows};
-ghost use Rattle.ice_text.specs.Text.{closing_line, ended, entry_line, hex_token, number_words, refused_words, row_line, state_word, text};
+ghost use Rattle.ice_text.specs.Text.{closing_line, ended, entry_line, hex_token, most_entry_line, most_row_line, most_text, number_words, refused_words, row_line, state_word, text};
 
 use crate::out::Out;
 use tree_spec::{CubeRow, Entry, Refusal, Reply, Room, StateWord, Value};
@@ -14,7 +14,7 @@ fn blank() -> [u8; 32768] {
 /// The bytes as hex digits in lower case, `-` for none.
 fn write_hex(bytes: &[u8], out: &mut Out)
     requires few { length bytes.now ≤ most_bytes }
-    requires room { length out.old + 2 * length bytes.now + 1 ≤ 600000 }
+    requires room { length out.old + 2 * length bytes.now + 1 ≤ most_text }
     ensures text { out.new ≡ out.old ++ hex_token bytes.now }
     ensures short { length out.new ≤ length out.old + 2 * length bytes.now + 1 }
 {
@@ -41,9 +41,9 @@ fn word_of(state: StateWord) -> &'static [u8]
 }
 
 fn write_entry(entry: &Entry, out: &mut Out)
-    requires { length out.old + 129 ≤ 600000 }
+    requires { length out.old + most_entry_line ≤ most_text }
     ensures text { out.new ≡ out.old ++ entry_line entry.now ++ 10 ∷ [] }
-    ensures short { length out.new ≤ length out.old + 129 }
+    ensures short { length out.new ≤ length out.old + most_entry_line }
 {
     if entry.dir {
         out.add(b"dir ");
@@ -55,9 +55,9 @@ fn write_entry(entry: &Entry, out: &mut Out)
 }
 
 fn write_row(row: &CubeRow, out: &mut Out)
-    requires { length out.old + 3254 ≤ 600000 }
+    requires { length out.old + most_row_line ≤ most_text }
     ensures text { out.new ≡ out.old ++ row_line row.now ++ 10 ∷ [] }
-    ensures short { length out.new ≤ length out.old + 3254 }
+    ensures short { length out.new ≤ length out.old + most_row_line }
 {
     out.add_number(u64::from(row.slot));
     out.add(b" ");
@@ -73,7 +73,7 @@ fn write_entries(entries: &[Entry], out: &mut Out)
     requires few { length entries.now ≤ most_entries }
     requires empty { out.old ≡ [] }
     ensures text { out.new ≡ ended (map entry_line entries.now) }
-    ensures short { length out.new ≤ 129 * length entries.now }
+    ensures short { length out.new ≤ most_entry_line * length entries.now }
 {
     for entry in entries {
         write_entry(entry, out);
@@ -82,9 +82,9 @@ fn write_entries(entries: &[Entry], out: &mut Out)
 
 fn write_rows(rows: &[CubeRow], out: &mut Out)
     requires few { length rows.now ≤ most_rows }
-    requires room { length out.old ≤ 529000 }
+    requires room { length out.old ≤ most_entry_line * most_entries }
     ensures text { out.new ≡ out.old ++ ended (map row_line rows.now) }
-    ensures short { length out.new ≤ length out.old + 3254 * length rows.now }
+    ensures short { length out.new ≤ length out.old + most_row_line * length rows.now }
 {
     for row in rows {
         write_row(row, out);
@@ -93,7 +93,7 @@ fn write_rows(rows: &[CubeRow], out: &mut Out)
 
 /// A closing line with one number.
 fn write_count(words: &[u8], count: u64, out: &mut Out)
-    requires { length out.old + length words.now + 21 ≤ 600000 }
+    requires { length out.old + length words.now + 21 ≤ most_text }
     ensures { out.new ≡ out.old ++ (words.now ++ decimal count ++ 10 ∷ []) }
 {
     out.add(words);

@@ -1,12 +1,11 @@
 -- The names of a text that gets one more name.
-use Rattle.std.proofs.Common.{◌≡◌, ℕ, suc, ◌+◌, ◌-◌, ◌<◌, ◌≤◌, Bool, true, false, cond, T, List, [], ◌∷◌, ◌++◌, length, map, get_or, take, drop, sym, refl, ap, ◌∙◌, subst, arith, rules, append_assoc, drop-cons, ◌≢◌, zero, lit≤}
-use Rattle.std.specs.Prelude.{not, ◌&&◌, nat_eq, nat_le, nat_lt, All}
+use Rattle.std.proofs.Common.{◌≡◌, ℕ, suc, ◌+◌, ◌<◌, ◌≤◌, Bool, true, false, T, List, [], ◌∷◌, ◌++◌, length, get_or, take, drop, sym, refl, ap, ◌∙◌, subst, arith, append_assoc, drop-cons, ◌≢◌, zero, lit≤}
+use Rattle.std.specs.Prelude.{not, ◌&&◌, nat_eq, nat_le, nat_lt}
 use Rattle.std.specs.List.{list_all}
 use Rattle.std.proofs.Math.Seq.{drop-length}
 use Rattle.std.proofs.lemmas.List.{length-take, take_more, append-nil, length-drop, length-append}
-use Rattle.std.proofs.lemmas.List.Elements.{All-append, All-cons, All-nil}
 use Rattle.std.proofs.lemmas.Bool.Decides.{nat_tests}
-use Rattle.tree_spec.specs.Names.{is_name, is_name_byte, is_dots, longest_name, begin, parts, names_of, BeginsAtSlash, with_slashes, text_of, IsNameList, longest_text}
+use Rattle.tree_spec.specs.Names.{is_name, is_name_byte, longest_name, begin, parts, names_of, BeginsAtSlash, with_slashes, text_of, longest_text}
 
 first : (a b : Bool) → (a && b) ≡ true → a ≡ true
 first true b h = refl

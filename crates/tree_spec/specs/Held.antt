@@ -6,13 +6,15 @@ use Rattle.std.specs.Cmp.Lexicographic.{slice_cmp}
 use Rattle.tree_spec.specs.declared.reply.Entry.{Entry}
 use Rattle.tree_spec.specs.declared.reply.CubeRow.{CubeRow}
 
--- the bytes of one `read`, the entries of one directory, the cubes of one image: no answer has more
+-- no answer has more bytes: those of one `read`
 abbrev pub most_bytes : ℕ
 most_bytes = 16384
 
+-- no answer has more entries: those of one directory
 abbrev pub most_entries : ℕ
 most_entries = 4095
 
+-- no answer has more rows: one for each slot of an image
 abbrev pub most_rows : ℕ
 most_rows = 16
 

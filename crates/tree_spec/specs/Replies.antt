@@ -1,5 +1,6 @@
 -- Replies with their content, and what the code's replies mean.
-use Rattle.std.specs.Prelude.{◌≡◌, ℕ, ◌+◌, List, length, Result, Ok, Err, ⊤}
+use Rattle.std.specs.Prelude.{◌≡◌, ℕ, ◌+◌, true, List, length, Result, Ok, Err, All, ⊤}
+use Rattle.tree_spec.specs.Names.{is_name, IsNameList}
 use Rattle.tree_spec.specs.Why as why
 use Rattle.tree_spec.specs.Why.{Why}
 use Rattle.tree_spec.specs.Held.{Held}
@@ -127,3 +128,14 @@ Tallies (Ok (given.File n)) room = ⊤
 Tallies (Ok (given.Listed n)) room = n ≡ length room.entries + length room.rows
 Tallies (Ok (given.Checked blocks nodes done)) room = ⊤
 Tallies (Err refusal) room = ⊤
+
+-- the names of the entries and of the rows' paths are names
+abbrev pub HasNames : Response → Type 0
+HasNames (Ok Plain) = ⊤
+HasNames (Ok (Number n)) = ⊤
+HasNames (Ok (Bytes bytes)) = ⊤
+HasNames (Ok (Dir n)) = ⊤
+HasNames (Ok (File n)) = ⊤
+HasNames (Ok (Listed entries rows)) = All (λ e. is_name e.name ≡ true) entries × All (λ row. IsNameList row.path) rows
+HasNames (Ok (Checked blocks nodes done)) = ⊤
+HasNames (Err refused) = ⊤

@@ -6,6 +6,8 @@ mod name;
 mod path;
 mod reply;
 mod room;
+#[cfg(test)]
+mod tests;
 
 pub use command::Command;
 pub use name::Name;

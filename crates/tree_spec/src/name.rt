@@ -1,7 +1,7 @@
 //! Names of files and directories.
 ghost use Rattle.std.specs.Prelude.{◌≡◌, ◌+◌, ◌≤◌, ◌++◌, length, take, true, false, MatchOption};
 ghost use Rattle.std.specs.List.{list_all};
-ghost use Rattle.tree_spec.specs.Names.{is_name, is_dots, is_name_byte};
+ghost use Rattle.tree_spec.specs.Names.{is_dots, is_name, is_name_byte, longest_name};
 
 use std::marker::Model;
 
@@ -16,13 +16,13 @@ pub struct Name {
 
 impl Model for Name {
     ghost use Rattle.std.specs.Prelude.{◌≡◌, ◌≤◌, List, ℕ, take, true};
-    ghost use Rattle.tree_spec.specs.Names.{is_name};
+    ghost use Rattle.tree_spec.specs.Names.{is_name, longest_name};
 
     ghost Value = { List ℕ };
 
     ghost view = { λ a. take a.len a.bytes };
 
-    ghost invariant = { λ a. (a.len ≤ 123) × (is_name (take a.len a.bytes) ≡ true) };
+    ghost invariant = { λ a. (a.len ≤ longest_name) × (is_name (take a.len a.bytes) ≡ true) };
 }
 
 fn name_byte(b: u8) -> bool
@@ -50,7 +50,7 @@ fn dots(bytes: &[u8]) -> bool
 #[tactic(auto, unfolding(crate::specs::Names::is_name))]
 fn is_proper_name(bytes: &[u8]) -> bool
     ensures value { result ≡ is_name bytes.now }
-    ensures short { result ≡ true → length bytes.now ≤ 123 }
+    ensures short { result ≡ true → length bytes.now ≤ longest_name }
 {
     !bytes.is_empty() && bytes.len() <= NAME_LIMIT && all_name_bytes(bytes) && !dots(bytes)
 }
@@ -76,7 +76,7 @@ impl Name {
     }
 
     pub(crate) fn keep(bytes: &[u8]) -> Name
-        requires short { length bytes.now ≤ 123 }
+        requires short { length bytes.now ≤ longest_name }
         requires proper { is_name bytes.now ≡ true }
         ensures { result ≡ bytes.now }
     {
@@ -91,7 +91,7 @@ impl Name {
     pub fn bytes(&self) -> &[u8]
         ensures value { result.now ≡ self.now }
         ensures name { is_name self.now ≡ true }
-        ensures short { length self.now ≤ 123 }
+        ensures short { length self.now ≤ longest_name }
     {
         &self.bytes[..self.len]
     }

@@ -17,13 +17,13 @@ pub struct Path {
 
 impl Model for Path {
     ghost use Rattle.std.specs.Prelude.{◌≡◌, ◌≤◌, List, ℕ, take, length};
-    ghost use Rattle.tree_spec.specs.Names.{names_of, BeginsAtSlash, IsNameList};
+    ghost use Rattle.tree_spec.specs.Names.{longest_text, names_of, BeginsAtSlash, IsNameList};
 
     ghost Value = { List (List ℕ) };
 
     ghost view = { λ a. names_of (take a.len a.text) };
 
-    ghost invariant = { λ a. (a.len ≤ 3200) × BeginsAtSlash (take a.len a.text) × IsNameList (names_of (take a.len a.text)) × (a.count ≡ length (names_of (take a.len a.text))) };
+    ghost invariant = { λ a. (a.len ≤ longest_text) × BeginsAtSlash (take a.len a.text) × IsNameList (names_of (take a.len a.text)) × (a.count ≡ length (names_of (take a.len a.text))) };
 }
 
 /// Where the text has its first slash, or its end.

@@ -51,11 +51,7 @@ pub enum Value {
     Dir(u32),
     File(u32),
     Listed(u32),
-    Checked {
-        blocks: u32,
-        nodes: u32,
-        done: u64,
-    },
+    Checked { blocks: u32, nodes: u32, done: u64 },
 }
 
 pub type Reply = Result<Value, Refusal>;

@@ -1,4 +1,4 @@
-use Rattle.std.proofs.Common.{◌≡◌, ℕ, ◌-◌, ◌+◌, take, length, drop, arith, sym}
+use Rattle.std.proofs.Common.{◌≡◌, ◌-◌, ◌+◌, take, length, drop, arith, sym}
 use Rattle.std.proofs.lemmas.Grind.{common_steps}
 use Rattle.ice_script.proofs.Tokens.{tokens_at, tokens_none}
 use Rattle.ice_script.proofs.token.split_token.Goals as goal

@@ -1,9 +1,9 @@
 use Rattle.std.proofs.Common.{◌≡◌, ◌*◌, ◌≤◌, length, map, take}
-use Rattle.ice_text.specs.Text.{ended, entry_line}
+use Rattle.ice_text.specs.Text.{ended, entry_line, most_entry_line}
 use Rattle.ice_text.proofs.reply.write_entries.Given as goal
 
 abbrev pub invariant-loop-entry : goal.invariant-loop-entry
 invariant-loop-entry l = record {
   text : l.out ≡ ended (map entry_line (take l.entry-index l.entries));
-  short : length l.out ≤ 129 * l.entry-index;
+  short : length l.out ≤ most_entry_line * l.entry-index;
 }

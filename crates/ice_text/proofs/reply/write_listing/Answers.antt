@@ -1,4 +1,4 @@
-use Rattle.std.proofs.Common.{ℕ, List, ◌+◌, ◌++◌, ◌∷◌, [], ◌≡◌, ◌∙◌, length, map, sym, ap, refl}
+use Rattle.std.proofs.Common.{List, ◌+◌, ◌++◌, ◌∷◌, [], ◌≡◌, ◌∙◌, length, map, sym, ap}
 use Rattle.std.specs.Prelude.{decimal, codes, Ok}
 use Rattle.tree_spec.specs.Replies.{Listed}
 use Rattle.tree_spec.specs.declared.reply.Entry.{Entry}
@@ -15,5 +15,5 @@ text-Listed es es2 rows rows2 e r = rw (e, r) (sym (ended-two (map entry_line es
 pub returns : goal.returns
 returns c =
     c.write_count.ensures ∙ ap (λ t. t ++ (codes "ok " ++ decimal (length c.entries-entries.result.now + length c.rows-rows.result.now) ++ 10 ∷ []))
-      (c.write_rows.ensures.text ∙ ap (λ t. t ++ ended (map row_line c.rows-rows.result.now)) c.write_entries.ensures.text)
-      ∙ text-Listed _ c.entries-entries.result.now _ c.rows-rows.result.now c.entries-entries.ensures.value c.rows-rows.ensures.value
+    (c.write_rows.ensures.text ∙ ap (λ t. t ++ ended (map row_line c.rows-rows.result.now)) c.write_entries.ensures.text)
+    ∙ text-Listed _ c.entries-entries.result.now _ c.rows-rows.result.now c.entries-entries.ensures.value c.rows-rows.ensures.value

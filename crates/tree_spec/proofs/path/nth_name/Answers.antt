@@ -1,5 +1,4 @@
-use Rattle.std.proofs.Common.{rules, ◌≡◌, refl, sym, ap, ◌∙◌, subst, arith, take, drop, length, ◌∷◌, ◌≤◌}
-use Rattle.tree_spec.specs.Names.{names_of, BeginsAtSlash, parts}
+use Rattle.std.proofs.Common.{refl, arith}
 use Rattle.tree_spec.proofs.Texts.{next_left, has_left, name_at}
 use Rattle.tree_spec.proofs.path.nth_name.Goals as goal
 

@@ -1,4 +1,4 @@
-use Rattle.std.proofs.Common.{◌≡◌, take, drop, ◌++◌, ◌<◌, length, ℕ}
+use Rattle.std.proofs.Common.{◌≡◌, drop}
 use Rattle.tree_spec.specs.Names.{names_of, BeginsAtSlash}
 use Rattle.tree_spec.proofs.path.nth_name.Given as goal
 

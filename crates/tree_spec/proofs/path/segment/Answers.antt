@@ -1,6 +1,5 @@
-use Rattle.std.proofs.Common.{rules, ◌≡◌, refl, sym, ap, ◌∙◌, subst, arith, take, drop, length}
-use Rattle.tree_spec.specs.Names.{names_of, BeginsAtSlash, parts}
-use Rattle.tree_spec.proofs.Texts.{IsSplitAt, split_none, split_more, split_front, split_begins, split_rest, split_end}
+use Rattle.std.proofs.Common.{subst, arith, length}
+use Rattle.tree_spec.proofs.Texts.{IsSplitAt, split_none, split_begins, split_rest, split_end}
 use Rattle.tree_spec.proofs.path.segment.Goals as goal
 
 pub loop-i-init : goal.loop-i-init

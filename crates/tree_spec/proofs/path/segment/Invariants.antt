@@ -1,4 +1,3 @@
-use Rattle.std.proofs.Common.{◌≡◌, take, drop, ◌++◌}
 use Rattle.tree_spec.proofs.Texts.{IsSplitAt}
 use Rattle.tree_spec.proofs.path.segment.Given as goal
 

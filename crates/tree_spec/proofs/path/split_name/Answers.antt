@@ -1,5 +1,5 @@
-use Rattle.std.proofs.Common.{rules, ◌≡◌, refl, sym, ap, ◌∙◌, subst, arith, take, drop, length, ◌∷◌, ◌≤◌}
-use Rattle.tree_spec.specs.Names.{names_of, BeginsAtSlash, parts}
+use Rattle.std.proofs.Common.{sym, ap, ◌∙◌, length, ◌∷◌, ◌≤◌}
+use Rattle.tree_spec.specs.Names.{names_of}
 use Rattle.tree_spec.proofs.Texts.{has_byte, first_name}
 use Rattle.tree_spec.proofs.path.split_name.Goals as goal
 

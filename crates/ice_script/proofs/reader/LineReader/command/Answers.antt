@@ -1,4 +1,4 @@
-use Rattle.std.proofs.Common.{◌≡◌, ◌≤◌, length, refl, ap, rules, arith}
+use Rattle.std.proofs.Common.{◌≡◌, length, refl, ap, rules, arith}
 use Rattle.tree_spec.specs.Why.{Long}
 use Rattle.ice_script.proofs.Kept.{line_of-kept}
 use Rattle.ice_script.proofs.reader.LineReader.command.Goals as goal

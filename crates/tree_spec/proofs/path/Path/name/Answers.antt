@@ -1,5 +1,5 @@
-use Rattle.std.proofs.Common.{rules, ◌≡◌, ℕ, ◌+◌, ◌<◌, ◌≤◌, List, [], ◌∷◌, ◌++◌, length, take, get_or, true, false, refl, sym, ap, ◌∙◌, subst, arith}
-use Rattle.tree_spec.specs.Names.{is_name, names_of}
+use Rattle.std.proofs.Common.{◌≡◌, [], length, true, sym, ap, subst, arith}
+use Rattle.tree_spec.specs.Names.{is_name}
 use Rattle.tree_spec.proofs.Texts.{name_short}
 use Rattle.tree_spec.proofs.path.Path.name.Goals as goal
 

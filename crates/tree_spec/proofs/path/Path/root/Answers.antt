@@ -1,4 +1,4 @@
-use Rattle.std.proofs.Common.{rules, ◌≡◌, refl, arith}
+use Rattle.std.proofs.Common.{refl, arith}
 use Rattle.tree_spec.specs.Names.{names_of, BeginsAtSlash}
 use Rattle.tree_spec.proofs.path.Path.root.Goals as goal
 

@@ -1,0 +1,11 @@
+//! Tests that cross crates: whole runs of the program over hosts in memory and over a file.
+#![tactic(auto)]
+
+#[cfg(test)]
+mod bytes;
+#[cfg(test)]
+mod format;
+#[cfg(test)]
+mod hosts;
+#[cfg(test)]
+mod sessions;

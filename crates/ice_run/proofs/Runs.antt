@@ -1,0 +1,65 @@
+-- Runs that grow by a line.
+use Rattle.std.proofs.Common.{◌≡◌, ◌∙◌, ◌<◌, ℕ, List, [], ◌∷◌, ◌++◌, length, take, drop, refl, sym, ap, subst, append_assoc, length-drop, arith, None, Ok}
+use Rattle.std.specs.List.{range_with_len, flat_map}
+use Rattle.std.proofs.lemmas.List.{take-append-drop}
+use Rattle.tree_spec.specs.declared.command.Command.{Command}
+use Rattle.tree_spec.specs.declared.command.Command.TheVariants.{Cubes}
+use Rattle.tree_spec.specs.declared.reply.Entry.{Entry}
+use Rattle.tree_spec.specs.declared.reply.CubeRow.{CubeRow}
+use Rattle.tree_spec.specs.Lines.{Line, Asks, asked}
+use Rattle.tree_spec.specs.Lines as request
+use Rattle.tree_spec.specs.Replies.{Response, Listed}
+use Rattle.tree_spec.specs.World.{World, Step, rows_of, row_at}
+use Rattle.ice_text.specs.Text.{text}
+use Rattle.ice_run.specs.Runs.{Answered, Runs, end, lines_of, texts, IsProperPrefix}
+
+-- one more line
+pub push : List Answered → Line → Response → World → List Answered
+push steps line r v = steps ++ record { line = line; reply = r; then = v } ∷ []
+
+pub runs-push : (w : World) (steps : List Answered) (line : Line) (r : Response) (v : World) → Runs w steps → Step (end w steps) line r v → Runs w (push steps line r v)
+unfolding push
+runs-push w [] line r v runs step = (step, tt)
+runs-push w (a ∷ rest) line r v runs step = (runs.0, runs-push a.then rest line r v runs.1 step)
+
+pub end-push : (w : World) (steps : List Answered) (line : Line) (r : Response) (v : World) → end w (push steps line r v) ≡ v
+unfolding push
+end-push w [] line r v = refl
+end-push w (a ∷ rest) line r v = end-push a.then rest line r v
+
+pub lines_of-push : (steps : List Answered) (line : Line) (r : Response) (v : World) → lines_of (push steps line r v) ≡ lines_of steps ++ line ∷ []
+unfolding push
+lines_of-push [] line r v = refl
+lines_of-push (a ∷ rest) line r v = ap (λ (x : List Line). a.line ∷ x) (lines_of-push rest line r v)
+
+pub texts-push : (steps : List Answered) (line : Line) (r : Response) (v : World) → texts (push steps line r v) ≡ texts steps ++ text r
+unfolding push
+texts-push [] line r v = append_nil (text r)
+  where
+    append_nil : (xs : List ℕ) → xs ++ [] ≡ xs
+    append_nil [] = refl
+    append_nil (x ∷ xs) = ap (λ (y : List ℕ). x ∷ y) (append_nil xs)
+texts-push (a ∷ rest) line r v = ap (λ (x : List ℕ). text a.reply ++ x) (texts-push rest line r v) ∙ sym (append_assoc (text a.reply) (texts rest) (text r))
+
+-- a front of a text that is shorter than it
+pub front : (xs : List ℕ) (m : ℕ) → m < length xs → IsProperPrefix (take m xs) xs
+front xs m less = (drop m xs, omega (arith, length-drop m xs), sym (take-append-drop m xs))
+
+pub nothing_given : (xs : List ℕ) → 0 < length xs → IsProperPrefix [] xs
+nothing_given xs some = (xs, some, refl)
+
+-- a volume without cubes lists none
+none_listed : (w : World) (slots : List ℕ) → ((slot : ℕ) → w.cube slot ≡ None) → flat_map (λ slot. row_at slot (w.cube slot)) slots ≡ []
+none_listed w [] free = refl
+none_listed w (slot ∷ slots) free = rw (free slot) (none_listed w slots free)
+
+pub rows_of-none : (w : World) → ((slot : ℕ) → w.cube slot ≡ None) → rows_of w ≡ []
+unfolding rows_of
+rows_of-none w free = none_listed w (range_with_len 0 w.slots) free
+
+-- the listing of a volume without cubes
+pub listed : (w : World) (line : Line) (command : Command) (entries : List Entry) (rows : List CubeRow) → ((slot : ℕ) → w.cube slot ≡ None) → line ≡ Asks (asked command) → command ≡ Cubes
+    → entries ≡ [] → rows ≡ [] → Step w line (Ok (Listed entries rows)) w
+listed w line command entries rows free is cubes no_entries no_rows =
+    let here : line ≡ Asks request.Cubes = is ∙ ap (λ (x : Command). Asks (asked x)) cubes in
+    subst (λ x. Step w x (Ok (Listed entries rows)) w) (sym here) (rw (no_entries, no_rows, rows_of-none w free) (refl, refl))

@@ -1,0 +1,12 @@
+pub mod Attaching
+pub mod Causes
+pub mod Endings
+pub mod Forms
+pub mod Images
+pub mod Pieces
+pub mod Readings
+pub mod Runs
+pub mod Scripts
+pub mod Servings
+pub mod Sessions
+pub mod Tops

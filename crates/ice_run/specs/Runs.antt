@@ -1,0 +1,63 @@
+-- Runs of lines, what they give, and what a crash leaves of them.
+use Rattle.std.specs.Prelude.{◌≡◌, ◌<◌, ◌⊎◌, ℕ, List, [], ◌∷◌, ◌++◌, length, map, IsOk, ⊤}
+use Rattle.ice_base.specs.Disk.{Image}
+use Rattle.tree_spec.specs.Lines.{Line}
+use Rattle.tree_spec.specs.Replies.{Response}
+use Rattle.tree_spec.specs.World.{World, Step}
+use Rattle.ice_text.specs.Text.{text}
+use Rattle.ice_run.specs.Images.{Fits}
+
+-- a line with its reply and the world after it
+pub record Answered : Type 0 where
+  pub line : Line
+  pub reply : Response
+  pub then : World
+
+-- a run: each line's reply and next world follow by a step from the world before
+abbrev pub Runs : World → List Answered → Type 0
+Runs w [] = ⊤
+Runs w (a ∷ rest) = Step w a.line a.reply a.then × Runs a.then rest
+
+-- the world after the last line
+abbrev pub end : World → List Answered → World
+end w [] = w
+end w (a ∷ rest) = end a.then rest
+
+-- the lines of a run
+abbrev pub lines_of : List Answered → List Line
+lines_of steps = map (λ (a : Answered). a.line) steps
+
+-- the text of its replies
+abbrev pub texts : List Answered → List ℕ
+texts [] = []
+texts (a ∷ rest) = text a.reply ++ texts rest
+
+-- the first bytes, but not all
+abbrev pub IsProperPrefix : List ℕ → List ℕ → Type 0
+IsProperPrefix xs ys = (rest : List ℕ) × (0 < length rest) × (ys ≡ xs ++ rest)
+
+-- a run of the first lines of a script
+pub record RunsFirst (w : World) (script : List Line) (steps : List Answered) : Type 0 where
+  pub runs : Runs w steps
+  pub ahead : List Line
+  pub lines : script ≡ lines_of steps ++ ahead
+
+-- a reply to the line after these
+pub record Next (w : World) (script : List Line) (steps : List Answered) (r : Response) (v : World) : Type 0 where
+  pub line : Line
+  pub ahead : List Line
+  pub lines : script ≡ lines_of steps ++ line ∷ ahead
+  pub step : Step (end w steps) line r v
+
+-- After whole replies and the front of a further one, the world then fits, or the one after the line in work.
+pub record After (fits : World → Type 0) (w : World) (script : List Line) (out : List ℕ) : Type 0 where
+  pub steps : List Answered
+  pub runs : RunsFirst w script steps
+  pub tail : List ℕ
+  pub gives : out ≡ texts steps ++ tail
+  pub here : (fits (end w steps) × ((r : Response) × IsProperPrefix tail (text r)))
+      ⊎ ((r : Response) × (v : World) × Next w script steps r v × IsOk r × fits v × IsProperPrefix tail (text r))
+
+-- what a crash in a run may leave, where these bytes had been given before
+abbrev pub Left : List ℕ → World → List Line → Image → List ℕ → Type 0
+Left aside w script image given = (out : List ℕ) × (given ≡ aside ++ out) × After (λ v. Fits v image) w script out

@@ -1,0 +1,152 @@
+ghost use Rattle.std.specs.Prelude.{◌≡◌, []};
+
+use super::*;
+use std::test::Fail;
+use tree_spec::{CubeRow, Entry, Name, Path, Refusal, Room, StateWord, Value};
+
+#[test]
+fn each_refusal_has_its_name(rt: HostRuntime) -> Result<(), Fail> {
+    let table: [(Refusal, &[u8]); 33] = [
+        (Refusal::NameLong, b"no NameLong\n"),
+        (Refusal::TooDeep, b"no TooDeep\n"),
+        (Refusal::NotFound, b"no NotFound\n"),
+        (Refusal::NotDir, b"no NotDir\n"),
+        (Refusal::IsDir, b"no IsDir\n"),
+        (Refusal::IsRoot, b"no IsRoot\n"),
+        (Refusal::Exists, b"no Exists\n"),
+        (Refusal::NotEmpty, b"no NotEmpty\n"),
+        (Refusal::IntoItself, b"no IntoItself\n"),
+        (Refusal::BeyondEnd, b"no BeyondEnd\n"),
+        (Refusal::FileBig, b"no FileBig\n"),
+        (Refusal::NoNodes, b"no NoNodes\n"),
+        (Refusal::NoSpace, b"no NoSpace\n"),
+        (Refusal::Spent, b"no Spent\n"),
+        (Refusal::Damaged(15), b"no Damaged 15\n"),
+        (Refusal::Fault, b"no Fault\n"),
+        (Refusal::Memory, b"no Memory\n"),
+        (Refusal::Word, b"no Word\n"),
+        (Refusal::Args, b"no Args\n"),
+        (Refusal::Number, b"no Number\n"),
+        (Refusal::Hex, b"no Hex\n"),
+        (Refusal::Long, b"no Long\n"),
+        (Refusal::Path, b"no Path\n"),
+        (Refusal::NoCube, b"no NoCube\n"),
+        (Refusal::CrossCube, b"no CrossCube\n"),
+        (Refusal::Offline, b"no Offline\n"),
+        (Refusal::Stopped, b"no Stopped\n"),
+        (Refusal::Unmounted, b"no Unmounted\n"),
+        (Refusal::Mounted, b"no Mounted\n"),
+        (Refusal::State, b"no State\n"),
+        (Refusal::NoSlot, b"no NoSlot\n"),
+        (Refusal::CubeFull, b"no CubeFull\n"),
+        (Refusal::NoGroups, b"no NoGroups\n"),
+    ];
+    let room = Room::new(rt.alloc())?;
+    let mut out = Out::new(rt.alloc())?;
+    for (refusal, text) in table {
+        out.clear();
+        write_reply(&Err(refusal), &room, &mut out);
+        assert_eq!(rt; out.bytes(), text, "of {refusal:?}");
+    }
+    Ok(())
+}
+
+#[test]
+fn each_value_has_its_closing_line(rt: HostRuntime) -> Result<(), Fail> {
+    let checked = Value::Checked {
+        blocks: 3,
+        nodes: 3,
+        done: 4,
+    };
+    let table: [(Value, &[u8]); 9] = [
+        (Value::Plain, b"ok\n"),
+        (Value::Number(0), b"ok 0\n"),
+        (
+            Value::Number(9223372036854775807),
+            b"ok 9223372036854775807\n",
+        ),
+        (
+            Value::Number(18446744073709551615),
+            b"ok 18446744073709551615\n",
+        ),
+        (Value::Bytes, b"ok -\n"),
+        (Value::Dir(1), b"ok dir 1\n"),
+        (Value::File(4), b"ok file 4\n"),
+        (Value::Listed(0), b"ok 0\n"),
+        (checked, b"ok 3 3 4\n"),
+    ];
+    let room = Room::new(rt.alloc())?;
+    let mut out = Out::new(rt.alloc())?;
+    for (value, text) in table {
+        out.clear();
+        write_reply(&Ok(value), &room, &mut out);
+        assert_eq!(rt; out.bytes(), text, "of {value:?}");
+    }
+    Ok(())
+}
+
+#[test]
+fn bytes_are_hex_in_lower_case(rt: HostRuntime) -> Result<(), Fail> {
+    let mut room = Room::new(rt.alloc())?;
+    let mut out = Out::new(rt.alloc())?;
+    room.add_bytes(b"Hello\n\x00\xff");
+    write_reply(&Ok(Value::Bytes), &room, &mut out);
+    assert_eq!(rt; out.bytes(), b"ok 48656c6c6f0a00ff\n".as_slice());
+    Ok(())
+}
+
+#[test]
+fn a_directory_is_listed_entry_by_entry(rt: HostRuntime) -> Result<(), Fail> {
+    let mut room = Room::new(rt.alloc())?;
+    let mut out = Out::new(rt.alloc())?;
+    let a = Name::new(b"a").ok_or("name")?;
+    let todo = Name::new(b"todo").ok_or("name")?;
+    room.add_entry(Entry { name: a, dir: true });
+    room.add_entry(Entry {
+        name: todo,
+        dir: false,
+    });
+    write_reply(&Ok(Value::Listed(2)), &room, &mut out);
+    assert_eq!(rt; out.bytes(), b"dir a\nfile todo\nok 2\n".as_slice());
+    Ok(())
+}
+
+#[test]
+fn cubes_are_listed_row_by_row(rt: HostRuntime) -> Result<(), Fail> {
+    let mut room = Room::new(rt.alloc())?;
+    let mut out = Out::new(rt.alloc())?;
+    let mut home = Path::root();
+    let mut mail = Path::root();
+    let mut vm = Path::root();
+    assert!(rt; home.push(&Name::new(b"home").ok_or("name")?));
+    assert!(rt; mail.push(&Name::new(b"mail").ok_or("name")?));
+    assert!(rt; vm.push(&Name::new(b"vm").ok_or("name")?));
+    room.add_row(CubeRow {
+        slot: 0,
+        groups: 4,
+        state: StateWord::Unmounted,
+        path: home,
+    });
+    room.add_row(CubeRow {
+        slot: 1,
+        groups: 2,
+        state: StateWord::Stopped,
+        path: mail,
+    });
+    room.add_row(CubeRow {
+        slot: 2,
+        groups: 8,
+        state: StateWord::Mounted,
+        path: vm,
+    });
+    room.add_row(CubeRow {
+        slot: 15,
+        groups: 64,
+        state: StateWord::Offline,
+        path: Path::root(),
+    });
+    write_reply(&Ok(Value::Listed(4)), &room, &mut out);
+    let text = b"0 4 unmounted /home\n1 2 stopped /mail\n2 8 mounted /vm\n15 64 offline /\nok 4\n";
+    assert_eq!(rt; out.bytes(), text.as_slice());
+    Ok(())
+}
