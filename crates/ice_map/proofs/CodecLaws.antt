@@ -1,12 +1,12 @@
 -- Inodes that were written read back, and the other bytes stay.
-use Rattle.std.proofs.Common.{◌≡◌, ◌≤◌, ◌<◌, ◌⊎◌, ◌+◌, ◌*◌, ℕ, List, length, slice_index, inl, inr, ◌∙◌, sym, refl, arith}
+use Rattle.std.proofs.Common.{◌≡◌, ◌≤◌, ◌<◌, ◌⊎◌, ◌+◌, ◌*◌, ℕ, List, length, slice_index, inl, ◌∙◌, sym, arith}
 use Rattle.std.proofs.lemmas.List.{ext_get_or}
 use Rattle.std.proofs.lemmas.List.FromFn.{get_or-map-range_with_len, length-map-range_with_len}
 use Rattle.ice_base.specs.Fields.{word_at, WordSet, SameBeside}
 use Rattle.ice_base.specs.Inodes.{kind_at, size_at, pointer, direct_of}
 use Rattle.ice_base.proofs.FieldLaws.{word-others, word-same}
 use Rattle.ice_map.specs.declared.codec.Inode.{Inode}
-use Rattle.ice_map.specs.Inodes.{inode_at, Blank}
+use Rattle.ice_map.specs.Inodes.{inode_at}
 
 make : ℕ → ℕ → List ℕ → ℕ → ℕ → Inode
 make kind size direct single double = record { kind = kind; size = size; direct = direct; single = single; double = double }

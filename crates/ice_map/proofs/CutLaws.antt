@@ -1,5 +1,5 @@
 -- What a cut of a map does.
-use Rattle.std.proofs.Common.{◌≡◌, ◌≢◌, ◌≤◌, ◌<◌, ◌⊎◌, ◌+◌, ◌-◌, ◌*◌, ◌/◌, ◌%◌, ◌==◌, ◌&&◌, ℕ, zero, suc, Bool, true, false, cond, List, [], ◌∷◌, ◌++◌, map, length, slice_index, replicate, take, ◌∙◌, sym, refl, ap, arith, ltb, subst, nat_lt, nat_le, length-append}
+use Rattle.std.proofs.Common.{◌≡◌, ◌≢◌, ◌≤◌, ◌<◌, ◌+◌, ◌-◌, ◌*◌, ◌/◌, ◌&&◌, ℕ, Bool, true, false, cond, List, [], ◌∷◌, ◌++◌, map, length, slice_index, replicate, take, ◌∙◌, sym, refl, ap, arith, ltb, subst, nat_lt, nat_le, length-append}
 use Rattle.std.proofs.lemmas.Bool.Decides.{nat_tests}
 use Rattle.std.proofs.lemmas.List.{append-nil, ext_get_or}
 use Rattle.std.proofs.lemmas.List.FromFn.{map-range_with_len_more, length-map-range_with_len}
@@ -9,17 +9,17 @@ use Rattle.ice_base.specs.Lots.{LotView, sub_address}
 use Rattle.ice_base.specs.Fields.{word_at}
 use Rattle.ice_base.specs.Pools.{Gave}
 use Rattle.ice_base.specs.Spare.{has, lacks, bitmaps}
-use Rattle.ice_base.specs.Used.{used_block, is_data, bitmap_of, counted, bit_place}
+use Rattle.ice_base.specs.Used.{used_block, is_data, bitmap_of, counted}
 use Rattle.ice_base.specs.Views.{Puts}
 use Rattle.ice_base.specs.declared.view.View as view
 use Rattle.ice_base.proofs.SpareLaws.{lacks_part, lacks_few, lacks-bitmaps}
 use Rattle.ice_base.proofs.UsedLaws.{bitmap_not_sub}
 use Rattle.ice_map.specs.declared.codec.Inode.{Inode}
-use Rattle.ice_map.specs.Maps.{nth_block, blocks_of, indirect_of, Placed, blocks_between, cut_off, cut_room, given_puts, shortened, uses, times, Marked, OwnsOnce, Cut}
-use Rattle.ice_map.proofs.ListLaws.{AllHas, map_range_same, times-append, has-append, has-head, has-tail, has-left, has-right, has-times, has-none, has-range, range-append, lacks-wide, where_elim}
+use Rattle.ice_map.specs.Maps.{nth_block, blocks_of, indirect_of, Placed, blocks_between, cut_off, cut_room, given_puts, shortened, times, Marked, OwnsOnce, Cut}
+use Rattle.ice_map.proofs.ListLaws.{AllHas, map_range_same, times-append, has-head, has-tail, has-left, has-right, has-times, has-range, range-append, lacks-wide, where_elim}
 use Rattle.ice_map.proofs.MapLaws.{nth-direct, nth-single}
 use Rattle.ice_map.proofs.MarkLaws.{marked-then, marked-gave}
-use Rattle.ice_map.proofs.PutsLaws.{puts-then, puts-widen, puts-fail, given-left, given-one, bitmaps-one}
+use Rattle.ice_map.proofs.PutsLaws.{puts-then, given-left, given-one, bitmaps-one}
 
 -- the blocks up to the next one, and all of them
 pub between-none : (m : ℕ → List ℕ) (inode : Inode) (rest count : ℕ) → count ≤ rest → blocks_between m inode rest count ≡ []

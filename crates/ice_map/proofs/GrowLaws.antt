@@ -1,5 +1,5 @@
 -- What a growth of a map does.
-use Rattle.std.proofs.Common.{◌≡◌, ◌≢◌, ◌≤◌, ◌<◌, ◌⊎◌, ◌+◌, ◌-◌, ◌*◌, ◌/◌, ◌%◌, ◌==◌, ◌&&◌, ℕ, Bool, true, false, cond, List, [], ◌∷◌, ◌++◌, map, length, slice_index, slice_set, replicate, get_or-set_other, get_or-set_same, inl, inr, ◌∙◌, sym, refl, ap, arith, ⊎_elim, subst, ltb}
+use Rattle.std.proofs.Common.{◌≡◌, ◌≢◌, ◌≤◌, ◌<◌, ◌+◌, ◌-◌, ◌*◌, ◌/◌, ◌%◌, ◌==◌, ℕ, Bool, true, false, cond, List, [], ◌∷◌, ◌++◌, length, slice_index, slice_set, replicate, get_or-set_other, get_or-set_same, inl, ◌∙◌, sym, refl, ap, arith, subst, ltb}
 use Rattle.std.proofs.lemmas.Bool.Decides.{nat_tests}
 use Rattle.std.proofs.lemmas.Nat.{div-add-mod', mod_below}
 use Rattle.std.proofs.lemmas.List.FromFn.{map-range_with_len_more}
@@ -15,7 +15,7 @@ use Rattle.ice_base.specs.Used.{used_block, is_data, bitmap_of}
 use Rattle.ice_base.proofs.UsedLaws.{data_below, data_place}
 use Rattle.ice_base.proofs.FieldLaws.{word-others}
 use Rattle.ice_map.specs.declared.codec.Inode.{Inode}
-use Rattle.ice_map.specs.Inodes.{inode_at, inode_of}
+use Rattle.ice_map.specs.Inodes.{inode_at}
 use Rattle.ice_map.specs.Maps.{nth_block, blocks_of, indirect_of, uses, times, growth, Marked, Stays, TookTwo, Grown, growth_puts, needs, Owns, MapStays, OthersStay}
 use Rattle.ice_map.proofs.ListLaws.{map_range_same, times-append, has-append, has-one, has-none}
 use Rattle.ice_map.proofs.MapLaws.{nth-direct, nth-single}

@@ -1,10 +1,10 @@
 -- Where inodes stand, and what a change of one leaves.
-use Rattle.std.proofs.Common.{◌≡◌, ◌≢◌, ◌≤◌, ◌<◌, ◌⊎◌, ◌+◌, ◌-◌, ◌*◌, ◌/◌, ◌%◌, ℕ, true, false, List, length, slice_index, inl, inr, ◌∙◌, sym, refl, ap, arith, ⊎_elim, ◌==◌}
+use Rattle.std.proofs.Common.{◌≡◌, ◌≢◌, ◌<◌, ◌+◌, ◌*◌, ◌/◌, ◌%◌, ℕ, true, false, List, length, slice_index, ◌∙◌, sym, refl, ap, arith, ◌==◌}
 use Rattle.std.proofs.lemmas.Bool.Decides.{nat_tests}
 use Rattle.std.proofs.lemmas.Nat.{div-add-mod', mod_below}
 use Rattle.ice_base.specs.Fields.{SameBeside}
 use Rattle.ice_base.specs.Lots.{LotView, is_address}
-use Rattle.ice_base.specs.Inodes.{inode_address, inode_index}
+use Rattle.ice_base.specs.Inodes.{inode_address}
 use Rattle.ice_base.proofs.LotLaws.{is_address_at}
 use Rattle.ice_map.specs.declared.codec.Inode.{Inode}
 use Rattle.ice_map.specs.Inodes.{inode_at, inode_of, Blank, InodeSet}

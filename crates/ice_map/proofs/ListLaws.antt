@@ -1,13 +1,13 @@
 -- Lists of addresses.
-use Rattle.std.proofs.Common.{◌≡◌, ◌≢◌, ◌≤◌, ◌<◌, ◌+◌, ◌-◌, ◌*◌, ◌==◌, ◌||◌, ℕ, zero, suc, Bool, true, false, cond, not, List, [], ◌∷◌, ◌++◌, map, length, slice_index, ◌∙◌, sym, refl, ap, arith, add-one}
+use Rattle.std.proofs.Common.{◌≡◌, ◌≢◌, ◌≤◌, ◌<◌, ◌+◌, ◌==◌, ℕ, zero, suc, Bool, true, false, cond, List, [], ◌∷◌, ◌++◌, map, ◌∙◌, sym, refl, ap, arith, add-one}
 use Rattle.std.proofs.lemmas.Bool.Decides.{nat_tests}
 use Rattle.std.proofs.lemmas.List.{ext_get_or}
 use Rattle.std.proofs.lemmas.List.Sums.{sum_by-append}
-use Rattle.std.proofs.lemmas.List.FromFn.{get_or-map-range_with_len, length-map-range_with_len, map-range_with_len_more}
-use Rattle.std.specs.List.{range_with_len, count_by}
-use Rattle.ice_base.specs.Bits.{count_below, Gives}
+use Rattle.std.proofs.lemmas.List.FromFn.{get_or-map-range_with_len, length-map-range_with_len}
+use Rattle.std.specs.List.{range_with_len}
+use Rattle.ice_base.specs.Bits.{count_below}
 use Rattle.ice_base.specs.Spare.{has, lacks, Except, Where}
-use Rattle.ice_base.proofs.CountLaws.{count_below-zero, count_below-add_one, count_below-gives}
+use Rattle.ice_base.proofs.CountLaws.{count_below-zero, count_below-add_one}
 use Rattle.ice_map.specs.Maps.{times}
 
 pub has-append : (xs ys : List ℕ) (b : ℕ) → has (xs ++ ys) b ≡ cond (has xs b) true (has ys b)

@@ -1,13 +1,13 @@
 -- Blocks that were marked used or free, one after another.
-use Rattle.std.proofs.Common.{◌≡◌, ◌≢◌, ◌≤◌, ◌<◌, ◌⊎◌, ◌+◌, ◌-◌, ◌*◌, ◌/◌, ◌%◌, ◌==◌, ℕ, Bool, true, false, cond, not, List, [], ◌∷◌, ◌++◌, length, slice_index, length-append, ◌∙◌, sym, refl, ap, arith}
+use Rattle.std.proofs.Common.{◌≡◌, ◌≢◌, ◌≤◌, ◌+◌, ◌-◌, ◌*◌, ◌%◌, ◌==◌, ℕ, Bool, true, false, cond, not, List, [], ◌∷◌, ◌++◌, length, length-append, ◌∙◌, sym, refl, ap, arith}
 use Rattle.std.proofs.lemmas.Bool.Decides.{nat_tests}
-use Rattle.std.proofs.lemmas.Nat.{div-add-mod', mod_below}
-use Rattle.ice_base.specs.Bits.{bit_of, Takes, Gives, count_below}
+use Rattle.std.proofs.lemmas.Nat.{mod_below}
+use Rattle.ice_base.specs.Bits.{bit_of}
 use Rattle.ice_base.specs.Fields.{word_at, WordSet}
 use Rattle.ice_base.specs.Lots.{LotView, sub_address}
 use Rattle.ice_base.specs.Pools.{Took, Gave}
 use Rattle.ice_base.specs.Spare.{has}
-use Rattle.ice_base.specs.Used.{used, used_block, used_inode, is_data, bitmap_of, bit_place, count_place, counted, free_count, AllUsed, Reserved}
+use Rattle.ice_base.specs.Used.{used, used_block, is_data, bitmap_of, bit_place, counted, free_count, AllUsed, Reserved}
 use Rattle.ice_base.proofs.CountLaws.{count_below-same, count_below-takes, count_below-gives}
 use Rattle.ice_base.proofs.UsedLaws.{data_below, data_place, bitmap_not_sub}
 use Rattle.ice_map.specs.Maps.{Marked}

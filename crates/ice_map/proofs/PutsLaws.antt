@@ -1,5 +1,5 @@
 -- Puts one after another.
-use Rattle.std.proofs.Common.{◌≡◌, ◌≢◌, ◌≤◌, ◌<◌, ◌+◌, ◌-◌, ◌*◌, ◌/◌, ◌==◌, ℕ, zero, suc, Bool, true, false, cond, List, [], ◌∷◌, ◌++◌, map, length, ◌∙◌, sym, refl, ap, arith}
+use Rattle.std.proofs.Common.{◌≡◌, ◌≢◌, ◌≤◌, ◌+◌, ◌*◌, ◌/◌, ◌==◌, ℕ, zero, suc, Bool, true, false, cond, List, [], ◌∷◌, ◌++◌, map, length, ◌∙◌, sym, refl, ap, arith}
 use Rattle.std.proofs.lemmas.List.{map-append}
 use Rattle.std.proofs.lemmas.Bool.Decides.{nat_tests}
 use Rattle.ice_base.specs.Lots.{LotView, sub_address}
@@ -8,10 +8,10 @@ use Rattle.ice_base.specs.Used.{is_data, bitmap_of}
 use Rattle.ice_base.specs.Views.{Puts, Spent, Looked}
 use Rattle.ice_base.specs.declared.disk.Disk as disk
 use Rattle.ice_base.specs.declared.view.View as view
-use Rattle.ice_base.proofs.SpareLaws.{lacks_part, lacks_few, has-bitmaps, lacks-bitmaps}
-use Rattle.ice_base.proofs.UsedLaws.{data_below, bitmap_not_sub, ordinal_below}
-use Rattle.ice_map.specs.Maps.{given_puts, cut_room}
-use Rattle.ice_map.proofs.ListLaws.{AllHas, has-none, has-head, has-tail, has-cons, has-left, has-right, has-not, has-append, has-one, except_elim, except_intro, where_elim, where_intro, lacks-wide}
+use Rattle.ice_base.proofs.SpareLaws.{has-bitmaps}
+use Rattle.ice_base.proofs.UsedLaws.{data_below, ordinal_below}
+use Rattle.ice_map.specs.Maps.{given_puts}
+use Rattle.ice_map.proofs.ListLaws.{AllHas, has-none, has-tail, has-cons, has-left, has-right, has-not, has-one, except_elim, except_intro, where_elim, where_intro}
 
 module _ {V D : Type 0} (k : view.Ghosts V D) (lot : LotView) where
   -- puts, and then others

@@ -1,5 +1,5 @@
 -- The maps of the blocks of inodes.
-use Rattle.std.specs.Prelude.{◌≡◌, ◌≢◌, ◌≤◌, ◌<◌, ℕ, ◌+◌, ◌-◌, ◌*◌, Bool, true, false, cond, ◌==◌, ◌&&◌, ◌||◌, nat_lt, nat_le, List, [], ◌∷◌, ◌++◌, map, length, slice_index, slice_set, replicate, take}
+use Rattle.std.specs.Prelude.{◌≡◌, ◌≤◌, ◌<◌, ℕ, ◌+◌, ◌-◌, ◌*◌, Bool, true, false, cond, ◌==◌, ◌&&◌, ◌||◌, nat_lt, nat_le, List, [], ◌∷◌, ◌++◌, map, length, slice_index, slice_set, replicate, take}
 use Rattle.std.specs.List.{count_by, range_with_len}
 use Rattle.ice_base.specs.Bits.{bit_of, IsLeast}
 use Rattle.ice_base.specs.Fields.{word_at, WordSet}

@@ -1,4 +1,3 @@
-use Rattle.std.proofs.Common.{arith}
 use Rattle.ice_base.proofs.LotLaws.{sited-few}
 use Rattle.ice_map.proofs.GrowLaws.{stays-none, all-stay}
 use Rattle.ice_map.proofs.PutsLaws.{bitmaps-only}

@@ -1,8 +1,8 @@
-use Rattle.std.proofs.Common.{◌≡◌, ◌<◌, ◌+◌, ◌-◌, ◌∙◌, false, arith}
+use Rattle.std.proofs.Common.{◌+◌, ◌∙◌, false, arith}
 use Rattle.ice_base.proofs.LotLaws.{sited-few}
 use Rattle.ice_map.proofs.CutLaws.{between-none, length-between, next-puts, next-gave, all-puts, all-self, give-room, next-free, zero-next}
 use Rattle.ice_map.proofs.MarkLaws.{marked-refl}
-use Rattle.ice_map.proofs.PutsLaws.{puts-then, puts-widen, puts-fail, puts-none, spent-none, spent-then, spent-by, bitmaps-one}
+use Rattle.ice_map.proofs.PutsLaws.{puts-then, puts-widen, puts-fail, puts-none, spent-none, spent-then, bitmaps-one}
 use Rattle.ice_map.proofs.cuts.give_between.Goals as goal
 
 pub loop-k-init : goal.loop-k-init

@@ -1,4 +1,4 @@
-use Rattle.std.proofs.Common.{◌≡◌, ◌<◌, ◌+◌, ◌∙◌, ◌-◌, ◌*◌, sym, arith}
+use Rattle.std.proofs.Common.{◌+◌, ◌-◌, ◌*◌, sym, arith}
 use Rattle.ice_base.proofs.LotLaws.{sited-few}
 use Rattle.ice_base.proofs.PutsLaws.{puts_after}
 use Rattle.ice_map.proofs.CutLaws.{all-self, give-room, gave-next, cut-length, puts-part, owns-part, owns-last, placed-single, placed-run, marked-from, cut-room-by, cut-run-more, cut-run-last, last-puts, counted-from}

@@ -1,4 +1,4 @@
-use Rattle.std.proofs.Common.{List, ℕ, OnOk, is_ok, ◌≡◌, ◌<◌, ◌≤◌, ◌-◌, false, refl, arith}
+use Rattle.std.proofs.Common.{OnOk, is_ok, false, refl, arith}
 use Rattle.ice_base.specs.Views.{Puts}
 use Rattle.ice_map.specs.Maps.{Marked, given_puts}
 use Rattle.ice_map.proofs.MarkLaws.{marked-refl}

@@ -1,4 +1,4 @@
-use Rattle.std.proofs.Common.{◌∙◌, ◌≡◌}
+use Rattle.std.proofs.Common.{◌∙◌}
 use Rattle.ice_base.proofs.LotLaws.{sited-few}
 use Rattle.ice_map.proofs.GrowLaws.{stays-none, stays-own, stays-from, grown-single, grown-from}
 use Rattle.ice_map.proofs.extends.extend_single.Goals as goal

@@ -1,4 +1,3 @@
-use Rattle.std.proofs.Common.{◌∙◌}
 use Rattle.ice_map.proofs.GrowLaws.{took-two}
 use Rattle.ice_map.proofs.extends.take_two.Goals as goal
 

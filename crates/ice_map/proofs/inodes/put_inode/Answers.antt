@@ -1,4 +1,4 @@
-use Rattle.std.proofs.Common.{◌≡◌, ap, ◌∙◌, sym, arith}
+use Rattle.std.proofs.Common.{◌∙◌}
 use Rattle.ice_map.proofs.InodeLaws.{inode_set}
 use Rattle.ice_map.proofs.inodes.put_inode.Goals as goal
 
