@@ -4,5 +4,6 @@ pub mod ListLaws
 pub mod MarkLaws
 pub mod MapLaws
 pub mod PutsLaws
+pub mod FailLaws
 pub mod CutLaws
 pub mod GrowLaws

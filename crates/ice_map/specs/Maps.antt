@@ -6,6 +6,8 @@ use Rattle.ice_base.specs.Fields.{word_at, WordSet}
 use Rattle.ice_base.specs.Lots.{LotView, sub_address}
 use Rattle.ice_base.specs.Spare.{has}
 use Rattle.ice_base.specs.Used.{used_block, used_inode, is_data, bitmap_of, count_place, counted, free_count}
+use Rattle.ice_base.specs.Views.{Puts}
+use Rattle.ice_base.specs.declared.view.View as view
 use Rattle.ice_map.specs.declared.codec.Inode.{Inode}
 use Rattle.ice_map.specs.Inodes.{inode_of}
 
@@ -93,6 +95,10 @@ pub record Grown (lot : LotView) (old new : ℕ → List ℕ) (before after : In
   pub took : Marked lot true old new (growth count a after.single)
   pub used : (b : ℕ) → times (uses new after (count + 1)) b ≡ times (uses old before count) b + times (growth count a after.single) b
   pub named : 12 ≤ count → WordSet (cond (count == 12) (replicate 1024 0) (old after.single)) (4 * (count - 12)) a (new after.single)
+
+-- A growth of a map of `count` blocks that failed put no more than a growth puts, for some block a and, past the direct blocks, some indirect block.
+abbrev pub GrowthFailed : {V D : Type 0} → view.Ghosts V D → LotView → Inode → ℕ → V → D → V → D → Type 0
+GrowthFailed k lot inode count v e w f = (a : ℕ) × (single : ℕ) × (12 < count → single ≡ inode.single) × Puts k lot false (growth_puts count a single) v e w f
 
 -- every block that a map uses is a data place that is marked used
 abbrev pub Owns : LotView → (ℕ → List ℕ) → Inode → ℕ → Type 0

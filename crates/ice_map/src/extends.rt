@@ -12,7 +12,7 @@ ghost use Rattle.ice_base.specs.Views.{Looked, Spent, Puts};
 ghost use Rattle.ice_base.specs.declared.fault.OpFault.TheVariants.{Disk as FaultDisk, Damaged, NoSpace};
 ghost use Rattle.ice_base.specs.declared.fault.Rule.TheVariants.{Counts, Pointer, Bitmap};
 ghost use Rattle.ice_map.specs.Faults.{IsGrowFault};
-ghost use Rattle.ice_map.specs.Maps.{longest, indirect_of, needs, growth, growth_puts, widened, Marked, Stays, OthersStay, TookTwo, Grown};
+ghost use Rattle.ice_map.specs.Maps.{longest, indirect_of, needs, growth, growth_puts, GrowthFailed, widened, Marked, Stays, OthersStay, TookTwo, Grown};
 
 use crate::codec::Inode;
 use crate::maps::checked;
@@ -44,6 +44,7 @@ fn extend_direct<D: Disk, K: Keep<D>, P: Pool<D, K>>(
     ensures fields { IfOk result (λ a. inode.new ≡ widened inode.old count a inode.new.single) }
     ensures kept { OnErr result (inode.new ≡ inode.old) }
     ensures puts { IfOk result (λ a. Puts K.View lot.now true (growth_puts count a inode.new.single) keep.old disk.old keep.new disk.new) }
+    ensures broken { OnErr result (GrowthFailed K.View lot.now inode.old count keep.old disk.old keep.new disk.new) }
     ensures stays { K.shows lot.now keep.old disk.old → Stays lot.now (K.map keep.old disk.old lot.now) (K.map keep.new disk.new lot.now) (indirect_of inode.old count) }
     ensures spent { Spent D.Disk K.View lot.now 6 keep.old disk.old keep.new disk.new }
     ensures none { IsErrOf result NoSpace → K.shows lot.now keep.old disk.old → free_count false lot.now (K.map keep.old disk.old lot.now) < needs count }
@@ -73,6 +74,7 @@ fn take_counted<D: Disk, K: Keep<D>, P: Pool<D, K>>(
     ensures marked { K.shows lot.now keep.old disk.old → IfOk result (λ a. Marked lot.now true (K.map keep.old disk.old lot.now) (K.map keep.new disk.new lot.now) (a ∷ [])) }
     ensures data { IfOk result (λ a. is_data lot.now a ≡ true) }
     ensures puts { IfOk result (λ a. PutsFor K.View lot.now true false a keep.old disk.old keep.new disk.new) }
+    ensures broken { OnErr result (PutsInOne K.View lot.now keep.old disk.old keep.new disk.new) }
     ensures others { (b : ℕ) → b ≢ sub_address → ((o : ℕ) → b ≢ 256 * o) → K.map keep.new disk.new lot.now b ≡ K.map keep.old disk.old lot.now b }
     ensures spent { Spent D.Disk K.View lot.now 2 keep.old disk.old keep.new disk.new }
     ensures full { IsErrOf result (Damaged Counts) → K.shows lot.now keep.old disk.old → counted false (K.map keep.old disk.old lot.now) ≡ 2 ^ 32 - 1 }
@@ -102,6 +104,7 @@ fn take_two<D: Disk, K: Keep<D>, P: Pool<D, K>>(
     ensures second { IfOk result (λ p. is_data lot.now p.1 ≡ true) }
     ensures only { IfOk result (λ p. (b : ℕ) → b ≢ sub_address → b ≢ bitmap_of false p.0 → b ≢ bitmap_of false p.1 → K.map keep.new disk.new lot.now b ≡ K.map keep.old disk.old lot.now b) }
     ensures pays { IfOk result (λ p. Pays (K.held keep.old) (K.room keep.old) (K.held keep.new) (K.room keep.new) true (sub_address ∷ bitmap_of false p.0 ∷ bitmap_of false p.1 ∷ [])) }
+    ensures broken { OnErr result ((a : ℕ) × (b : ℕ) × Puts K.View lot.now false (sub_address ∷ bitmap_of false a ∷ bitmap_of false b ∷ []) keep.old disk.old keep.new disk.new) }
     ensures others { (b : ℕ) → b ≢ sub_address → ((o : ℕ) → b ≢ 256 * o) → K.map keep.new disk.new lot.now b ≡ K.map keep.old disk.old lot.now b }
     ensures spent { Spent D.Disk K.View lot.now 4 keep.old disk.old keep.new disk.new }
     ensures full { IsErrOf result (Damaged Counts) → K.shows lot.now keep.old disk.old → 2 ^ 32 ≤ counted false (K.map keep.old disk.old lot.now) + 2 }
@@ -133,6 +136,7 @@ fn extend_first<D: Disk, K: Keep<D>, P: Pool<D, K>>(
     ensures fields { IfOk result (λ a. inode.new ≡ widened inode.old count a inode.new.single) }
     ensures kept { OnErr result (inode.new ≡ inode.old) }
     ensures puts { IfOk result (λ a. Puts K.View lot.now true (growth_puts count a inode.new.single) keep.old disk.old keep.new disk.new) }
+    ensures broken { OnErr result (GrowthFailed K.View lot.now inode.old count keep.old disk.old keep.new disk.new) }
     ensures stays { K.shows lot.now keep.old disk.old → Stays lot.now (K.map keep.old disk.old lot.now) (K.map keep.new disk.new lot.now) (indirect_of inode.old count) }
     ensures spent { Spent D.Disk K.View lot.now 6 keep.old disk.old keep.new disk.new }
     ensures none { IsErrOf result NoSpace → K.shows lot.now keep.old disk.old → free_count false lot.now (K.map keep.old disk.old lot.now) < needs count }
@@ -174,6 +178,7 @@ fn extend_single<D: Disk, K: Keep<D>, P: Pool<D, K>>(
     ensures fields { IfOk result (λ a. inode.new ≡ widened inode.old count a inode.new.single) }
     ensures kept { OnErr result (inode.new ≡ inode.old) }
     ensures puts { IfOk result (λ a. Puts K.View lot.now true (growth_puts count a inode.new.single) keep.old disk.old keep.new disk.new) }
+    ensures broken { OnErr result (GrowthFailed K.View lot.now inode.old count keep.old disk.old keep.new disk.new) }
     ensures stays { K.shows lot.now keep.old disk.old → Stays lot.now (K.map keep.old disk.old lot.now) (K.map keep.new disk.new lot.now) (indirect_of inode.old count) }
     ensures spent { Spent D.Disk K.View lot.now 6 keep.old disk.old keep.new disk.new }
     ensures none { IsErrOf result NoSpace → K.shows lot.now keep.old disk.old → free_count false lot.now (K.map keep.old disk.old lot.now) < needs count }
@@ -213,6 +218,7 @@ pub fn extend<D: Disk, K: Keep<D>, P: Pool<D, K>, F: Form>(
     ensures fields { IfOk result (λ a. inode.new ≡ widened inode.old count a inode.new.single) }
     ensures kept { OnErr result (inode.new ≡ inode.old) }
     ensures puts { IfOk result (λ a. Puts K.View lot.now true (growth_puts count a inode.new.single) keep.old disk.old keep.new disk.new) }
+    ensures broken { OnErr result (GrowthFailed K.View lot.now inode.old count keep.old disk.old keep.new disk.new) }
     ensures stays { K.shows lot.now keep.old disk.old → Stays lot.now (K.map keep.old disk.old lot.now) (K.map keep.new disk.new lot.now) (indirect_of inode.old count) }
     ensures others { K.shows lot.now keep.old disk.old → OthersStay lot.now (K.map keep.old disk.old lot.now) (K.map keep.new disk.new lot.now) inode.old count }
     ensures spent { Spent D.Disk K.View lot.now 6 keep.old disk.old keep.new disk.new }

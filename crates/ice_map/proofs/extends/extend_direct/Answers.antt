@@ -1,6 +1,7 @@
 use Rattle.std.proofs.Common.{refl}
 use Rattle.ice_base.proofs.LotLaws.{sited-few}
 use Rattle.ice_map.proofs.GrowLaws.{stays-none, grown-direct}
+use Rattle.ice_map.proofs.FailLaws.{on-err, failed-one}
 use Rattle.ice_map.proofs.extends.extend_direct.Goals as goal
 
 pub returns-in_err-taken-clause-stays : goal.returns-in_err-taken-clause-stays
@@ -14,3 +15,8 @@ returns-clause-grown g c = λ s. grown-direct _ _ _ _ _ _ _ c.set_direct.ensures
 
 pub returns-clause-stays : goal.returns-clause-stays
 returns-clause-stays g c = λ s. stays-none _ _ _ _ (sited-few _ _ c.requires.sited) (λ b n h. c.in_ok-taken.ensures.puts.only b n (h _))
+
+pub returns-in_err-taken-clause-broken : goal.returns-in_err-taken-clause-broken
+returns-in_err-taken-clause-broken g c =
+    let p = c.in_err-taken.ensures.broken in
+    on-err _ _ (failed-one g.K.View c.args.lot.now c.args.inode.now c.args.count p.0 _ _ _ _ p.2)

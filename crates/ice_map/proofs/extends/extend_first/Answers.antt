@@ -1,6 +1,8 @@
-use Rattle.std.proofs.Common.{refl, ◌∙◌}
+use Rattle.std.proofs.Common.{arith, refl, ◌∙◌}
 use Rattle.ice_base.proofs.LotLaws.{sited-few}
 use Rattle.ice_map.proofs.GrowLaws.{stays-none, stays-one, stays-from, grown-first, grown-from, grown-twelve, two-free}
+use Rattle.ice_base.proofs.PutsLaws.{puts_after}
+use Rattle.ice_map.proofs.FailLaws.{on-err, failed-two, failed-first}
 use Rattle.ice_map.proofs.extends.extend_first.Goals as goal
 
 pub returns-in_err-taken-clause-stays : goal.returns-in_err-taken-clause-stays
@@ -26,3 +28,18 @@ returns-clause-grown g c = λ s.
     (sited-few _ _ c.requires.sited) c.in_ok-taken.ensures.second (c.in_ok-taken.ensures.took t) refl c.write_u32.ensures
     (c.in_ok-store.ensures.content (c.take_two.ensures.spent.shows t))
     c.in_ok-store.ensures.puts.only))
+
+pub returns-in_err-taken-clause-broken : goal.returns-in_err-taken-clause-broken
+returns-in_err-taken-clause-broken g c =
+    let p = c.in_err-taken.ensures.broken in
+    on-err _ _ (failed-two g.K.View c.args.lot.now c.args.inode.now c.args.count p.0 p.1 _ _ _ _ c.requires.twelve
+    (puts_after g.D.Disk g.K.View c.args.lot.now _ _ _ _ _ _ _ _ c.free_blocks.ensures.looked p.2))
+
+pub returns-in_err-store-clause-broken : goal.returns-in_err-store-clause-broken
+returns-in_err-store-clause-broken g c =
+    on-err _ _ (failed-first g.K.View c.args.lot.now c.args.inode.now c.args.count c.in_ok-taken.taken c.in_ok-taken.single _ _ _ _ c.requires.twelve
+    (puts_after g.D.Disk g.K.View c.args.lot.now _ _ _ _ _ _ _ _ c.free_blocks.ensures.looked
+    (record {
+      only = λ b n h k l. c.in_err-store.ensures.puts.only b k ∙ c.in_ok-taken.ensures.only b n h l;
+      pays = λ wide h i k l. let p = c.in_ok-taken.ensures.pays wide h i l in let q = c.in_err-store.ensures.puts.pays wide k in omega arith;
+    })))

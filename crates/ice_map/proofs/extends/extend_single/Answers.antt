@@ -1,6 +1,8 @@
 use Rattle.std.proofs.Common.{◌∙◌}
 use Rattle.ice_base.proofs.LotLaws.{sited-few}
 use Rattle.ice_map.proofs.GrowLaws.{stays-none, stays-own, stays-from, grown-single, grown-from}
+use Rattle.ice_base.proofs.PutsLaws.{puts_after}
+use Rattle.ice_map.proofs.FailLaws.{on-err, failed-one, failed-at_once}
 use Rattle.ice_map.proofs.extends.extend_single.Goals as goal
 
 pub returns-in_err-taken-clause-stays : goal.returns-in_err-taken-clause-stays
@@ -35,3 +37,12 @@ returns-clause-grown g c = λ s.
     (sited-few _ _ c.requires.sited) c.in_ok-single.ensures.data c.in_ok-taken.ensures.data (c.in_ok-taken.ensures.took t) c.in_ok-taken.ensures.puts.only
     (cc) c.write_u32.ensures (cc)
     (λ b k. c.in_ok-store.ensures.puts.only b (λ q. k (q ∙ e))))
+
+pub returns-in_err-single-clause-broken : goal.returns-in_err-single-clause-broken
+returns-in_err-single-clause-broken g c = on-err _ _ (failed-at_once g.K.View c.args.lot.now c.args.inode.now c.args.count _ _)
+
+pub returns-in_err-taken-clause-broken : goal.returns-in_err-taken-clause-broken
+returns-in_err-taken-clause-broken g c =
+    let p = c.in_err-taken.ensures.broken in
+    on-err _ _ (failed-one g.K.View c.args.lot.now c.args.inode.now c.args.count p.0 _ _ _ _
+    (puts_after g.D.Disk g.K.View c.args.lot.now _ _ _ _ _ _ _ _ c.fetch.ensures.looked p.2))
