@@ -1,0 +1,2 @@
+//! Files as byte strings.
+#![tactic(auto)]
