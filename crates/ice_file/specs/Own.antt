@@ -25,7 +25,7 @@ pub record Own : Type 0 where
   pub contents : List (List ℕ)
 
 -- what an inode says whose map has `count` blocks
-unfoldable pub own_of : (ℕ → List ℕ) → Inode → ℕ → Own
+abbrev pub own_of : (ℕ → List ℕ) → Inode → ℕ → Own
 own_of m inode count = record { inode = inode; uses = uses m inode count; contents = map m (blocks_of m inode count) }
 
 -- what the inode of a number says
@@ -50,11 +50,15 @@ pub record NoneUnused (inode : Inode) (count : ℕ) : Type 0 where
   pub single : count ≤ 12 → inode.single ≡ 0
   pub double : inode.double ≡ 0
 
--- The map of an inode is well made: it uses data places that are marked used, none twice, and its other pointers are 0.
-pub record WellMade (lot : LotView) (entry : ℕ) (m : ℕ → List ℕ) (number : ℕ) : Type 0 where
-  pub holds : Holds lot m (own entry m number).uses
-  pub once : (b : ℕ) → times (own entry m number).uses b ≤ 1
-  pub unused : NoneUnused (inode_of m number) (map_length entry (inode_of m number))
+-- A map of `count` blocks is well made: it uses data places that are marked used, none twice, and its inode's other pointers are 0.
+pub record MadeOf (lot : LotView) (m : ℕ → List ℕ) (inode : Inode) (count : ℕ) : Type 0 where
+  pub holds : Holds lot m (uses m inode count)
+  pub once : (b : ℕ) → times (uses m inode count) b ≤ 1
+  pub unused : NoneUnused inode count
+
+-- so is the map of the inode of a number
+abbrev pub WellMade : LotView → ℕ → (ℕ → List ℕ) → ℕ → Type 0
+WellMade lot entry m number = MadeOf lot m (inode_of m number) (map_length entry (inode_of m number))
 
 -- Every other inode says what it said, where it uses used data places, and none that this inode used.
 abbrev pub OthersSay : LotView → ℕ → (ℕ → List ℕ) → (ℕ → List ℕ) → ℕ → Type 0
