@@ -65,11 +65,18 @@ abbrev pub OthersSay : LotView → ℕ → (ℕ → List ℕ) → (ℕ → List 
 OthersSay lot entry old new number = (k : ℕ) → k ≢ number → Holds lot old (own entry old k).uses → Apart (own entry old k).uses (own entry old number).uses → own entry new k ≡ own entry old k
 
 -- The marks and counts follow what one inode uses, before and after: the blocks that it got are marked and counted, those that it lost no more.
--- Nothing else of the bitmap blocks and of the sub-super block changed.
+-- Nothing else of the bitmap blocks and of the sub-super block changed. A count that was too small for what the inode used says nothing.
 pub record MarksFollow (lot : LotView) (old new : ℕ → List ℕ) (before after : List ℕ) : Type 0 where
   pub used : (b : ℕ) → cond (used_block new b) 1 0 + times before b ≡ cond (used_block old b) 1 0 + times after b
   pub inodes : (i : ℕ) → used_inode new i ≡ used_inode old i
   pub rest : (o k : ℕ) → 320 ≤ k → bit_of (new (256 * o)) k ≡ bit_of (old (256 * o)) k
-  pub counts : counted false new + length before ≡ counted false old + length after
+  pub counts : length before ≤ counted false old → counted false new + length before ≡ counted false old + length after
   pub sub : SameBeside (count_place false) 4 (old sub_address) (new sub_address)
   pub free : free_count false lot new + length after ≡ free_count false lot old + length before
+
+-- What one inode says was set: its map is well made, the marks follow what it uses, and every other inode is as it was and says what it said.
+pub record OwnSet (lot : LotView) (entry : ℕ) (old new : ℕ → List ℕ) (number : ℕ) : Type 0 where
+  pub made : WellMade lot entry new number
+  pub marks : MarksFollow lot old new (own entry old number).uses (own entry new number).uses
+  pub inodes : (k : ℕ) → k ≢ number → inode_of new k ≡ inode_of old k
+  pub others : OthersSay lot entry old new number
