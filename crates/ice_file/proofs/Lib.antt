@@ -1,1 +1,3 @@
 pub mod ByteLaws
+pub mod OwnLaws
+pub mod MoveLaws
