@@ -10,8 +10,9 @@ use Rattle.ice_base.specs.Spare.{has}
 use Rattle.ice_base.specs.Used.{used_block, is_data}
 use Rattle.ice_map.specs.declared.codec.Inode.{Inode}
 use Rattle.ice_map.specs.Inodes.{inode_at, inode_of}
-use Rattle.ice_map.specs.Maps.{nth_block, blocks_of, indirect_of, uses, times, growth, widened, Stays, Grown}
+use Rattle.ice_map.specs.Maps.{nth_block, blocks_of, indirect_of, uses, times, growth, widened, leads, Stays, Grown}
 use Rattle.ice_map.proofs.ListLaws.{times-append, has-append, has-one, has-none, has-cons, has-head, has-right, has-range, has-times, has-not, map_range_same}
+use Rattle.ice_map.proofs.MapLaws.{nth-direct, leads-direct, leads-single}
 use Rattle.ice_map.proofs.MarkLaws.{data_not_bitmap, data_not_sub, used-same}
 use Rattle.ice_map.proofs.GrowLaws.{inode_not_data}
 use Rattle.ice_file.specs.Own.{MarksFollow, MadeOf, NoneUnused, Holds}
@@ -244,3 +245,15 @@ had-reached lot m x c k at made h e = let q : max c (k + 1) ≡ c = omega arith 
 
 pub reached-from : (lot : LotView) (m0 m1 m2 : ℕ → List ℕ) (x y : Inode) (c k at : ℕ) → m1 ≡ m0 → Reached lot m0 m2 x y c k at → Reached lot m1 m2 x y c k at
 reached-from lot m0 m1 m2 x y c k at e r = subst (λ (m : ℕ → List ℕ). Reached lot m m2 x y c k at) (sym e) r
+
+-- each block of a well-made map leads to a data place
+pub made-leads : (lot : LotView) (m : ℕ → List ℕ) (x : Inode) (c k : ℕ) → MadeOf lot m x c → k < c → leads lot m x k ≡ true
+made-leads lot m x c k made h =
+    let d = (made.holds (nth_block m x k) (uses-nth m x c k h)).0 in
+    elim (ltb k 12) as (λ t. ltb k 12 ≡ t → leads lot m x k ≡ true) [
+      | true ↦ λ t. let l : k < 12 = grind (arith, nat_tests) in leads-direct lot m x k l ∙ ap (is_data lot) (sym (nth-direct m x k l)) ∙ d
+      | false ↦ λ t. let l : 12 ≤ k = grind (arith, nat_tests) in leads-single lot m x k l (made.holds x.single (uses-single m x c (omega arith))).0 ∙ d
+    ] refl
+
+pub made-single : (lot : LotView) (m : ℕ → List ℕ) (x : Inode) (c : ℕ) → MadeOf lot m x c → 12 < c → is_data lot x.single ≡ true
+made-single lot m x c made h = (made.holds x.single (uses-single m x c h)).0
