@@ -4,4 +4,5 @@ pub mod ListLaws
 pub mod MarkLaws
 pub mod MapLaws
 pub mod PutsLaws
+pub mod CutLaws
 pub mod GrowLaws

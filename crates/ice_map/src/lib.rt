@@ -2,11 +2,13 @@
 #![tactic(auto)]
 
 mod codec;
+mod cuts;
 mod extends;
 mod inodes;
 mod maps;
 
 pub use codec::{Inode, read_inode, write_inode};
+pub use cuts::cut;
 pub use extends::extend;
 pub use inodes::{get_inode, put_inode};
 pub use maps::nth;
