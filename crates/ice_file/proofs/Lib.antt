@@ -3,3 +3,4 @@ pub mod OwnLaws
 pub mod MoveLaws
 pub mod DueLaws
 pub mod PieceLaws
+pub mod WriteLaws

@@ -4,5 +4,6 @@
 mod inode;
 mod pieces;
 mod reads;
+mod writes;
 
 pub use reads::read_at;
