@@ -4,3 +4,6 @@ pub mod MoveLaws
 pub mod DueLaws
 pub mod PieceLaws
 pub mod WriteLaws
+pub mod SetLaws
+pub mod CutLaws
+pub mod FileLaws

@@ -1,5 +1,5 @@
 -- One piece of a write after another.
-use Rattle.std.proofs.Common.{◌≡◌, ◌≢◌, ◌≤◌, ◌<◌, ◌⊎◌, ◌+◌, ◌-◌, ◌*◌, ◌/◌, ◌%◌, ◌==◌, min, max, ℕ, Bool, true, false, List, length, slice_index, slice_range, ◌∙◌, sym, refl, ap, subst, inl, inr, ⊎_elim, arith, ltb}
+use Rattle.std.proofs.Common.{◌≡◌, ◌≢◌, ◌≤◌, ◌<◌, ◌⊎◌, ◌+◌, ◌-◌, ◌*◌, ◌/◌, ◌%◌, ◌==◌, min, max, ℕ, true, false, List, length, slice_index, slice_range, ◌∙◌, sym, refl, ap, subst, inl, inr, ⊎_elim, arith, ltb}
 use Rattle.std.proofs.lemmas.Bool.Decides.{nat_tests}
 use Rattle.std.proofs.lemmas.Nat.{div-add-mod', mod_below}
 use Rattle.std.proofs.lemmas.List.Edits.{length-between, get_or-between}
@@ -8,7 +8,7 @@ use Rattle.ice_base.specs.Spare.{has}
 use Rattle.ice_base.specs.Used.{Reserved, counted, free_count}
 use Rattle.ice_base.proofs.UsedLaws.{data_place}
 use Rattle.ice_map.specs.declared.codec.Inode.{Inode}
-use Rattle.ice_map.specs.Maps.{nth_block, needs, uses}
+use Rattle.ice_map.specs.Maps.{needs, uses}
 use Rattle.ice_file.specs.Own.{MadeOf, blocks_for}
 use Rattle.ice_file.specs.Files.{byte_of}
 use Rattle.ice_file.specs.Writes.{Moved, PutPiece, Written, content_of, up_to, blocks_with, uses_of}
@@ -24,7 +24,7 @@ written-none lot m x c at bytes made = record {
 }
 
 module _ (lot : LotView) (m0 m1 m2 : ℕ → List ℕ) (x y z : Inode) (c d k at done start : ℕ) (bytes part : List ℕ) (w : Written lot m0 m1 x y c d at done bytes) (p : PutPiece lot m1 m2 y z d k start part)
-  (wide : c ≤ d) (below : done ≤ 1024 * d) (place : 1024 * k + start ≡ done) (fit : start + length part ≤ 1024) (after : at ≤ done) (what : (j : ℕ) → j < length part → slice_index part j ≡ slice_index bytes (done + j - at)) where
+    (wide : c ≤ d) (below : done ≤ 1024 * d) (place : 1024 * k + start ≡ done) (fit : start + length part ≤ 1024) (after : at ≤ done) (what : (j : ℕ) → j < length part → slice_index part j ≡ slice_index bytes (done + j - at)) where
   byte-kept : (i : ℕ) → i < 1024 * d → (i < done) ⊎ (done + length part ≤ i) → byte_of m2 z i ≡ byte_of m1 y i
   byte-kept i h side =
       let q = div-add-mod' i 1024 in
@@ -135,7 +135,7 @@ written-step lot m0 m1 m2 x y z size at end k from to count bytes part w f t n s
     let enough = count-enough size from in
     let grows = count-grows size from in
     let all = written-more lot m0 m1 m2 x y z (blocks_for size) count k at from (from - 1024 * k) bytes part w' p (omega arith) (omega arith) (omega arith) (omega arith) (omega arith)
-        (λ j h. ap (λ (xs : List ℕ). slice_index xs j) s ∙ part-what bytes at from to j (omega arith) (omega arith) (omega arith) (let q = ap (λ (xs : List ℕ). length xs) s in omega arith)) in
+    (λ j h. ap (λ (xs : List ℕ). slice_index xs j) s ∙ part-what bytes at from to j (omega arith) (omega arith) (omega arith) (let q = ap (λ (xs : List ℕ). length xs) s in omega arith)) in
     written-at lot m0 m2 x z (blocks_for size) (max count (k + 1)) (blocks_with size (up_to at end (k + 1))) at (from + length part) (up_to at end (k + 1)) bytes
     (ap (λ d. max d (k + 1)) (sym c) ∙ count-next size at end k first last o) (omega arith) all
 
@@ -179,3 +179,9 @@ reserved-moved lot m0 m1 x y c d made moved r = record {
         | false ↦ λ t. refl
       ] refl);
 }
+
+-- fewer bytes have no more blocks
+pub count-less : (len size : ℕ) → len ≤ size → blocks_for len ≤ blocks_for size
+count-less len size h =
+    let q = div-add-mod' (len + 1023) 1024 in let r = mod_below (len + 1023) 1024 (omega arith) in
+    let s = div-add-mod' (size + 1023) 1024 in let t = mod_below (size + 1023) 1024 (omega arith) in omega arith

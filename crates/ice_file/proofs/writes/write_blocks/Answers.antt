@@ -1,7 +1,7 @@
-use Rattle.std.proofs.Common.{rules, ◌≡◌, ◌≤◌, ◌<◌, ◌+◌, ◌-◌, ◌*◌, ◌/◌, max, min, ℕ, List, length, ◌∙◌, sym, ap, subst, refl, arith}
+use Rattle.std.proofs.Common.{rules, ◌+◌, max, ℕ, length, ◌∙◌, sym, ap, subst, refl, arith}
 use Rattle.ice_map.proofs.PutsLaws.{spent-then, spent-by}
 use Rattle.ice_file.specs.Own.{MadeOf, blocks_for}
-use Rattle.ice_file.specs.Writes.{Written, due, up_to, blocks_with}
+use Rattle.ice_file.specs.Writes.{Written, due, up_to}
 use Rattle.ice_file.proofs.DueLaws.{due-most}
 use Rattle.ice_file.proofs.WriteLaws.{written-step, count-now, count-next, few-pieces, none-step, full-step, reserved-moved}
 use Rattle.ice_file.proofs.writes.write_blocks.Goals as goal

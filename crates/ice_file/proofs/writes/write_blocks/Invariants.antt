@@ -1,4 +1,4 @@
-use Rattle.std.proofs.Common.{◌-◌, ◌+◌, ◌*◌, ◌/◌, ◌≡◌, ◌≤◌, length}
+use Rattle.std.proofs.Common.{◌-◌, ◌+◌, ◌*◌, ◌/◌, ◌≤◌}
 use Rattle.ice_base.specs.Views.{Spent}
 use Rattle.ice_file.specs.Own.{MadeOf, blocks_for}
 use Rattle.ice_file.specs.Writes.{Written, due, up_to, blocks_with}
