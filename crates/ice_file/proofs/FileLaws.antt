@@ -1,15 +1,17 @@
 -- Whole writes and whole cuts of files.
-use Rattle.std.proofs.Common.{◌≡◌, ◌≢◌, ◌≤◌, ◌+◌, max, ℕ, List, [], length, take, ◌∙◌, sym, refl, ap, subst, arith}
+use Rattle.std.proofs.Common.{◌≡◌, ◌≢◌, ◌≤◌, ◌<◌, ◌+◌, ◌*◌, max, ℕ, false, List, [], length, take, ◌∙◌, sym, refl, ap, subst, arith}
+use Rattle.std.proofs.lemmas.Nat.{div-add-mod', mod_below}
 use Rattle.ice_base.specs.Lots.{LotView}
 use Rattle.ice_base.specs.Inodes.{inode_address}
 use Rattle.ice_map.specs.declared.codec.Inode.{Inode}
 use Rattle.ice_map.specs.Inodes.{inode_of, InodeSet}
-use Rattle.ice_map.specs.Maps.{cut_off, shortened, Stays, Cut, OwnsOnce}
+use Rattle.ice_map.specs.Maps.{leads, cut_off, shortened, Stays, Cut, OwnsOnce}
 use Rattle.ice_file.specs.Own.{own, file_bytes, map_length, blocks_for, MadeOf, WellMade}
 use Rattle.ice_file.specs.Files.{overwritten, ReachesTo, FileSet}
 use Rattle.ice_file.specs.Writes.{Written, blocks_with, uses_of}
 use Rattle.ice_file.proofs.ByteLaws.{file_length}
 use Rattle.ice_file.proofs.CutLaws.{cut-moved, cut-contents, cut-once, cut-few}
+use Rattle.ice_file.proofs.MoveLaws.{made-leads}
 use Rattle.ice_file.proofs.SetLaws.{resized, file-written, file-cut}
 use Rattle.ice_file.proofs.WriteLaws.{count-less}
 
@@ -59,3 +61,11 @@ cut-most m m0 x number len count rest is r n o =
     let s = ap (λ (i : Inode). uses_of (blocks_for i.size)) is in
     let t = ap uses_of n in
     omega arith
+
+-- a block of a well-made map that leads nowhere
+pub unmade : (lot : LotView) (m m0 : ℕ → List ℕ) (x : Inode) (entry number at k end : ℕ) → m0 ≡ m → x ≡ inode_of m number → ReachesTo at x → 1024 * k < end → end ≤ x.size → leads lot m0 x k ≡ false → ¬ WellMade lot entry m number
+unmade lot m m0 x entry number at k end e is r small short lost made =
+    let q = div-add-mod' (x.size + 1023) 1024 in
+    let d = mod_below (x.size + 1023) 1024 (omega arith) in
+    let l = made-leads lot m0 x (blocks_for x.size) k (made-file lot m m0 x entry number e is r.kind made) (omega arith) in
+    absurd cc
