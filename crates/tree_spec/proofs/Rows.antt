@@ -5,9 +5,10 @@ use Rattle.tree_spec.specs.Replies.{Response, Because, Plain, Bytes, Listed}
 use Rattle.tree_spec.specs.Replies as value
 use Rattle.tree_spec.specs.Why as why
 use Rattle.tree_spec.specs.Trees.{Tree, File, Dir, Nil, Entry, height}
-use Rattle.tree_spec.specs.Costs.{Form, form_one, form_two, blocks, nodes, map_cost}
+use Rattle.tree_spec.specs.Costs.{Form, form_one, form_two, blocks, nodes, map_cost, file_blocks}
 use Rattle.tree_spec.specs.Operations.{Operation, Mkdir, Make, Write, Read, Trunc, Remove, Rename, ListDir, Stat}
 use Rattle.tree_spec.specs.Answers.{answer, refusal}
+use Rattle.tree_spec.proofs.Writes.{length-written}
 
 -- the names `a` to `g`
 abbrev a : List ℕ
@@ -196,5 +197,32 @@ map_costs = refl
 abbrev with_file : List ℕ → Tree
 with_file bytes = Dir (Entry f (File bytes) Nil)
 
-cost_by_size : (bytes : List ℕ) (size cost : ℕ) → length bytes ≡ size → blocks form_one (with_file (replicate 0 0)) ≡ 1 → blocks form_one (with_file bytes) ≡ blocks form_one (with_file bytes)
-cost_by_size bytes size cost h i = refl
+cost_by_size : (bytes : List ℕ) (size : ℕ) → length bytes ≡ size → blocks form_one (with_file bytes) ≡ 1 + (map_cost (file_blocks size) + 0)
+cost_by_size bytes size h = ap (λ n. 1 + (map_cost (file_blocks n) + 0)) h
+
+-- 12 blocks in the inode, and a 13th with its indirect block
+cost_of_12_blocks : (bytes : List ℕ) → length bytes ≡ 12288 → blocks form_one (with_file bytes) ≡ 13
+cost_of_12_blocks bytes h = cost_by_size bytes 12288 h
+
+cost_of_13_blocks : (bytes : List ℕ) → length bytes ≡ 12289 → blocks form_one (with_file bytes) ≡ 15
+cost_of_13_blocks bytes h = cost_by_size bytes 12289 h
+
+-- the largest file of a cube of one group, beside its root
+cost_of_245_blocks : (bytes : List ℕ) → length bytes ≡ 250880 → blocks form_one (with_file bytes) ≡ 247
+cost_of_245_blocks bytes h = cost_by_size bytes 250880 h
+
+-- one byte written at the end of a file of this size, in so many groups
+abbrev one_more : List ℕ → ℕ → ℕ → ℕ → Response
+one_more bytes size n byte = (answer (with_file bytes) 0 n form_one (Write (f ∷ []) size (byte ∷ []))).0
+
+no_space : (bytes : List ℕ) (byte : ℕ) → length bytes ≡ 250880 → one_more bytes 250880 1 byte ≡ Err (Because why.NoSpace)
+unfolding refusal
+no_space bytes byte h = rw (length-written bytes 250880 (byte ∷ []) (omega arith), one_more, answer, refusal) (rw (h, one_more, answer, refusal) refl)
+
+space_in_2_groups : (bytes : List ℕ) (byte : ℕ) → length bytes ≡ 250880 → one_more bytes 250880 2 byte ≡ ok
+unfolding refusal
+space_in_2_groups bytes byte h = rw (length-written bytes 250880 (byte ∷ []) (omega arith), one_more, answer, refusal) (rw (h, one_more, answer, refusal) refl)
+
+file_big : (bytes : List ℕ) (byte : ℕ) → length bytes ≡ 274432 → one_more bytes 274432 2 byte ≡ Err (Because why.FileBig)
+unfolding refusal
+file_big bytes byte h = rw (h, one_more, answer, refusal) refl
