@@ -142,21 +142,51 @@ module _ (file : List ℕ → ℕ) (dir : ℕ → ℕ) where
 
 -- ---- an entry that goes from a directory in order
 
-no_later : (c : List ℕ) (es : Entries) (d : List ℕ) → is_same_name c d ≡ true → T (below_all by_bytes d (rows es)) → without c es ≡ es
-no_later c Nil d e h = refl
-no_later c (Entry x t es) d e h =
-    ap (λ b. from_rows (cond (not b) ((x, t) ∷ filter (λ e. not (is_same_name c e.0)) (rows es)) (filter (λ e. not (is_same_name c e.0)) (rows es)))) other
-    ∙ ap (λ y. Entry x t y) (no_later c es d e (right _ _ h))
-  where
-    left : (a b : Bool) → T (a && b) → T a
-    left true b p = tt
-    left false b p = p
-    right : (a b : Bool) → T (a && b) → T b
-    right true b p = p
-    right false b p = absurd p
-    less_differs : (r : Ordering) → T (is_lt r) → is_eq r ≡ false
-    less_differs Less p = refl
-    less_differs Equal p = absurd p
-    less_differs Greater p = absurd p
-    other : is_same_name c x ≡ false
-    other = ap (λ y. is_same_name y x) (same_name c d e) ∙ less_differs (by_bytes d x) (left _ _ h)
+left : (a b : Bool) → T (a && b) → T a
+left true b p = tt
+left false b p = p
+
+right : (a b : Bool) → T (a && b) → T b
+right true b p = p
+right false b p = absurd p
+
+less_differs : (r : Ordering) → T (is_lt r) → is_eq r ≡ false
+less_differs Less p = refl
+less_differs Equal p = absurd p
+less_differs Greater p = absurd p
+
+-- names behind a name are others
+other : (c d x : List ℕ) → is_same_name c d ≡ true → T (is_lt (by_bytes d x)) → is_same_name c x ≡ false
+other c d x e h = ap (λ y. is_same_name y x) (same_name c d e) ∙ less_differs (by_bytes d x) h
+
+no_later : (c d : List ℕ) (es : Entries) → is_same_name c d ≡ true → T (below_all by_bytes d (rows es)) → without c es ≡ es
+no_later c d Nil e h = refl
+no_later c d (Entry x t es) e h =
+    ap (λ b. from_rows (cond (not b) ((x, t) ∷ filter (λ e. not (is_same_name c e.0)) (rows es)) (filter (λ e. not (is_same_name c e.0)) (rows es)))) (other c d x e (left _ _ h))
+    ∙ ap (λ y. Entry x t y) (no_later c d es e (right _ _ h))
+
+module _ (file : List ℕ → ℕ) (dir : ℕ → ℕ) where
+  total_in-without : (c : List ℕ) (v : Tree) (es : Entries) → T (is_sorted by_bytes (rows es)) → find by_bytes c (rows es) ≡ Some v → total_in file dir (without c es) + total file dir v ≡ total_in file dir es
+  total_in-without c v Nil o h = absurd (subst T (sym (ap is_some h)) tt)
+  total_in-without c v (Entry d t es) o h =
+      elim (is_same_name c d) as (λ b. is_same_name c d ≡ b → cond b (Some t) (find by_bytes c (rows es)) ≡ Some v
+        → total_in file dir (from_rows (cond (not b) ((d, t) ∷ filter (λ e. not (is_same_name c e.0)) (rows es)) (filter (λ e. not (is_same_name c e.0)) (rows es)))) + total file dir v ≡ total file dir t + total_in file dir es) [
+        | true ↦ λ e is. omega (arith, ap (total_in file dir) (no_later c d es e (left _ _ o)), ap (total file dir) (some_same _ _ is))
+        | false ↦ λ e is. omega (arith, total_in-without c v es (right _ _ o) is)
+      ] refl h
+
+-- the entry that goes is one less
+pub length-without : (c : List ℕ) (v : Tree) (es : Entries) → T (is_sorted by_bytes (rows es)) → find by_bytes c (rows es) ≡ Some v → length (rows (without c es)) + 1 ≡ length (rows es)
+length-without c v Nil o h = absurd (subst T (sym (ap is_some h)) tt)
+length-without c v (Entry d t es) o h =
+    elim (is_same_name c d) as (λ b. is_same_name c d ≡ b → cond b (Some t) (find by_bytes c (rows es)) ≡ Some v
+      → length (rows (from_rows (cond (not b) ((d, t) ∷ filter (λ e. not (is_same_name c e.0)) (rows es)) (filter (λ e. not (is_same_name c e.0)) (rows es))))) + 1 ≡ suc (length (rows es))) [
+      | true ↦ λ e is. omega (arith, ap (λ y. length (rows y)) (no_later c d es e (left _ _ o)))
+      | false ↦ λ e is. omega (arith, length-without c v es (right _ _ o) is)
+    ] refl h
+
+-- the entry that goes takes its tree's sum, and the directory's own part moves by one entry
+pub total-without_at : (file : List ℕ → ℕ) (dir : ℕ → ℕ) (p : List (List ℕ)) (c : List ℕ) (v t : Tree) (es : Entries) → walk p t ≡ Found (Dir es) → T (is_sorted by_bytes (rows es)) → find by_bytes c (rows es) ≡ Some v
+  → total file dir (at p (without_entry c) t) + total file dir v + dir (length (rows es)) ≡ total file dir t + dir (length (rows (without c es)))
+total-without_at file dir p c v t es h o is =
+    omega (arith, total-at file dir p (without_entry c) t (Dir es) h, total_in-without file dir c v es o is)
