@@ -19,24 +19,24 @@ Names = List (List ℕ)
 
 -- ---- tests that fail
 
-first_false : (a b : Bool) → (a || b) ≡ false → a ≡ false
+pub first_false : (a b : Bool) → (a || b) ≡ false → a ≡ false
 first_false true b h = absurd (subst T h tt)
 first_false false b h = refl
 
-second_false : (a b : Bool) → (a || b) ≡ false → b ≡ false
+pub second_false : (a b : Bool) → (a || b) ≡ false → b ≡ false
 second_false true b h = absurd (subst T h tt)
 second_false false b h = h
 
-not_and : (a b : Bool) → (a && not b) ≡ false → b ≡ false → a ≡ false
+pub not_and : (a b : Bool) → (a && not b) ≡ false → b ≡ false → a ≡ false
 not_and true true h e = absurd (subst T e tt)
 not_and true false h e = absurd (subst T h tt)
 not_and false b h e = refl
 
-and_given : (a b : Bool) → (a && b) ≡ false → a ≡ true → b ≡ false
+pub and_given : (a b : Bool) → (a && b) ≡ false → a ≡ true → b ≡ false
 and_given true b h e = h
 and_given false b h e = absurd (subst T (sym e) tt)
 
-at_most : (x y : ℕ) → nat_lt x y ≡ false → y ≤ x
+pub at_most : (x y : ℕ) → nat_lt x y ≡ false → y ≤ x
 at_most x y h = grind (arith, nat_tests)
 
 -- ---- the directory of a path's last name
@@ -64,19 +64,19 @@ pub length-parent : (p : Names) → is_root p ≡ false → length (parent p) + 
 length-parent [] h = absurd (subst T h tt)
 length-parent (c ∷ p) h = omega (arith, ap length (parent-last c p), length-append (parent (c ∷ p)) (last_name (c ∷ p) ∷ []))
 
-abbrev IsDirWalk : Walk → Type 0
+abbrev pub IsDirWalk : Walk → Type 0
 IsDirWalk w = (es : Entries) × (w ≡ Found (Dir es))
 
-dir_walk : (w : Walk) → is_not_found (needs_dir w) ≡ false → is_not_dir (needs_dir w) ≡ false → IsDirWalk w
+pub dir_walk : (w : Walk) → is_not_found (needs_dir w) ≡ false → is_not_dir (needs_dir w) ≡ false → IsDirWalk w
 dir_walk (Found (File bytes)) h k = absurd (subst T k tt)
 dir_walk (Found (Dir es)) h k = (es, refl)
 dir_walk NotFound h k = absurd (subst T h tt)
 dir_walk NotDir h k = absurd (subst T k tt)
 
-abbrev IsTreeWalk : Walk → Type 0
+abbrev pub IsTreeWalk : Walk → Type 0
 IsTreeWalk w = (v : Tree) × (w ≡ Found v)
 
-tree_walk : (w : Walk) → is_not_found w ≡ false → is_not_dir w ≡ false → IsTreeWalk w
+pub tree_walk : (w : Walk) → is_not_found w ≡ false → is_not_dir w ≡ false → IsTreeWalk w
 tree_walk (Found v) h k = (v, refl)
 tree_walk NotFound h k = absurd (subst T h tt)
 tree_walk NotDir h k = absurd (subst T k tt)
@@ -102,6 +102,10 @@ walk_in p t es r h = walk-last p t r ∙ ap (λ w. and_on w (λ u. walk (last_na
 -- a directory on the way and nothing at the path
 pub has_place : (p : Names) (t : Tree) (es : Entries) → is_root p ≡ false → walk (parent p) t ≡ Found (Dir es) → is_found (walk p t) ≡ false → HasPlace p t
 has_place p t es r h free = record { entries = es; there = h; free = named (find by_bytes (last_name p) (rows es)) (ap is_found (sym (walk_in p t es r h)) ∙ free); below = r }
+
+-- and a walk finds what the directory has
+pub entry_walk : (p : Names) (t v : Tree) → HasEntry p t v → walk p t ≡ Found v
+entry_walk p t v h = walk_in p t h.entries h.below h.there ∙ ap (λ o. and_on (found_or_not o) (λ u. Found u)) h.found
 
 parent_found : (w : Walk) (go : Tree → Walk) (v : Tree) → and_on w go ≡ Found v → ((bytes : List ℕ) → go (File bytes) ≡ NotDir) → IsDirWalk w
 parent_found (Found (File bytes)) go v h k = absurd (no (sym (k bytes) ∙ h))
