@@ -1,6 +1,6 @@
 -- Worked examples: what a tree answers, one operation after another.
 use Rattle.std.proofs.Common.{◌≡◌, ℕ, zero, suc, ◌+◌, ◌-◌, ◌*◌, ◌^◌, ◌<◌, ◌≤◌, Bool, true, false, List, [], ◌∷◌, ◌++◌, length, refl, sym, ap, ◌∙◌, subst, arith}
-use Rattle.std.specs.Prelude.{Ok, Err, Option, None, Some, replicate, fold}
+use Rattle.std.specs.Prelude.{Ok, Err, Option, None, Some, replicate, map, slice_get}
 use Rattle.tree_spec.specs.Replies.{Response, Because, Plain, Bytes, Listed}
 use Rattle.tree_spec.specs.Replies as value
 use Rattle.tree_spec.specs.Why as why
@@ -8,6 +8,7 @@ use Rattle.tree_spec.specs.Trees.{Tree, File, Dir, Nil, Entry, height}
 use Rattle.tree_spec.specs.Costs.{Form, form_one, form_two, blocks, nodes, map_cost, file_blocks}
 use Rattle.tree_spec.specs.Operations.{Operation, Mkdir, Make, Write, Read, Trunc, Remove, Rename, ListDir, Stat}
 use Rattle.tree_spec.specs.Answers.{answer, refusal}
+use Rattle.tree_spec.specs.Routes.{route}
 use Rattle.tree_spec.proofs.Writes.{length-written}
 
 -- the names `a` to `g`
@@ -226,3 +227,20 @@ space_in_2_groups bytes byte h = rw (length-written bytes 250880 (byte ∷ []) (
 file_big : (bytes : List ℕ) (byte : ℕ) → length bytes ≡ 274432 → one_more bytes 274432 2 byte ≡ Err (Because why.FileBig)
 unfolding refusal
 file_big bytes byte h = rw (h, one_more, answer, refusal) refl
+
+-- ---- routes
+
+-- cubes at /a, /a/b and /d in the slots 0, 1 and 2
+abbrev cubes : ℕ → Option (List (List ℕ))
+cubes s = slice_get ((a ∷ []) ∷ (a ∷ b ∷ []) ∷ (d ∷ []) ∷ []) s
+
+-- the longest prefix by whole names: /a/b/e, /a/e, /ab/e, /a, /a/b, the root, /d/a/b
+routes : map (route cubes 3) ((a ∷ b ∷ e ∷ []) ∷ (a ∷ e ∷ []) ∷ ((97 ∷ 98 ∷ []) ∷ e ∷ []) ∷ (a ∷ []) ∷ (a ∷ b ∷ []) ∷ [] ∷ (d ∷ a ∷ b ∷ []) ∷ [])
+  ≡ Some 1 ∷ Some 0 ∷ None ∷ Some 0 ∷ Some 1 ∷ None ∷ Some 2 ∷ []
+unfolding route
+routes = refl
+
+-- a cube with the path / catches what no longer path catches
+routes_of_the_root : map (route (λ s. slice_get ([] ∷ (a ∷ []) ∷ []) s) 2) ((b ∷ []) ∷ [] ∷ (a ∷ b ∷ []) ∷ []) ≡ Some 0 ∷ Some 0 ∷ Some 1 ∷ []
+unfolding route
+routes_of_the_root = refl

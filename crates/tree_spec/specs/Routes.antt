@@ -17,17 +17,17 @@ is_prefix (c ∷ p) (d ∷ q) = is_same_name c d && is_prefix p q
 abbrev pub is_same_path : List (List ℕ) → List (List ℕ) → Bool
 is_same_path p q = is_prefix p q && is_prefix q p
 
--- one more than the number of names that a slot's path catches of p, and 0 where it catches none of its places
+-- one more than the number of names of a slot's path where it is a prefix of p, and else 0
 abbrev pub caught : List (List ℕ) → Option (List (List ℕ)) → ℕ
 caught p None = 0
 caught p (Some q) = if is_prefix q p then length q + 1 else 0
 
--- one more than the number of names that the path of the slot catches of p, if there is a slot
+-- the same of a slot's number, and 0 where there is no slot
 abbrev pub caught_by : (ℕ → Option (List (List ℕ))) → List (List ℕ) → Option ℕ → ℕ
 caught_by paths p None = 0
 caught_by paths p (Some s) = caught p (paths s)
 
--- the first of the slots below n whose path is the longest prefix of p
+-- the slot below n whose path is the longest prefix of p, and None where no path is a prefix
 unfoldable pub route : (ℕ → Option (List (List ℕ))) → ℕ → List (List ℕ) → Option ℕ
 route paths zero p = None
 route paths (suc n) p = if nat_lt (caught_by paths p (route paths n p)) (caught p (paths n)) then Some n else route paths n p
