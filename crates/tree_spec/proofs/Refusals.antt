@@ -1,6 +1,7 @@
 -- The refusal of the lowest number, list by list, and what an answer is in each case.
 use Rattle.std.proofs.Common.{◌≡◌, ◌≢◌, ℕ, ◌+◌, ◌*◌, ◌≤◌, Bool, true, false, cond, T, List, [], ◌∷◌, ◌++◌, Some, None, Option, sym, refl, ap, ◌∙◌, subst, arith}
 use Rattle.std.specs.Prelude.{is_some, ◌&&◌, ◌||◌, nat_lt, Ok, Err}
+use Rattle.std.specs.List.{find}
 use Rattle.std.proofs.lemmas.Bool.Decides.{nat_tests}
 use Rattle.tree_spec.specs.Why.{Why}
 use Rattle.tree_spec.specs.Why as why
@@ -8,47 +9,47 @@ use Rattle.tree_spec.specs.Replies.{Response, Accepted, Because, Fault, Memory, 
 use Rattle.tree_spec.specs.Trees.{Tree}
 use Rattle.tree_spec.specs.Costs.{Form, nodes, blocks, node_quota, block_quota}
 use Rattle.tree_spec.specs.Operations.{Operation, Mkdir, Make, Write, Read, Trunc, Remove, Rename, ListDir, Stat, is_change}
-use Rattle.tree_spec.specs.Answers.{applies, first_where, refusal, of_paths, of_walks, of_place, of_quota, by_number, answer, answer_by, accepted_value, next}
+use Rattle.tree_spec.specs.Answers.{applies, refusal, of_paths, of_walks, of_place, of_quota, by_number, answer, answer_by, accepted_value, next}
 
-pub first_where-later : (test : Why → Bool) (xs ys : List Why) → first_where test xs ≡ None → first_where test (xs ++ ys) ≡ first_where test ys
-first_where-later test [] ys h = refl
-first_where-later test (x ∷ xs) ys h =
-    elim (test x) as (λ b. cond b (Some x) (first_where test xs) ≡ None → cond b (Some x) (first_where test (xs ++ ys)) ≡ first_where test ys) [
+pub find-later : (test : Why → Bool) (xs ys : List Why) → find test xs ≡ None → find test (xs ++ ys) ≡ find test ys
+find-later test [] ys h = refl
+find-later test (x ∷ xs) ys h =
+    elim (test x) as (λ b. cond b (Some x) (find test xs) ≡ None → cond b (Some x) (find test (xs ++ ys)) ≡ find test ys) [
       | true ↦ λ h. absurd (subst T (ap is_some h) tt)
-      | false ↦ λ h. first_where-later test xs ys h
+      | false ↦ λ h. find-later test xs ys h
     ] h
 
-pub first_where-now : (test : Why → Bool) (xs ys : List Why) (r : Why) → first_where test xs ≡ Some r → first_where test (xs ++ ys) ≡ Some r
-first_where-now test [] ys r h = absurd (subst T (sym (ap is_some h)) tt)
-first_where-now test (x ∷ xs) ys r h =
-    elim (test x) as (λ b. cond b (Some x) (first_where test xs) ≡ Some r → cond b (Some x) (first_where test (xs ++ ys)) ≡ Some r) [
+pub find-now : (test : Why → Bool) (xs ys : List Why) (r : Why) → find test xs ≡ Some r → find test (xs ++ ys) ≡ Some r
+find-now test [] ys r h = absurd (subst T (sym (ap is_some h)) tt)
+find-now test (x ∷ xs) ys r h =
+    elim (test x) as (λ b. cond b (Some x) (find test xs) ≡ Some r → cond b (Some x) (find test (xs ++ ys)) ≡ Some r) [
       | true ↦ λ h. h
-      | false ↦ λ h. first_where-now test xs ys r h
+      | false ↦ λ h. find-now test xs ys r h
     ] h
 
 -- the first one passes the test
-pub first_where-passes : (test : Why → Bool) (xs : List Why) (r : Why) → first_where test xs ≡ Some r → test r ≡ true
-first_where-passes test [] r h = absurd (subst T (sym (ap is_some h)) tt)
-first_where-passes test (x ∷ xs) r h =
-    elim (test x) as (λ b. test x ≡ b → cond b (Some x) (first_where test xs) ≡ Some r → test r ≡ true) [
+pub find-passes : (test : Why → Bool) (xs : List Why) (r : Why) → find test xs ≡ Some r → test r ≡ true
+find-passes test [] r h = absurd (subst T (sym (ap is_some h)) tt)
+find-passes test (x ∷ xs) r h =
+    elim (test x) as (λ b. test x ≡ b → cond b (Some x) (find test xs) ≡ Some r → test r ≡ true) [
       | true ↦ λ e is. ap test (sym (same x r is)) ∙ e
-      | false ↦ λ e is. first_where-passes test xs r is
+      | false ↦ λ e is. find-passes test xs r is
     ] refl h
   where
     same : (x r : Why) → Some x ≡ Some r → x ≡ r
     same x r e = cc
 
 -- where there is none, none passes
-pub first_where-none : (test : Why → Bool) (xs : List Why) (r : Why) (ys : List Why) → first_where test (xs ++ r ∷ ys) ≡ None → test r ≡ false
-first_where-none test [] r ys h =
-    elim (test r) as (λ b. cond b (Some r) (first_where test ys) ≡ None → b ≡ false) [
+pub find-none : (test : Why → Bool) (xs : List Why) (r : Why) (ys : List Why) → find test (xs ++ r ∷ ys) ≡ None → test r ≡ false
+find-none test [] r ys h =
+    elim (test r) as (λ b. cond b (Some r) (find test ys) ≡ None → b ≡ false) [
       | true ↦ λ h. absurd (subst T (ap is_some h) tt)
       | false ↦ λ h. refl
     ] h
-first_where-none test (x ∷ xs) r ys h =
-    elim (test x) as (λ b. cond b (Some x) (first_where test (xs ++ r ∷ ys)) ≡ None → test r ≡ false) [
+find-none test (x ∷ xs) r ys h =
+    elim (test x) as (λ b. cond b (Some x) (find test (xs ++ r ∷ ys)) ≡ None → test r ≡ false) [
       | true ↦ λ h. absurd (subst T (ap is_some h) tt)
-      | false ↦ λ h. first_where-none test xs r ys h
+      | false ↦ λ h. find-none test xs r ys h
     ] h
 
 module _ (t : Tree) (done n : ℕ) (f : Form) (op : Operation) where
@@ -56,45 +57,45 @@ module _ (t : Tree) (done n : ℕ) (f : Form) (op : Operation) where
   test = applies t done n f op
 
   -- a refusal of each list, where the lists before it have none
-  pub refusal-of_paths : (r : Why) → first_where (applies t done n f op) of_paths ≡ Some r → refusal t done n f op ≡ Some r
+  pub refusal-of_paths : (r : Why) → find (applies t done n f op) of_paths ≡ Some r → refusal t done n f op ≡ Some r
   unfolding refusal
-  refusal-of_paths r a = first_where-now test of_paths (of_walks ++ of_place ++ of_quota) r a
+  refusal-of_paths r a = find-now test of_paths (of_walks ++ of_place ++ of_quota) r a
 
-  pub refusal-of_walks : (r : Why) → first_where (applies t done n f op) of_paths ≡ None → first_where (applies t done n f op) of_walks ≡ Some r → refusal t done n f op ≡ Some r
+  pub refusal-of_walks : (r : Why) → find (applies t done n f op) of_paths ≡ None → find (applies t done n f op) of_walks ≡ Some r → refusal t done n f op ≡ Some r
   unfolding refusal
-  refusal-of_walks r a b = first_where-later test of_paths (of_walks ++ of_place ++ of_quota) a ∙ first_where-now test of_walks (of_place ++ of_quota) r b
+  refusal-of_walks r a b = find-later test of_paths (of_walks ++ of_place ++ of_quota) a ∙ find-now test of_walks (of_place ++ of_quota) r b
 
-  pub refusal-of_place : (r : Why) → first_where (applies t done n f op) of_paths ≡ None → first_where (applies t done n f op) of_walks ≡ None → first_where (applies t done n f op) of_place ≡ Some r → refusal t done n f op ≡ Some r
+  pub refusal-of_place : (r : Why) → find (applies t done n f op) of_paths ≡ None → find (applies t done n f op) of_walks ≡ None → find (applies t done n f op) of_place ≡ Some r → refusal t done n f op ≡ Some r
   unfolding refusal
-  refusal-of_place r a b c = first_where-later test of_paths (of_walks ++ of_place ++ of_quota) a ∙ first_where-later test of_walks (of_place ++ of_quota) b ∙ first_where-now test of_place of_quota r c
+  refusal-of_place r a b c = find-later test of_paths (of_walks ++ of_place ++ of_quota) a ∙ find-later test of_walks (of_place ++ of_quota) b ∙ find-now test of_place of_quota r c
 
-  pub refusal-of_quota : (r : Option Why) → first_where (applies t done n f op) of_paths ≡ None → first_where (applies t done n f op) of_walks ≡ None → first_where (applies t done n f op) of_place ≡ None → first_where (applies t done n f op) of_quota ≡ r → refusal t done n f op ≡ r
+  pub refusal-of_quota : (r : Option Why) → find (applies t done n f op) of_paths ≡ None → find (applies t done n f op) of_walks ≡ None → find (applies t done n f op) of_place ≡ None → find (applies t done n f op) of_quota ≡ r → refusal t done n f op ≡ r
   unfolding refusal
   refusal-of_quota r a b c d =
-      first_where-later test of_paths (of_walks ++ of_place ++ of_quota) a ∙ first_where-later test of_walks (of_place ++ of_quota) b ∙ first_where-later test of_place of_quota c ∙ d
+      find-later test of_paths (of_walks ++ of_place ++ of_quota) a ∙ find-later test of_walks (of_place ++ of_quota) b ∙ find-later test of_place of_quota c ∙ d
 
   -- the condition of the refusal holds
   pub refusal-applies : (r : Why) → refusal t done n f op ≡ Some r → applies t done n f op r ≡ true
   unfolding refusal
-  refusal-applies r h = first_where-passes test by_number r h
+  refusal-applies r h = find-passes test by_number r h
 
   -- where there is no refusal, no condition holds
   pub refusal-none : (r : Why) → refusal t done n f op ≡ None → applies t done n f op r ≡ false
   unfolding refusal
-  refusal-none why.NameLong h = first_where-none test [] why.NameLong (why.TooDeep ∷ of_walks ++ of_place ++ of_quota) h
-  refusal-none why.TooDeep h = first_where-none test (why.NameLong ∷ []) why.TooDeep (of_walks ++ of_place ++ of_quota) h
-  refusal-none why.NotFound h = first_where-none test of_paths why.NotFound (why.NotDir ∷ why.IsDir ∷ why.IsRoot ∷ of_place ++ of_quota) h
-  refusal-none why.NotDir h = first_where-none test (of_paths ++ why.NotFound ∷ []) why.NotDir (why.IsDir ∷ why.IsRoot ∷ of_place ++ of_quota) h
-  refusal-none why.IsDir h = first_where-none test (of_paths ++ why.NotFound ∷ why.NotDir ∷ []) why.IsDir (why.IsRoot ∷ of_place ++ of_quota) h
-  refusal-none why.IsRoot h = first_where-none test (of_paths ++ why.NotFound ∷ why.NotDir ∷ why.IsDir ∷ []) why.IsRoot (of_place ++ of_quota) h
-  refusal-none why.Exists h = first_where-none test (of_paths ++ of_walks) why.Exists (why.NotEmpty ∷ why.IntoItself ∷ why.BeyondEnd ∷ why.FileBig ∷ of_quota) h
-  refusal-none why.NotEmpty h = first_where-none test (of_paths ++ of_walks ++ why.Exists ∷ []) why.NotEmpty (why.IntoItself ∷ why.BeyondEnd ∷ why.FileBig ∷ of_quota) h
-  refusal-none why.IntoItself h = first_where-none test (of_paths ++ of_walks ++ why.Exists ∷ why.NotEmpty ∷ []) why.IntoItself (why.BeyondEnd ∷ why.FileBig ∷ of_quota) h
-  refusal-none why.BeyondEnd h = first_where-none test (of_paths ++ of_walks ++ why.Exists ∷ why.NotEmpty ∷ why.IntoItself ∷ []) why.BeyondEnd (why.FileBig ∷ of_quota) h
-  refusal-none why.FileBig h = first_where-none test (of_paths ++ of_walks ++ why.Exists ∷ why.NotEmpty ∷ why.IntoItself ∷ why.BeyondEnd ∷ []) why.FileBig of_quota h
-  refusal-none why.NoNodes h = first_where-none test (of_paths ++ of_walks ++ of_place) why.NoNodes (why.NoSpace ∷ why.Spent ∷ []) h
-  refusal-none why.NoSpace h = first_where-none test (of_paths ++ of_walks ++ of_place ++ why.NoNodes ∷ []) why.NoSpace (why.Spent ∷ []) h
-  refusal-none why.Spent h = first_where-none test (of_paths ++ of_walks ++ of_place ++ why.NoNodes ∷ why.NoSpace ∷ []) why.Spent [] h
+  refusal-none why.NameLong h = find-none test [] why.NameLong (why.TooDeep ∷ of_walks ++ of_place ++ of_quota) h
+  refusal-none why.TooDeep h = find-none test (why.NameLong ∷ []) why.TooDeep (of_walks ++ of_place ++ of_quota) h
+  refusal-none why.NotFound h = find-none test of_paths why.NotFound (why.NotDir ∷ why.IsDir ∷ why.IsRoot ∷ of_place ++ of_quota) h
+  refusal-none why.NotDir h = find-none test (of_paths ++ why.NotFound ∷ []) why.NotDir (why.IsDir ∷ why.IsRoot ∷ of_place ++ of_quota) h
+  refusal-none why.IsDir h = find-none test (of_paths ++ why.NotFound ∷ why.NotDir ∷ []) why.IsDir (why.IsRoot ∷ of_place ++ of_quota) h
+  refusal-none why.IsRoot h = find-none test (of_paths ++ why.NotFound ∷ why.NotDir ∷ why.IsDir ∷ []) why.IsRoot (of_place ++ of_quota) h
+  refusal-none why.Exists h = find-none test (of_paths ++ of_walks) why.Exists (why.NotEmpty ∷ why.IntoItself ∷ why.BeyondEnd ∷ why.FileBig ∷ of_quota) h
+  refusal-none why.NotEmpty h = find-none test (of_paths ++ of_walks ++ why.Exists ∷ []) why.NotEmpty (why.IntoItself ∷ why.BeyondEnd ∷ why.FileBig ∷ of_quota) h
+  refusal-none why.IntoItself h = find-none test (of_paths ++ of_walks ++ why.Exists ∷ why.NotEmpty ∷ []) why.IntoItself (why.BeyondEnd ∷ why.FileBig ∷ of_quota) h
+  refusal-none why.BeyondEnd h = find-none test (of_paths ++ of_walks ++ why.Exists ∷ why.NotEmpty ∷ why.IntoItself ∷ []) why.BeyondEnd (why.FileBig ∷ of_quota) h
+  refusal-none why.FileBig h = find-none test (of_paths ++ of_walks ++ why.Exists ∷ why.NotEmpty ∷ why.IntoItself ∷ why.BeyondEnd ∷ []) why.FileBig of_quota h
+  refusal-none why.NoNodes h = find-none test (of_paths ++ of_walks ++ of_place) why.NoNodes (why.NoSpace ∷ why.Spent ∷ []) h
+  refusal-none why.NoSpace h = find-none test (of_paths ++ of_walks ++ of_place ++ why.NoNodes ∷ []) why.NoSpace (why.Spent ∷ []) h
+  refusal-none why.Spent h = find-none test (of_paths ++ of_walks ++ of_place ++ why.NoNodes ∷ why.NoSpace ∷ []) why.Spent [] h
   refusal-none _ h = refl
 
   -- a refused operation leaves the tree

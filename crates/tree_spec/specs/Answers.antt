@@ -1,6 +1,6 @@
 -- What a tree answers to an operation, and the tree after it.
-use Rattle.std.specs.Prelude.{ℕ, ◌+◌, ◌-◌, ◌^◌, Bool, true, false, not, ◌&&◌, ◌||◌, List, [], ◌∷◌, ◌++◌, map, length, Option, None, Some, nat_lt, nat_eq, take, drop, Ok, Err, fold, if◌then◌else◌}
-use Rattle.std.specs.List.{list_any}
+use Rattle.std.specs.Prelude.{ℕ, ◌+◌, ◌-◌, ◌^◌, Bool, true, false, not, ◌&&◌, ◌||◌, List, [], ◌∷◌, ◌++◌, map, length, Option, None, Some, nat_lt, nat_eq, take, drop, Ok, Err, if◌then◌else◌}
+use Rattle.std.specs.List.{list_any, find}
 use Rattle.tree_spec.specs.Why.{Why}
 use Rattle.tree_spec.specs.Why as why
 use Rattle.tree_spec.specs.Replies.{Response, Accepted, Because, Plain, Bytes, Listed}
@@ -208,14 +208,9 @@ of_quota = why.NoNodes ∷ why.NoSpace ∷ why.Spent ∷ []
 abbrev pub by_number : List Why
 by_number = of_paths ++ of_walks ++ of_place ++ of_quota
 
--- the first of the list that passes the test
-abbrev pub first_where : (Why → Bool) → List Why → Option Why
-first_where test [] = None
-first_where test (r ∷ rs) = if test r then Some r else first_where test rs
-
 -- the refusal of the lowest number whose condition holds
 unfoldable pub refusal : Tree → ℕ → ℕ → Form → Operation → Option Why
-refusal t done n f op = first_where (applies t done n f op) by_number
+refusal t done n f op = find (applies t done n f op) by_number
 
 -- ---- the answer
 

@@ -1,0 +1,8 @@
+//! Paths from bytes, and paths as prefixes of others.
+#![tactic(auto)]
+
+mod prefix;
+mod read;
+
+pub use prefix::is_prefix;
+pub use read::{PathFault, read_path};
