@@ -35,6 +35,24 @@ struct Seen {
     long: bool,
 }
 
+fn starts_elsewhere(text: &[u8]) -> bool
+    ensures { result ≡ begins_elsewhere text.now }
+{
+    match text {
+        [] => true,
+        [b, ..] => *b != b'/',
+    }
+}
+
+fn slash_alone(text: &[u8]) -> bool
+    ensures { result ≡ is_slash text.now }
+{
+    match text {
+        [b] => *b == b'/',
+        _ => false,
+    }
+}
+
 fn path_byte(b: u8) -> bool
     ensures { result ≡ is_path_byte b }
 {
@@ -142,13 +160,14 @@ pub fn read_path(bytes: &[u8]) -> Result<Path, PathFault>
     ensures names { IfOk result (λ p. p ≡ path_names bytes.now) }
     ensures text { IfOk result (λ p. text_of p ≡ bytes.now) }
 {
-    match bytes {
-        [] => Err(PathFault::Slash),
-        [b'/'] => Ok(Path::root()),
-        [b'/', ..] => match fault_of(bytes) {
-            Some(fault) => Err(fault),
-            None => Ok(path_of(bytes)),
-        },
-        _ => Err(PathFault::Slash),
+    if starts_elsewhere(bytes) {
+        return Err(PathFault::Slash);
+    }
+    if slash_alone(bytes) {
+        return Ok(Path::root());
+    }
+    match fault_of(bytes) {
+        Some(fault) => Err(fault),
+        None => Ok(path_of(bytes)),
     }
 }
