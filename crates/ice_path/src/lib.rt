@@ -3,6 +3,8 @@
 
 mod prefix;
 mod read;
+#[cfg(test)]
+mod tests;
 
 pub use prefix::is_prefix;
 pub use read::{PathFault, read_path};
