@@ -4,3 +4,8 @@ pub mod Why
 pub mod Replies
 pub mod Lines
 pub mod World
+pub mod Trees
+pub mod Costs
+pub mod Routes
+pub mod Operations
+pub mod Answers

@@ -11,6 +11,6 @@ mod tests;
 
 pub use command::Command;
 pub use name::Name;
-pub use path::Path;
+pub use path::{Path, split_name};
 pub use reply::{CubeRow, Entry, Refusal, Reply, StateWord, Value};
 pub use room::Room;

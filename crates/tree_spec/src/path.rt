@@ -41,8 +41,8 @@ fn segment(text: &[u8]) -> usize
     text.len()
 }
 
-/// The name of a text that begins at a slash, and the text behind it.
-fn split_name(text: &[u8]) -> (&[u8], &[u8])
+/// The first name of a text that begins at a slash, and the text behind it.
+pub fn split_name(text: &[u8]) -> (&[u8], &[u8])
     requires begins { BeginsAtSlash text.now }
     requires has_name { 0 < length (names_of text.now) }
     ensures name { names_of text.now ≡ result.0.now ∷ names_of result.1.now }

@@ -1,0 +1,10 @@
+//! Paths from bytes, and paths as prefixes of others.
+#![tactic(auto)]
+
+mod prefix;
+mod read;
+#[cfg(test)]
+mod tests;
+
+pub use prefix::is_prefix;
+pub use read::{PathFault, read_path};
