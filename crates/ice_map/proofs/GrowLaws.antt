@@ -92,10 +92,10 @@ indirect-none inode count h = grind (arith, nat_tests)
 indirect-one : (inode : Inode) (count : ℕ) → 12 < count → indirect_of inode count ≡ inode.single ∷ []
 indirect-one inode count h = grind (arith, nat_tests)
 
-growth-one : (count a s : ℕ) → count ≢ 12 → growth count a s ≡ a ∷ []
+pub growth-one : (count a s : ℕ) → count ≢ 12 → growth count a s ≡ a ∷ []
 growth-one count a s h = grind (arith, nat_tests)
 
-growth-two : (count a s : ℕ) → count ≡ 12 → growth count a s ≡ a ∷ s ∷ []
+pub growth-two : (count a s : ℕ) → count ≡ 12 → growth count a s ≡ a ∷ s ∷ []
 growth-two count a s h = grind (arith, nat_tests)
 
 -- what the grown map uses: what it used, and the blocks that were taken

@@ -6,4 +6,5 @@ pub mod MapLaws
 pub mod PutsLaws
 pub mod FailLaws
 pub mod CutLaws
+pub mod UsesLaws
 pub mod GrowLaws

@@ -102,7 +102,7 @@ where_intro wide (a ∷ xs) P f = λ h. where_intro wide xs P (λ all. f (λ x k
       | false ↦ λ t. all x (grind arith)
     ] refl))
 
-times-cons : (a b : ℕ) (xs : List ℕ) → times (a ∷ xs) b ≡ cond (a == b) 1 0 + times xs b
+pub times-cons : (a b : ℕ) (xs : List ℕ) → times (a ∷ xs) b ≡ cond (a == b) 1 0 + times xs b
 times-cons a b xs = let e = times-append (a ∷ []) xs b in omega arith
 
 pub has-times : (xs : List ℕ) (b : ℕ) → has xs b ≡ true → 1 ≤ times xs b
