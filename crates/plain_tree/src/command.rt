@@ -94,6 +94,14 @@ fn read_command(alloc: Global, command: &Command, depth: usize) -> Result<Asked,
     }
 }
 
+/// The number, or the greatest one that fits.
+fn short(n: usize) -> u32 {
+    match u32::try_from(n) {
+        Ok(n) => n,
+        Err(_) => u32::MAX,
+    }
+}
+
 fn is_change(kind: Kind) -> bool {
     match kind {
         Kind::Read | Kind::List | Kind::Stat | Kind::Other => false,
@@ -242,17 +250,17 @@ impl PlainTree {
                         })?;
                     }
                 }
-                Ok(Value::Listed(self.entries(path) as u32))
+                Ok(Value::Listed(short(self.entries(path))))
             }
             Kind::Stat => Ok(match self.find(path) {
                 Some(node) => {
                     if node.is_dir {
-                        Value::Dir(self.entries(path) as u32)
+                        Value::Dir(short(self.entries(path)))
                     } else {
-                        Value::File(node.bytes.len() as u32)
+                        Value::File(short(node.bytes.len()))
                     }
                 }
-                None => Value::Dir(self.entries(path) as u32),
+                None => Value::Dir(short(self.entries(path))),
             }),
             _ => Ok(Value::Plain),
         }

@@ -220,6 +220,11 @@ no_space : (bytes : List ℕ) (byte : ℕ) → length bytes ≡ 250880 → one_m
 unfolding refusal
 no_space bytes byte h = rw (length-written bytes 250880 (byte ∷ []) (omega arith), one_more, answer, refusal) (rw (h, one_more, answer, refusal) refl)
 
+-- the last block of a group is given
+full_group : (bytes : List ℕ) → length bytes ≡ 250880 → (answer (with_file bytes) 0 1 form_one (Write (f ∷ []) 250880 [])).0 ≡ ok
+unfolding refusal
+full_group bytes h = rw (length-written bytes 250880 [] (omega arith), answer, refusal) (rw (h, answer, refusal) refl)
+
 space_in_2_groups : (bytes : List ℕ) (byte : ℕ) → length bytes ≡ 250880 → one_more bytes 250880 2 byte ≡ ok
 unfolding refusal
 space_in_2_groups bytes byte h = rw (length-written bytes 250880 (byte ∷ []) (omega arith), one_more, answer, refusal) (rw (h, one_more, answer, refusal) refl)
