@@ -162,9 +162,12 @@ module _ (t : Tree) (done n : ℕ) (f : Form) where
   accepted-write p off bytes h =
       let op = Write p off bytes in
       let w = file_walk (walk p t) (first_false _ _ (refusal-none t done n f op why.NotFound h)) (first_false _ _ (first_false _ _ (refusal-none t done n f op why.NotDir h))) (refusal-none t done n f op why.IsDir h) in
-      record { old = w.0; found = w.1;
+      record {
+        old = w.0;
+        found = w.1;
         within = at_most _ _ (ap (λ x. nat_lt (length (bytes_found x)) off) (sym w.1) ∙ refusal-none t done n f op why.BeyondEnd h);
-        small = at_most _ _ (refusal-none t done n f op why.FileBig h) }
+        small = at_most _ _ (refusal-none t done n f op why.FileBig h);
+      }
 
   -- a file at least as long as what stays of it
   pub record CutsFile (p : Names) (len : ℕ) : Type 0 where

@@ -84,13 +84,13 @@ pub is_ordered-with : (c : List ℕ) (s : Tree) → T (is_ordered s) → KeepsOr
 is_ordered-with c s k (File bytes) h = tt
 is_ordered-with c s k (Dir es) h =
     both _ _ (subst (λ y. T (is_sorted by_bytes y)) (sym (rows-from_rows (put by_bytes c s (rows es)))) (is_sorted-put by_bytes nat_list_cmp_total c s (rows es) (left _ _ h)))
-      (all_ordered-with c s es k (right _ _ h))
+    (all_ordered-with c s es k (right _ _ h))
 
 pub is_ordered-without : (c : List ℕ) → KeepsOrder (without_entry c)
 is_ordered-without c (File bytes) h = tt
 is_ordered-without c (Dir es) h =
     both _ _ (subst (λ y. T (is_sorted by_bytes y)) (sym (rows-from_rows (filter (λ e. not (is_same_name c e.0)) (rows es)))) (is_sorted-where_key by_bytes (λ x. not (is_same_name c x)) (rows es) (left _ _ h)))
-      (all_ordered-without c es (right _ _ h))
+    (all_ordered-without c es (right _ _ h))
 
 ordered-find : (c : List ℕ) (es : Entries) (u : Tree) → T (all_ordered es) → find by_bytes c (rows es) ≡ Some u → T (is_ordered u)
 ordered-find c Nil u h is = absurd (subst T (sym (ap is_some is)) tt)

@@ -78,6 +78,7 @@ same_prefix (c ∷ q) (d ∷ r) (x ∷ p) h k e =
     first : (a b : Bool) → (a && b) ≡ true → a ≡ true
     first true b h = refl
     first false b h = absurd (subst T (sym h) tt)
+
     second : (a b : Bool) → (a && b) ≡ true → b ≡ true
     second true b h = h
     second false b h = absurd (subst T (sym h) tt)
