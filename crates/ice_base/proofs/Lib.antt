@@ -4,3 +4,8 @@ pub mod Frame
 pub mod Gives
 pub mod Kept
 pub mod Rests
+pub mod LotLaws
+pub mod SpareLaws
+pub mod UsedLaws
+pub mod CountLaws
+pub mod PutsLaws

@@ -4,3 +4,13 @@ pub mod Frames
 pub mod FrameLaws
 pub mod Host
 pub mod Words
+pub mod Lots
+pub mod Looks
+pub mod Spare
+pub mod Views
+pub mod Bits
+pub mod Used
+pub mod Inodes
+pub mod Pools
+pub mod Faults
+pub mod Still

@@ -1,0 +1,2 @@
+pub mod ThroughLaws
+pub mod PairLaws

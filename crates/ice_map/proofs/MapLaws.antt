@@ -1,0 +1,30 @@
+-- The blocks of maps.
+use Rattle.std.proofs.Common.{◌≡◌, ◌≢◌, ◌≤◌, ◌<◌, ◌+◌, ◌-◌, ◌*◌, ◌==◌, ◌&&◌, ◌||◌, ℕ, Bool, true, false, cond, List, [], ◌∷◌, ◌++◌, length, slice_index, ◌∙◌, sym, refl, ap, arith, ltb}
+use Rattle.std.proofs.lemmas.Bool.Decides.{nat_tests}
+use Rattle.ice_base.specs.Fields.{word_at}
+use Rattle.ice_base.specs.Lots.{LotView}
+use Rattle.ice_base.specs.Used.{is_data}
+use Rattle.ice_map.specs.declared.codec.Inode.{Inode}
+use Rattle.ice_map.specs.Maps.{nth_block, leads}
+
+pub nth-direct : (m : ℕ → List ℕ) (inode : Inode) (n : ℕ) → n < 12 → nth_block m inode n ≡ slice_index inode.direct n
+unfolding nth_block
+nth-direct m inode n h = grind (arith, nat_tests)
+
+pub nth-single : (m : ℕ → List ℕ) (inode : Inode) (n : ℕ) → 12 ≤ n → nth_block m inode n ≡ word_at (m inode.single) (4 * (n - 12))
+unfolding nth_block
+nth-single m inode n h = grind (arith, nat_tests)
+
+pub leads-direct : (lot : LotView) (m : ℕ → List ℕ) (inode : Inode) (n : ℕ) → n < 12 → leads lot m inode n ≡ is_data lot (slice_index inode.direct n)
+unfolding leads
+leads-direct lot m inode n h = let e = nth-direct m inode n h in grind (arith, nat_tests)
+
+pub leads-single : (lot : LotView) (m : ℕ → List ℕ) (inode : Inode) (n : ℕ) → 12 ≤ n → is_data lot inode.single ≡ true → leads lot m inode n ≡ is_data lot (nth_block m inode n)
+unfolding leads
+leads-single lot m inode n h d = grind (arith, nat_tests)
+
+pub leads-lost : (lot : LotView) (m : ℕ → List ℕ) (inode : Inode) (n : ℕ) → 12 ≤ n → is_data lot inode.single ≡ false → leads lot m inode n ≡ false
+unfolding leads
+leads-lost lot m inode n h d = grind (arith, nat_tests)
+
+pub ruleset nth_laws = (nth-direct, nth-single, leads-direct, leads-single, leads-lost)

@@ -1,0 +1,235 @@
+//! One block more for an inode's map.
+ghost use Rattle.std.specs.Prelude.{◌≡◌, ◌≢◌, ◌≤◌, ◌<◌, ◌+◌, ◌*◌, ◌-◌, ◌^◌, ◌==◌, cond, ℕ, true, false, List, [], ◌∷◌, OnOk, OnErr, IfOk, IfErr, IsErrOf, length, slice_set, replicate};
+ghost use Rattle.ice_base.specs.Bits.{IsLeast};
+ghost use Rattle.ice_base.specs.Disk.{Rose};
+ghost use Rattle.ice_base.specs.Faults.{IsTakeBlockFault, IsGiveFault};
+ghost use Rattle.ice_base.specs.Fields.{WordSet};
+ghost use Rattle.ice_base.specs.Lots.{is_sited, sub_address};
+ghost use Rattle.ice_base.specs.Pools.{TookBlock, PutsFor, PutsInOne};
+ghost use Rattle.ice_base.specs.Spare.{Pays, FitsAny};
+ghost use Rattle.ice_base.specs.Used.{is_data, used_block, bitmap_of, counted, free_count, AllUsed, Reserved};
+ghost use Rattle.ice_base.specs.Views.{Looked, Spent, Puts};
+ghost use Rattle.ice_base.specs.declared.fault.OpFault.TheVariants.{Disk as FaultDisk, Damaged, NoSpace};
+ghost use Rattle.ice_base.specs.declared.fault.Rule.TheVariants.{Counts, Pointer, Bitmap};
+ghost use Rattle.ice_map.specs.Faults.{IsGrowFault};
+ghost use Rattle.ice_map.specs.Maps.{longest, indirect_of, needs, growth, growth_puts, widened, Marked, Stays, OthersStay, TookTwo, Grown};
+
+
+use crate::codec::Inode;
+use crate::maps::checked;
+use ice_base::{Disk, Form, Keep, Lot, OpFault, Pool, Rule, View, fetch, store, write_u32};
+
+fn set_direct(direct: &mut [u32; 12], k: u32, value: u32)
+    requires { k < 12 }
+    ensures set { direct.new ≡ slice_set direct.old k value }
+    ensures long { length direct.old ≡ 12 }
+{
+    direct[k as usize] = value;
+}
+
+#[tactic(auto, using(ice_base::proofs::SpareLaws::room_laws, crate::proofs::MarkLaws::none_free, crate::proofs::GrowLaws::needs_laws))]
+fn extend_direct<D: Disk, K: Keep<D>, P: Pool<D, K>>(
+    keep: &mut K,
+    pool: &mut P,
+    disk: &mut D,
+    lot: &Lot,
+    inode: &mut Inode,
+    count: u32,
+) -> Result<u32, OpFault>
+    requires sited { is_sited lot.now (D.state disk.old).size ≡ true }
+    requires room { 6 ≤ K.room keep.old }
+    requires short { count < 12 }
+    ensures grown { K.shows lot.now keep.old disk.old → IfOk result (Grown lot.now (K.map keep.old disk.old lot.now) (K.map keep.new disk.new lot.now) inode.old inode.new count) }
+    ensures data { IfOk result (λ a. is_data lot.now a ≡ true) }
+    ensures single { OnOk result (12 ≤ count → is_data lot.now inode.new.single ≡ true) }
+    ensures fields { IfOk result (λ a. inode.new ≡ widened inode.old count a inode.new.single) }
+    ensures kept { OnErr result (inode.new ≡ inode.old) }
+    ensures puts { IfOk result (λ a. Puts K.View lot.now true (growth_puts count a inode.new.single) keep.old disk.old keep.new disk.new) }
+    ensures stays { K.shows lot.now keep.old disk.old → Stays lot.now (K.map keep.old disk.old lot.now) (K.map keep.new disk.new lot.now) (indirect_of inode.old count) }
+    ensures spent { Spent D.Disk K.View lot.now 6 keep.old disk.old keep.new disk.new }
+    ensures none { IsErrOf result NoSpace → K.shows lot.now keep.old disk.old → free_count false lot.now (K.map keep.old disk.old lot.now) < needs count }
+    ensures full { IsErrOf result (Damaged Counts) → K.shows lot.now keep.old disk.old → 2 ^ 32 ≤ counted false (K.map keep.old disk.old lot.now) + needs count }
+    ensures unreserved { IsErrOf result (Damaged Bitmap) → K.shows lot.now keep.old disk.old → ¬ Reserved lot.now (K.map keep.old disk.old lot.now) }
+    ensures pointer { IsErrOf result (Damaged Pointer) → (12 < count) × (is_data lot.now inode.old.single ≡ false) }
+    ensures looked { IsErrOf result NoSpace → Looked D.Disk K.View lot.now keep.old disk.old keep.new disk.new }
+    ensures faults { IfErr result IsGrowFault }
+    ensures failed { IsErrOf result FaultDisk → Rose (D.state disk.old).faults (D.state disk.new).faults }
+{
+    let taken = pool.take_block(keep, disk, lot)?;
+    set_direct(&mut inode.direct, count, taken);
+    Ok(taken)
+}
+
+/// Takes a block where one is counted free. Damaged: as for a take of the pool, or none is marked free after all.
+#[tactic(auto, using(ice_base::proofs::SpareLaws::room_laws, crate::proofs::MarkLaws::none_free))]
+fn take_counted<D: Disk, K: Keep<D>, P: Pool<D, K>>(
+    keep: &mut K,
+    pool: &mut P,
+    disk: &mut D,
+    lot: &Lot,
+) -> Result<u32, OpFault>
+    requires sited { is_sited lot.now (D.state disk.old).size ≡ true }
+    requires room { 2 ≤ K.room keep.old }
+    ensures least { K.shows lot.now keep.old disk.old → IfOk result (IsLeast (used_block (K.map keep.old disk.old lot.now))) }
+    ensures marked { K.shows lot.now keep.old disk.old → IfOk result (λ a. Marked lot.now true (K.map keep.old disk.old lot.now) (K.map keep.new disk.new lot.now) (a ∷ [])) }
+    ensures data { IfOk result (λ a. is_data lot.now a ≡ true) }
+    ensures puts { IfOk result (λ a. PutsFor K.View lot.now true false a keep.old disk.old keep.new disk.new) }
+    ensures others { (b : ℕ) → b ≢ sub_address → ((o : ℕ) → b ≢ 256 * o) → K.map keep.new disk.new lot.now b ≡ K.map keep.old disk.old lot.now b }
+    ensures spent { Spent D.Disk K.View lot.now 2 keep.old disk.old keep.new disk.new }
+    ensures full { IsErrOf result (Damaged Counts) → K.shows lot.now keep.old disk.old → counted false (K.map keep.old disk.old lot.now) ≡ 2 ^ 32 - 1 }
+    ensures unreserved { IsErrOf result (Damaged Bitmap) → K.shows lot.now keep.old disk.old → 1 ≤ free_count false lot.now (K.map keep.old disk.old lot.now) → ¬ Reserved lot.now (K.map keep.old disk.old lot.now) }
+    ensures faults { IfErr result IsGiveFault }
+    ensures failed { IsErrOf result FaultDisk → Rose (D.state disk.old).faults (D.state disk.new).faults }
+{
+    match pool.take_block(keep, disk, lot) {
+        Ok(taken) => Ok(taken),
+        Err(OpFault::NoSpace) => Err(OpFault::Damaged(Rule::Bitmap)),
+        Err(fault) => Err(fault),
+    }
+}
+
+/// Takes two blocks where two are counted free.
+#[tactic(auto, using(ice_base::proofs::SpareLaws::room_laws, crate::proofs::MarkLaws::two_laws))]
+fn take_two<D: Disk, K: Keep<D>, P: Pool<D, K>>(
+    keep: &mut K,
+    pool: &mut P,
+    disk: &mut D,
+    lot: &Lot,
+) -> Result<(u32, u32), OpFault>
+    requires sited { is_sited lot.now (D.state disk.old).size ≡ true }
+    requires room { 4 ≤ K.room keep.old }
+    ensures took { K.shows lot.now keep.old disk.old → IfOk result (λ p. TookTwo lot.now (K.map keep.old disk.old lot.now) (K.map keep.new disk.new lot.now) p.0 p.1) }
+    ensures first { IfOk result (λ p. is_data lot.now p.0 ≡ true) }
+    ensures second { IfOk result (λ p. is_data lot.now p.1 ≡ true) }
+    ensures only { IfOk result (λ p. (b : ℕ) → b ≢ sub_address → b ≢ bitmap_of false p.0 → b ≢ bitmap_of false p.1 → K.map keep.new disk.new lot.now b ≡ K.map keep.old disk.old lot.now b) }
+    ensures pays { IfOk result (λ p. Pays (K.held keep.old) (K.room keep.old) (K.held keep.new) (K.room keep.new) true (sub_address ∷ bitmap_of false p.0 ∷ bitmap_of false p.1 ∷ [])) }
+    ensures others { (b : ℕ) → b ≢ sub_address → ((o : ℕ) → b ≢ 256 * o) → K.map keep.new disk.new lot.now b ≡ K.map keep.old disk.old lot.now b }
+    ensures spent { Spent D.Disk K.View lot.now 4 keep.old disk.old keep.new disk.new }
+    ensures full { IsErrOf result (Damaged Counts) → K.shows lot.now keep.old disk.old → 2 ^ 32 ≤ counted false (K.map keep.old disk.old lot.now) + 2 }
+    ensures unreserved { IsErrOf result (Damaged Bitmap) → K.shows lot.now keep.old disk.old → 2 ≤ free_count false lot.now (K.map keep.old disk.old lot.now) → ¬ Reserved lot.now (K.map keep.old disk.old lot.now) }
+    ensures faults { IfErr result IsGiveFault }
+    ensures failed { IsErrOf result FaultDisk → Rose (D.state disk.old).faults (D.state disk.new).faults }
+{
+    let first = take_counted(keep, pool, disk, lot)?;
+    let second = take_counted(keep, pool, disk, lot)?;
+    Ok((first, second))
+}
+
+/// The first block past the direct ones: it comes with an indirect block, whose other pointers are zeros.
+#[tactic(auto, using(ice_base::proofs::SpareLaws::room_laws, ice_base::proofs::UsedLaws::group_laws, ice_base::proofs::LotLaws::address_laws, crate::proofs::MarkLaws::none_free, crate::proofs::GrowLaws::needs_laws))]
+fn extend_first<D: Disk, K: Keep<D>, P: Pool<D, K>>(
+    keep: &mut K,
+    pool: &mut P,
+    disk: &mut D,
+    lot: &Lot,
+    inode: &mut Inode,
+    count: u32,
+) -> Result<u32, OpFault>
+    requires sited { is_sited lot.now (D.state disk.old).size ≡ true }
+    requires room { 6 ≤ K.room keep.old }
+    requires twelve { count ≡ 12 }
+    ensures grown { K.shows lot.now keep.old disk.old → IfOk result (Grown lot.now (K.map keep.old disk.old lot.now) (K.map keep.new disk.new lot.now) inode.old inode.new count) }
+    ensures data { IfOk result (λ a. is_data lot.now a ≡ true) }
+    ensures single { OnOk result (12 ≤ count → is_data lot.now inode.new.single ≡ true) }
+    ensures fields { IfOk result (λ a. inode.new ≡ widened inode.old count a inode.new.single) }
+    ensures kept { OnErr result (inode.new ≡ inode.old) }
+    ensures puts { IfOk result (λ a. Puts K.View lot.now true (growth_puts count a inode.new.single) keep.old disk.old keep.new disk.new) }
+    ensures stays { K.shows lot.now keep.old disk.old → Stays lot.now (K.map keep.old disk.old lot.now) (K.map keep.new disk.new lot.now) (indirect_of inode.old count) }
+    ensures spent { Spent D.Disk K.View lot.now 6 keep.old disk.old keep.new disk.new }
+    ensures none { IsErrOf result NoSpace → K.shows lot.now keep.old disk.old → free_count false lot.now (K.map keep.old disk.old lot.now) < needs count }
+    ensures full { IsErrOf result (Damaged Counts) → K.shows lot.now keep.old disk.old → 2 ^ 32 ≤ counted false (K.map keep.old disk.old lot.now) + needs count }
+    ensures unreserved { IsErrOf result (Damaged Bitmap) → K.shows lot.now keep.old disk.old → ¬ Reserved lot.now (K.map keep.old disk.old lot.now) }
+    ensures pointer { IsErrOf result (Damaged Pointer) → (12 < count) × (is_data lot.now inode.old.single ≡ false) }
+    ensures looked { IsErrOf result NoSpace → Looked D.Disk K.View lot.now keep.old disk.old keep.new disk.new }
+    ensures faults { IfErr result IsGrowFault }
+    ensures failed { IsErrOf result FaultDisk → Rose (D.state disk.old).faults (D.state disk.new).faults }
+{
+    if pool.free_blocks(keep, disk, lot)? < 2 {
+        return Err(OpFault::NoSpace);
+    }
+    let (taken, single) = take_two(keep, pool, disk, lot)?;
+    let mut block = [0; 1024];
+    write_u32(&mut block, 0, taken);
+    store(keep, disk, lot, single, &block)?;
+    inode.single = single;
+    Ok(taken)
+}
+
+/// A block past the first that the indirect block names.
+#[tactic(auto, using(ice_base::proofs::SpareLaws::room_laws, ice_base::proofs::UsedLaws::group_laws, ice_base::proofs::LotLaws::address_laws, crate::proofs::MarkLaws::none_free, crate::proofs::GrowLaws::needs_laws))]
+fn extend_single<D: Disk, K: Keep<D>, P: Pool<D, K>>(
+    keep: &mut K,
+    pool: &mut P,
+    disk: &mut D,
+    lot: &Lot,
+    inode: &mut Inode,
+    count: u32,
+) -> Result<u32, OpFault>
+    requires sited { is_sited lot.now (D.state disk.old).size ≡ true }
+    requires room { 6 ≤ K.room keep.old }
+    requires long { 12 < count }
+    requires short { count < longest }
+    ensures grown { K.shows lot.now keep.old disk.old → IfOk result (Grown lot.now (K.map keep.old disk.old lot.now) (K.map keep.new disk.new lot.now) inode.old inode.new count) }
+    ensures data { IfOk result (λ a. is_data lot.now a ≡ true) }
+    ensures single { OnOk result (12 ≤ count → is_data lot.now inode.new.single ≡ true) }
+    ensures fields { IfOk result (λ a. inode.new ≡ widened inode.old count a inode.new.single) }
+    ensures kept { OnErr result (inode.new ≡ inode.old) }
+    ensures puts { IfOk result (λ a. Puts K.View lot.now true (growth_puts count a inode.new.single) keep.old disk.old keep.new disk.new) }
+    ensures stays { K.shows lot.now keep.old disk.old → Stays lot.now (K.map keep.old disk.old lot.now) (K.map keep.new disk.new lot.now) (indirect_of inode.old count) }
+    ensures spent { Spent D.Disk K.View lot.now 6 keep.old disk.old keep.new disk.new }
+    ensures none { IsErrOf result NoSpace → K.shows lot.now keep.old disk.old → free_count false lot.now (K.map keep.old disk.old lot.now) < needs count }
+    ensures full { IsErrOf result (Damaged Counts) → K.shows lot.now keep.old disk.old → 2 ^ 32 ≤ counted false (K.map keep.old disk.old lot.now) + needs count }
+    ensures unreserved { IsErrOf result (Damaged Bitmap) → K.shows lot.now keep.old disk.old → ¬ Reserved lot.now (K.map keep.old disk.old lot.now) }
+    ensures pointer { IsErrOf result (Damaged Pointer) → (12 < count) × (is_data lot.now inode.old.single ≡ false) }
+    ensures looked { IsErrOf result NoSpace → Looked D.Disk K.View lot.now keep.old disk.old keep.new disk.new }
+    ensures faults { IfErr result IsGrowFault }
+    ensures failed { IsErrOf result FaultDisk → Rose (D.state disk.old).faults (D.state disk.new).faults }
+{
+    let single = checked(lot, inode.single)?;
+    let mut block = [0; 1024];
+    fetch(keep, disk, lot, single, &mut block)?;
+    let taken = pool.take_block(keep, disk, lot)?;
+    write_u32(&mut block, 4 * (count - 12) as usize, taken);
+    store(keep, disk, lot, single, &block)?;
+    Ok(taken)
+}
+
+/// Gives a map of `count` blocks one more, which is answered: the least free block, and with the first block past the direct ones
+/// the least free block after that as the indirect block. The inode is the caller's to put.
+/// NoSpace: fewer blocks are free than that takes. Damaged: the count of used blocks can't grow so far, or the least free block is no data place, or the indirect block is none.
+pub fn extend<D: Disk, K: Keep<D>, P: Pool<D, K>, F: Form>(
+    keep: &mut K,
+    pool: &mut P,
+    disk: &mut D,
+    lot: &Lot,
+    inode: &mut Inode,
+    count: u32,
+) -> Result<u32, OpFault>
+    requires sited { is_sited lot.now (D.state disk.old).size ≡ true }
+    requires room { 6 ≤ K.room keep.old }
+    requires short { count < longest }
+    ensures grown { K.shows lot.now keep.old disk.old → IfOk result (Grown lot.now (K.map keep.old disk.old lot.now) (K.map keep.new disk.new lot.now) inode.old inode.new count) }
+    ensures data { IfOk result (λ a. is_data lot.now a ≡ true) }
+    ensures single { OnOk result (12 ≤ count → is_data lot.now inode.new.single ≡ true) }
+    ensures fields { IfOk result (λ a. inode.new ≡ widened inode.old count a inode.new.single) }
+    ensures kept { OnErr result (inode.new ≡ inode.old) }
+    ensures puts { IfOk result (λ a. Puts K.View lot.now true (growth_puts count a inode.new.single) keep.old disk.old keep.new disk.new) }
+    ensures stays { K.shows lot.now keep.old disk.old → Stays lot.now (K.map keep.old disk.old lot.now) (K.map keep.new disk.new lot.now) (indirect_of inode.old count) }
+    ensures others { K.shows lot.now keep.old disk.old → OthersStay lot.now (K.map keep.old disk.old lot.now) (K.map keep.new disk.new lot.now) inode.old count }
+    ensures spent { Spent D.Disk K.View lot.now 6 keep.old disk.old keep.new disk.new }
+    ensures none { IsErrOf result NoSpace → K.shows lot.now keep.old disk.old → free_count false lot.now (K.map keep.old disk.old lot.now) < needs count }
+    ensures full { IsErrOf result (Damaged Counts) → K.shows lot.now keep.old disk.old → 2 ^ 32 ≤ counted false (K.map keep.old disk.old lot.now) + needs count }
+    ensures unreserved { IsErrOf result (Damaged Bitmap) → K.shows lot.now keep.old disk.old → ¬ Reserved lot.now (K.map keep.old disk.old lot.now) }
+    ensures pointer { IsErrOf result (Damaged Pointer) → (12 < count) × (is_data lot.now inode.old.single ≡ false) }
+    ensures looked { IsErrOf result NoSpace → Looked D.Disk K.View lot.now keep.old disk.old keep.new disk.new }
+    ensures faults { IfErr result IsGrowFault }
+    ensures failed { IsErrOf result FaultDisk → Rose (D.state disk.old).faults (D.state disk.new).faults }
+{
+    if count < 12 {
+        return extend_direct(keep, pool, disk, lot, inode, count);
+    }
+    if count == 12 {
+        return extend_first(keep, pool, disk, lot, inode, count);
+    }
+    extend_single(keep, pool, disk, lot, inode, count)
+}

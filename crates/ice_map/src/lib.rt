@@ -1,0 +1,13 @@
+//! Inodes, and the maps of their blocks.
+#![tactic(auto)]
+
+mod codec;
+mod cuts;
+mod extends;
+mod inodes;
+mod maps;
+
+pub use codec::{Inode, read_inode, write_inode};
+pub use extends::extend;
+pub use inodes::{get_inode, put_inode};
+pub use maps::nth;
