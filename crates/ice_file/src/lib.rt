@@ -1,0 +1,7 @@
+//! Files as byte strings.
+#![tactic(auto)]
+
+mod inode;
+mod reads;
+
+pub use reads::read_at;

@@ -1,0 +1,87 @@
+//! Reads of files.
+ghost use Rattle.std.specs.Prelude.{◌≡◌, ◌≤◌, ◌<◌, ◌+◌, ◌-◌, ◌*◌, ◌++◌, ℕ, true, false, [], OnOk, IfOk, IfErr, IsErrOf, length, take, drop, min};
+ghost use Rattle.ice_base.specs.Disk.{Rose};
+ghost use Rattle.ice_base.specs.Lots.{is_sited};
+ghost use Rattle.ice_base.specs.Views.{Looked};
+ghost use Rattle.ice_base.specs.declared.fault.OpFault.TheVariants.{Disk as FaultDisk, Damaged};
+ghost use Rattle.ice_base.specs.declared.fault.Rule.TheVariants.{Kind, Pointer};
+ghost use Rattle.ice_map.specs.Faults.{IsLookFault};
+ghost use Rattle.ice_map.specs.Inodes.{inode_of};
+ghost use Rattle.ice_map.specs.Maps.{leads};
+ghost use Rattle.ice_file.specs.Files.{longest_file, most_at_once, ReachesTo, bytes_from, IsReadFault};
+ghost use Rattle.ice_file.specs.Own.{own, file_bytes};
+
+use crate::inode::file_inode;
+use ice_base::{Disk, Form, Lot, OpFault, View, fetch};
+use ice_map::{Inode, nth};
+use tree_spec::Room;
+
+/// Adds the bytes from `from` on, up to the end of their block or to `end`, and says how many these are.
+#[tactic(auto, using(ice_base::proofs::LotLaws::address_laws, ice_base::proofs::UsedLaws::group_laws))]
+fn read_piece<D: Disk, V: View<D>, F: Form>(
+    view: &mut V,
+    disk: &mut D,
+    lot: &Lot,
+    inode: &Inode,
+    from: u32,
+    end: u32,
+    room: &mut Room,
+) -> Result<u32, OpFault>
+    requires sited { is_sited lot.now (D.state disk.old).size ≡ true }
+    requires some { from < end }
+    requires short { end ≤ longest_file }
+    requires fits { length room.old.bytes + (end - from) ≤ most_at_once }
+    ensures bytes { V.shows lot.now view.old disk.old → IfOk result (λ n. room.new.bytes ≡ room.old.bytes ++ bytes_from (V.map view.old disk.old lot.now) inode.now from n) }
+    ensures long { IfOk result (λ n. length room.new.bytes ≡ length room.old.bytes + n) }
+    ensures most { length room.new.bytes ≤ length room.old.bytes + (end - from) }
+    ensures moves { IfOk result (λ n. (1 ≤ n) × (from + n ≤ end)) }
+    ensures entries { room.new.entries ≡ room.old.entries }
+    ensures rows { room.new.rows ≡ room.old.rows }
+    ensures pointer { IsErrOf result (Damaged Pointer) → V.shows lot.now view.old disk.old → (k : ℕ) × (1024 * k < end) × (leads lot.now (V.map view.old disk.old lot.now) inode.now k ≡ false) }
+    ensures looked { Looked D.Disk V.View lot.now view.old disk.old view.new disk.new }
+    ensures faults { IfErr result IsLookFault }
+    ensures failed { IsErrOf result FaultDisk → Rose (D.state disk.old).faults (D.state disk.new).faults }
+{
+    let at = nth::<D, V, F>(view, disk, lot, inode, from / 1024)?;
+    let mut block = [0; 1024];
+    fetch(view, disk, lot, at, &mut block)?;
+    let start = from % 1024;
+    let n = (1024 - start).min(end - from);
+    room.add_bytes(&block[start as usize..(start + n) as usize]);
+    Ok(n)
+}
+
+/// Puts the bytes of a file from `at` on into the room: `len` of them, or as many as there are.
+/// After an `Err` any bytes may stand in the room. Damaged: the inode is no file of at least `at` bytes, or a pointer to one of its blocks is no data place.
+pub fn read_at<D: Disk, V: View<D>, F: Form>(
+    view: &mut V,
+    disk: &mut D,
+    lot: &Lot,
+    number: u32,
+    at: u32,
+    len: u32,
+    room: &mut Room,
+) -> Result<(), OpFault>
+    requires sited { is_sited lot.now (D.state disk.old).size ≡ true }
+    requires number { number < 64 * length lot.now.groups }
+    requires few { len ≤ most_at_once }
+    requires empty { room.old.bytes ≡ [] }
+    ensures bytes { V.shows lot.now view.old disk.old → OnOk result (room.new.bytes ≡ take len (drop at (file_bytes (own F.ENTRY (V.map view.old disk.old lot.now) number)))) }
+    ensures most { length room.new.bytes ≤ len }
+    ensures entries { room.new.entries ≡ room.old.entries }
+    ensures rows { room.new.rows ≡ room.old.rows }
+    ensures reaches { V.shows lot.now view.old disk.old → OnOk result (ReachesTo at (inode_of (V.map view.old disk.old lot.now) number)) }
+    ensures kind { IsErrOf result (Damaged Kind) → V.shows lot.now view.old disk.old → ¬ ReachesTo at (inode_of (V.map view.old disk.old lot.now) number) }
+    ensures pointer { IsErrOf result (Damaged Pointer) → V.shows lot.now view.old disk.old → (k : ℕ) × (1024 * k < (inode_of (V.map view.old disk.old lot.now) number).size) × (leads lot.now (V.map view.old disk.old lot.now) (inode_of (V.map view.old disk.old lot.now) number) k ≡ false) }
+    ensures looked { Looked D.Disk V.View lot.now view.old disk.old view.new disk.new }
+    ensures faults { IfErr result IsReadFault }
+    ensures failed { IsErrOf result FaultDisk → Rose (D.state disk.old).faults (D.state disk.new).faults }
+{
+    let inode = file_inode::<D, V, F>(view, disk, lot, number, at)?;
+    let end = inode.size.min(at + len);
+    let mut from = at;
+    while from < end {
+        from += read_piece::<D, V, F>(view, disk, lot, &inode, from, end, room)?;
+    }
+    Ok(())
+}
