@@ -1,5 +1,5 @@
 -- What a crash leaves in a loose block.
-use Rattle.std.specs.Prelude.{◌≡◌, ◌+◌, ◌*◌, ◌%◌, ◌^◌, ◌<◌, ℕ, List, length, replicate, slice_index_or}
+use Rattle.std.specs.Prelude.{◌≡◌, ◌+◌, ◌*◌, ◌%◌, ◌^◌, ◌<◌, ℕ, List, replicate, slice_index_or}
 
 -- byte j of block `at` for a fill of 4 or more
 abbrev pub pattern : ℕ → ℕ → ℕ → ℕ

@@ -1,6 +1,6 @@
 -- What a host in memory holds, what it remembers of its past, and what a crash may leave of it.
-use Rattle.std.specs.Prelude.{◌≡◌, ◌⊎◌, ◌+◌, ◌-◌, ◌≤◌, ◌<◌, ◌^◌, min, ℕ, Bool, true, false, if◌then◌else◌, ◌==◌, nat_lt, List, [], ◌∷◌, length, slice_set, slice_index_or, take, Contains, Result, IsOk, IsErr}
-use Rattle.std.proofs.Common.{inl, inr, refl, sym, ◌∙◌, ap, arith}
+use Rattle.std.specs.Prelude.{◌≡◌, ◌⊎◌, ◌+◌, ◌-◌, ◌≤◌, ◌<◌, ◌^◌, min, ℕ, Bool, true, false, if◌then◌else◌, ◌==◌, nat_lt, List, [], ◌∷◌, length, slice_set, slice_index_or, take, Contains, Result, IsErr}
+use Rattle.std.proofs.Common.{inl, inr, sym, ◌∙◌, ap, arith}
 use Rattle.std.proofs.lemmas.Bool.{false≢true, cases_Bool}
 use Rattle.std.proofs.lemmas.List.{take_all}
 use Rattle.ice_base.specs.Disk.{Image, DiskState, block}
@@ -130,6 +130,10 @@ pub record Present (m : Memory) : Type 0 where
   pub now : (m.past m.calls).now ≡ m.blocks
   pub given : (m.past m.calls).given ≡ length m.output
   pub loose : m.calls ≤ m.remembered → m.calls + 1 < 2 ^ 64 → (k : ℕ) → (m.past m.calls).loose k ≡ m.loose k
+
+-- how the blocks read at the last good barrier, or at the start
+abbrev pub settled_of : Memory → Image
+settled_of m = (m.past m.calls).settled
 
 -- one call more, and the settings as they were
 pub record Ticks (old new : Memory) : Type 0 where

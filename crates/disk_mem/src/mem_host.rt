@@ -239,7 +239,7 @@ impl MemHost {
 
 impl Disk for MemHost {
     ghost use Rattle.std.specs.Prelude.{refl};
-    ghost use Rattle.disk_mem.specs.Memory.{Memory, Planned, Obeys, KeepsPast, Present, Ticks, Spends, next, holds_now, may_leave_now};
+    ghost use Rattle.disk_mem.specs.Memory.{Memory, Planned, Obeys, KeepsPast, Present, settled_of, Ticks, Spends, next, holds_now, may_leave_now};
     ghost use Rattle.disk_mem.specs.MemHostView.{memory, told_by, left_by};
 
     ghost state = { told_by };
@@ -267,7 +267,7 @@ impl Disk for MemHost {
         // A read needs no record.
         ensures fails { IsErr result ↔ Planned (memory self.old) }
         ensures present { Present (memory self.new) }
-        ensures settled { ((memory self.new).past (memory self.new).calls).settled ≡ ((memory self.old).past (memory self.old).calls).settled }
+        ensures settled { settled_of (memory self.new) ≡ settled_of (memory self.old) }
         ensures rest { memory self.new ≡ record (memory self.old) {
           calls = next (memory self.old).calls;
           reads = if is_ok result then (memory self.old).reads + 1 else (memory self.old).reads;
@@ -300,7 +300,9 @@ impl Disk for MemHost {
         ensures present { Present (memory self.new) }
         // The past is remembered whole, but for a failed write whose record finds no memory.
         ensures remembered { 0 < (memory self.old).room → (memory self.new).remembered ≡ (memory self.old).remembered }
-        ensures settled { ((memory self.new).past (memory self.new).calls).settled ≡ ((memory self.old).past (memory self.old).calls).settled }
+        ensures remembered_good { OnOk result ((memory self.new).remembered ≡ (memory self.old).remembered) }
+        ensures earlier { min (memory self.old).remembered (memory self.old).calls ≤ (memory self.new).remembered }
+        ensures settled { settled_of (memory self.new) ≡ settled_of (memory self.old) }
     {
         let number = self.calls;
         let fails = self.fails();
@@ -353,8 +355,8 @@ impl Disk for MemHost {
         ensures past { KeepsPast (memory self.old) (memory self.new) }
         ensures present { Present (memory self.new) }
         ensures remembered { (memory self.new).remembered ≡ (memory self.old).remembered }
-        ensures settles { OnOk result (((memory self.new).past (memory self.new).calls).settled ≡ (memory self.new).blocks) }
-        ensures settled { OnErr result (((memory self.new).past (memory self.new).calls).settled ≡ ((memory self.old).past (memory self.old).calls).settled) }
+        ensures settles { OnOk result (settled_of (memory self.new) ≡ (memory self.new).blocks) }
+        ensures settled { OnErr result (settled_of (memory self.new) ≡ settled_of (memory self.old)) }
     {
         let number = self.calls;
         let fails = self.fails();
@@ -380,7 +382,7 @@ impl Disk for MemHost {
 impl Host for MemHost {
     ghost use Rattle.ice_base.specs.Disk.{Rose};
     ghost use Rattle.ice_base.specs.Host.{SameDisk, Leaves, Takes, Gives, FirstOf, moved};
-    ghost use Rattle.disk_mem.specs.Memory.{Memory, Planned, Obeys, KeepsPast, Present, Ticks, Spends, next};
+    ghost use Rattle.disk_mem.specs.Memory.{Memory, Planned, Obeys, KeepsPast, Present, settled_of, Ticks, Spends, next};
     ghost use Rattle.disk_mem.specs.MemHostView.{memory, told_by, left_by};
 
     fn take(&mut self, into: &mut [u8]) -> Result<usize, SourceFault>
@@ -393,7 +395,7 @@ impl Host for MemHost {
         ensures fails { IsErr result ↔ Planned (memory self.old) }
         ensures moves { IfOk result (λ n. n ≡ min (min (length into.old) (memory self.old).piece) (length (memory self.old).intake)) }
         ensures present { Present (memory self.new) }
-        ensures settled { ((memory self.new).past (memory self.new).calls).settled ≡ ((memory self.old).past (memory self.old).calls).settled }
+        ensures settled { settled_of (memory self.new) ≡ settled_of (memory self.old) }
         ensures rest { memory self.new ≡ record (memory self.old) {
           calls = next (memory self.old).calls;
           intake = (memory self.new).intake;
@@ -428,7 +430,7 @@ impl Host for MemHost {
         ensures past { KeepsPast (memory self.old) (memory self.new) }
         ensures present { Present (memory self.new) }
         ensures remembered { (memory self.new).remembered ≡ (memory self.old).remembered }
-        ensures settled { ((memory self.new).past (memory self.new).calls).settled ≡ ((memory self.old).past (memory self.old).calls).settled }
+        ensures settled { settled_of (memory self.new) ≡ settled_of (memory self.old) }
     {
         let number = self.calls;
         let fails = self.fails();

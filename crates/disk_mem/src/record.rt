@@ -36,6 +36,7 @@ pub fn note_failed(
     requires { vec_len steps.old + room.old ≤ vec_capacity steps.old }
     ensures noted { FailedNoted number at steps.old.items steps.new.items remembered.old remembered.new }
     ensures roomy { 0 < room.old → remembered.new ≡ remembered.old }
+    ensures earlier { min remembered.old number ≤ remembered.new }
     ensures room { vec_len steps.new + room.new ≤ vec_capacity steps.new }
     ensures spent { room.old ≤ room.new + 1 }
 {

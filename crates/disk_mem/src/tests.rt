@@ -1,12 +1,41 @@
 //! What no clause says: that calls succeed, and the worked bytes of crashes.
 use crate::{MemHost, MuteHost};
-use ice_base::{Disk, DiskFault, Host, give_all};
+use ice_base::{Disk, Host, give_all};
+use std::alloc::Global;
 use std::process::Abort;
 use std::test::Fail;
 
-fn put<D: Disk>(rt: &impl Abort, disk: &mut D, at: u32, byte: u8) -> Result<(), DiskFault> {
-    assert!(rt; at < disk.blocks());
-    disk.write(at, &[byte; 1024])
+#[derive(Clone, Copy, Debug, PartialEq, Eq)]
+enum Call {
+    Read(u32),
+    Write(u32, u8),
+    Barrier,
+    Take,
+    Give,
+}
+
+// Makes a call and says whether it succeeded. A take is of 8 bytes at most, a give of 2.
+fn make<H: Host>(rt: &impl Abort, host: &mut H, call: Call) -> bool {
+    match call {
+        Call::Read(at) => {
+            assert!(rt; at < host.blocks());
+            host.read(at, &mut [0; 1024]).is_ok()
+        }
+        Call::Write(at, byte) => {
+            assert!(rt; at < host.blocks());
+            host.write(at, &[byte; 1024]).is_ok()
+        }
+        Call::Barrier => host.barrier().is_ok(),
+        Call::Take => host.take(&mut [0; 8]).is_ok(),
+        Call::Give => host.give(b"xy").is_ok(),
+    }
+}
+
+// Makes calls that all succeed.
+fn make_all<H: Host>(rt: &impl Abort, host: &mut H, calls: &[Call]) {
+    for call in calls {
+        assert!(rt; make(rt, host, *call), "{call:?}");
+    }
 }
 
 fn preset(rt: &impl Abort, host: &mut MemHost, at: u32, byte: u8) {
@@ -16,28 +45,38 @@ fn preset(rt: &impl Abort, host: &mut MemHost, at: u32, byte: u8) {
 }
 
 // A block of the crash at a moment.
-fn crash_block(rt: &HostRuntime, host: &MemHost, moment: u64, fill: u64, at: u32) -> Result<[u8; 1024], Fail> {
+fn crash_block(
+    rt: &impl Abort,
+    alloc: Global,
+    host: &MemHost,
+    moment: u64,
+    fill: u64,
+    at: u32,
+) -> Result<[u8; 1024], Fail> {
     assert!(rt; moment <= host.calls());
-    let crashed = host.crashed(rt.alloc(), moment, fill)?;
+    let crashed = host.crashed(alloc, moment, fill)?;
     assert_eq!(rt; crashed.calls(), 0);
     assert!(rt; at < crashed.blocks());
     Ok(*crashed.block(at))
 }
 
-// Block 1 is 5s from the start. Calls: block 0 becomes 7s; a barrier; block 0 becomes 8s; block 1 becomes 6s.
-fn short_run(rt: &HostRuntime) -> Result<MemHost, Fail> {
-    let mut host = MemHost::new(rt.alloc(), 2)?;
+// Block 1 is 5s from the start. Block 0 becomes 7s; a barrier; block 0 becomes 8s; block 1 becomes 6s.
+fn short_run(rt: &impl Abort, alloc: Global) -> Result<MemHost, Fail> {
+    let mut host = MemHost::new(alloc, 2)?;
     preset(rt, &mut host, 1, 5);
-    put(rt, &mut host, 0, 7)?;
-    host.barrier()?;
-    put(rt, &mut host, 0, 8)?;
-    put(rt, &mut host, 1, 6)?;
+    let calls = [
+        Call::Write(0, 7),
+        Call::Barrier,
+        Call::Write(0, 8),
+        Call::Write(1, 6),
+    ];
+    make_all(rt, &mut host, &calls);
     Ok(host)
 }
 
 #[test]
 fn each_fill_at_each_moment(rt: HostRuntime) -> Result<(), Fail> {
-    let host = short_run(&rt)?;
+    let host = short_run(&rt, rt.alloc())?;
     // moment, block, and the byte for the fills 0 to 3
     let table = [
         (0u64, 0u32, [0u8, 0, 0, 0]),
@@ -53,7 +92,7 @@ fn each_fill_at_each_moment(rt: HostRuntime) -> Result<(), Fail> {
     ];
     for (moment, at, bytes) in table {
         for fill in 0..4 {
-            let block = crash_block(&rt, &host, moment, fill as u64, at)?;
+            let block = crash_block(&rt, rt.alloc(), &host, moment, fill as u64, at)?;
             for byte in block {
                 assert_eq!(rt; byte, bytes[fill], "moment {moment} block {at} fill {fill}");
             }
@@ -64,7 +103,7 @@ fn each_fill_at_each_moment(rt: HostRuntime) -> Result<(), Fail> {
 
 #[test]
 fn other_fills_write_a_pattern(rt: HostRuntime) -> Result<(), Fail> {
-    let host = short_run(&rt)?;
+    let host = short_run(&rt, rt.alloc())?;
     // moment, fill, block, byte, and what stands there
     let table = [
         (1u64, 4u64, 0u32, 0usize, 124u8),
@@ -79,9 +118,20 @@ fn other_fills_write_a_pattern(rt: HostRuntime) -> Result<(), Fail> {
         (4, u64::MAX, 0, 0, 225),
     ];
     for (moment, fill, at, j, byte) in table {
-        let block = crash_block(&rt, &host, moment, fill, at)?;
+        let block = crash_block(&rt, rt.alloc(), &host, moment, fill, at)?;
         assert!(rt; j < 1024);
-        assert_eq!(rt; block[j], byte, "moment {moment} fill {fill} block {at} byte {j}");
+        assert_eq!(rt;
+            block[j],
+            byte,
+            "moment {moment} fill {fill} block {at} byte {j}"
+        );
+    }
+    Ok(())
+}
+
+fn fail_at_all(host: &mut MemHost, calls: &[u64]) -> Result<(), Fail> {
+    for call in calls {
+        host.fail_at(*call)?;
     }
     Ok(())
 }
@@ -90,31 +140,40 @@ fn other_fills_write_a_pattern(rt: HostRuntime) -> Result<(), Fail> {
 fn calls_fail_by_number(rt: HostRuntime) -> Result<(), Fail> {
     let mut host = MemHost::new(rt.alloc(), 1)?;
     host.set_script(b"abcdefgh")?;
-    for call in [0, 2, 4, 6, 8] {
-        host.fail_at(call)?;
+    fail_at_all(&mut host, &[0, 2, 4, 6, 8])?;
+    let calls = [
+        Call::Read(0),
+        Call::Write(0, 2),
+        Call::Barrier,
+        Call::Take,
+        Call::Give,
+    ];
+    for call in calls {
+        for good in [false, true] {
+            assert_eq!(rt; make(&rt, &mut host, call), good, "{call:?}");
+        }
     }
-    let mut block = [0; 1024];
-    let mut piece = [0; 8];
-    assert!(rt; host.blocks() > 0);
-    assert!(rt; host.read(0, &mut block).is_err());
-    assert!(rt; host.blocks() > 0);
-    assert!(rt; host.read(0, &mut block).is_ok());
-    assert!(rt; put(&rt, &mut host, 0, 1).is_err());
-    assert!(rt; put(&rt, &mut host, 0, 2).is_ok());
-    assert!(rt; host.barrier().is_err());
-    assert!(rt; host.barrier().is_ok());
-    assert!(rt; host.take(&mut piece).is_err());
-    assert_eq!(rt; host.take(&mut piece)?, 8);
-    assert!(rt; host.give(b"xy").is_err());
-    assert_eq!(rt; host.give(b"xy")?, 2);
     assert_eq!(rt; host.output(), b"xy".as_slice());
-    assert_eq!(rt; piece, *b"abcdefgh");
-    assert_eq!(rt; (host.calls(), host.reads(), host.writes(), host.barriers()), (10, 1, 1, 1));
-    // After the first three calls the block is loose, and as it was.
-    assert_eq!(rt; crash_block(&rt, &host, 3, 1, 0)?[0], 0);
-    assert_eq!(rt; crash_block(&rt, &host, 3, 3, 0)?[0], 0xFF);
-    assert_eq!(rt; crash_block(&rt, &host, 5, 0, 0)?[0], 0);
-    assert_eq!(rt; crash_block(&rt, &host, 6, 3, 0)?[0], 2);
+    assert_eq!(rt;
+        (host.calls(), host.reads(), host.writes(), host.barriers()),
+        (10, 1, 1, 1)
+    );
+    // A failed write leaves the block loose, and as it was. A failed barrier settles nothing.
+    for (moment, fill, byte) in [
+        (2, 3, 0),
+        (3, 1, 0),
+        (3, 3, 0xFF),
+        (5, 0, 0),
+        (5, 1, 2),
+        (6, 0, 2),
+        (6, 3, 2),
+    ] {
+        assert_eq!(rt;
+            crash_block(&rt, rt.alloc(), &host, moment, fill, 0)?[0],
+            byte,
+            "moment {moment} fill {fill}"
+        );
+    }
     Ok(())
 }
 
@@ -125,10 +184,10 @@ fn pieces_of_six_bytes(rt: HostRuntime) -> Result<(), Fail> {
     host.set_script(b"0123456789")?;
     host.set_piece(6);
     let mut piece = [0; 16];
-    for n in [6, 4, 0] {
+    for (n, first) in [(6, b'0'), (4, b'6'), (0, b'6')] {
         assert_eq!(rt; host.take(&mut piece)?, n);
+        assert_eq!(rt; piece[0], first);
     }
-    assert_eq!(rt; piece[0], b'6');
     give_all(&mut host, b"sixteen letters.")?;
     // the bytes given by the first so many calls
     for (moment, given) in [(0u64, 0usize), (3, 0), (4, 6), (5, 12), (6, 16)] {
@@ -143,20 +202,19 @@ fn pieces_of_six_bytes(rt: HostRuntime) -> Result<(), Fail> {
 fn a_mute_host_works_the_same(rt: HostRuntime) -> Result<(), Fail> {
     let mut host = MemHost::new(rt.alloc(), 1)?;
     preset(&rt, &mut host, 0, 0xAA);
-    host.set_script(b"in")?;
-    host.fail_at(1)?;
+    fail_at_all(&mut host, &[1])?;
     let mut mute = MuteHost { host };
     let mut block = [0; 1024];
     assert!(rt; mute.blocks() > 0);
     mute.read(0, &mut block)?;
     assert_eq!(rt; block[9], 0xAA);
-    assert!(rt; put(&rt, &mut mute, 0, 1).is_err());
-    put(&rt, &mut mute, 0, 2)?;
-    mute.barrier()?;
-    let mut piece = [0; 4];
-    assert_eq!(rt; mute.take(&mut piece)?, 2);
-    give_all(&mut mute, b"out")?;
-    assert_eq!(rt; mute.host.output(), b"out".as_slice());
+    assert!(rt; !make(&rt, &mut mute, Call::Write(0, 1)));
+    make_all(
+        &rt,
+        &mut mute,
+        &[Call::Write(0, 2), Call::Barrier, Call::Take, Call::Give],
+    );
+    assert_eq!(rt; mute.host.output(), b"xy".as_slice());
     assert!(rt; mute.host.blocks() > 0);
     assert_eq!(rt; mute.host.block(0)[0], 2);
     Ok(())

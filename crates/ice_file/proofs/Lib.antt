@@ -1,1 +1,5 @@
 pub mod ByteLaws
+pub mod OwnLaws
+pub mod MoveLaws
+pub mod DueLaws
+pub mod PieceLaws

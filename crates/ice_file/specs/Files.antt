@@ -1,11 +1,14 @@
 -- Files as byte strings.
 use Rattle.std.specs.Prelude.{◌≡◌, ◌≤◌, ◌<◌, ℕ, ◌+◌, ◌-◌, ◌*◌, ◌/◌, ◌%◌, List, map, slice_index}
 use Rattle.std.specs.List.{range_with_len}
+use Rattle.ice_base.specs.Lots.{LotView}
 use Rattle.ice_base.specs.declared.fault.OpFault.{OpFault}
 use Rattle.ice_base.specs.declared.fault.OpFault.TheVariants.{Disk, Damaged, NoSpace}
 use Rattle.ice_base.specs.declared.fault.Rule.TheVariants.{Counts, Kind, Pointer, Bitmap}
 use Rattle.ice_map.specs.declared.codec.Inode.{Inode}
+use Rattle.ice_map.specs.Inodes.{inode_of}
 use Rattle.ice_map.specs.Maps.{nth_block}
+use Rattle.ice_file.specs.Own.{own, file_bytes, OwnSet}
 
 -- the most bytes of a file: 268 blocks
 abbrev pub longest_file : ℕ
@@ -20,6 +23,12 @@ pub record ReachesTo (at : ℕ) (inode : Inode) : Type 0 where
   pub kind : inode.kind ≡ 1
   pub small : inode.size ≤ longest_file
   pub reaches : at ≤ inode.size
+
+-- A file's bytes were set: its map is well made, the marks follow what it uses, and every other inode is as it was and says what it said.
+pub record FileSet (lot : LotView) (entry : ℕ) (old new : ℕ → List ℕ) (number : ℕ) (now : List ℕ) : Type 0 where
+  pub bytes : file_bytes (own entry new number) ≡ now
+  pub kind : (inode_of new number).kind ≡ 1
+  pub set : OwnSet lot entry old new number
 
 -- byte i of the blocks of a map
 abbrev pub byte_of : (ℕ → List ℕ) → Inode → ℕ → ℕ

@@ -1,5 +1,5 @@
 -- What each inode of a lot says by itself.
-use Rattle.std.specs.Prelude.{◌≡◌, ◌≢◌, ◌≤◌, ◌<◌, ℕ, ◌+◌, ◌*◌, ◌/◌, ◌%◌, true, false, cond, ◌==◌, List, [], map, length, slice_index, slice_index_or}
+use Rattle.std.specs.Prelude.{◌≡◌, ◌≢◌, ◌≤◌, ◌<◌, ℕ, Bool, true, false, ◌+◌, ◌*◌, ◌/◌, ◌%◌, cond, ◌==◌, List, [], map, length, slice_index, slice_index_or}
 use Rattle.std.specs.List.{range_with_len}
 use Rattle.ice_base.specs.Bits.{bit_of}
 use Rattle.ice_base.specs.Fields.{SameBeside}
@@ -64,10 +64,15 @@ WellMade lot entry m number = MadeOf lot m (inode_of m number) (map_length entry
 abbrev pub OthersSay : LotView → ℕ → (ℕ → List ℕ) → (ℕ → List ℕ) → ℕ → Type 0
 OthersSay lot entry old new number = (k : ℕ) → k ≢ number → Holds lot old (own entry old k).uses → Apart (own entry old k).uses (own entry old number).uses → own entry new k ≡ own entry old k
 
+-- 1 for a block that is marked used, 0 for one that isn't
+abbrev pub mark : Bool → ℕ
+mark true = 1
+mark false = 0
+
 -- The marks and counts follow what one inode uses, before and after: the blocks that it got are marked and counted, those that it lost no more.
 -- Nothing else of the bitmap blocks and of the sub-super block changed. A count that was too small for what the inode used says nothing.
 pub record MarksFollow (lot : LotView) (old new : ℕ → List ℕ) (before after : List ℕ) : Type 0 where
-  pub used : (b : ℕ) → cond (used_block new b) 1 0 + times before b ≡ cond (used_block old b) 1 0 + times after b
+  pub used : (b : ℕ) → mark (used_block new b) + times before b ≡ mark (used_block old b) + times after b
   pub inodes : (i : ℕ) → used_inode new i ≡ used_inode old i
   pub rest : (o k : ℕ) → 320 ≤ k → bit_of (new (256 * o)) k ≡ bit_of (old (256 * o)) k
   pub counts : length before ≤ counted false old → counted false new + length before ≡ counted false old + length after

@@ -2,6 +2,7 @@
 #![tactic(auto)]
 
 mod inode;
+mod pieces;
 mod reads;
 
 pub use reads::read_at;

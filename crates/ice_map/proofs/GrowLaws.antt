@@ -283,3 +283,7 @@ others-stay lot m0 m1 inode count s other n owns apart = map-stays m0 m1 other n
           ] refl
       | false ↦ λ t. let l : count ≤ 12 = grind (arith, nat_tests) in ap (λ xs. has xs b) (indirect-none inode count l) ∙ has-none b
     ] refl))
+
+-- where no used block is excepted
+pub all-stay : (lot : LotView) (m0 m1 : ℕ → List ℕ) (other : Inode) (n : ℕ) → Stays lot m0 m1 [] → Owns lot m0 other n → MapStays m0 m1 other n
+all-stay lot m0 m1 other n s owns = map-stays m0 m1 other n (λ b h. s.blocks b (owns b h).0 (owns b h).1 (has-none b))

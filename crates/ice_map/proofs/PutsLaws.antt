@@ -1,11 +1,11 @@
 -- Puts one after another.
-use Rattle.std.proofs.Common.{◌≡◌, ◌≢◌, ◌≤◌, ◌<◌, ◌+◌, ◌-◌, ◌*◌, ◌/◌, ◌==◌, ℕ, Bool, true, false, cond, List, [], ◌∷◌, ◌++◌, map, length, ◌∙◌, sym, refl, ap, arith}
+use Rattle.std.proofs.Common.{◌≡◌, ◌≢◌, ◌≤◌, ◌<◌, ◌+◌, ◌-◌, ◌*◌, ◌/◌, ◌==◌, ℕ, zero, suc, Bool, true, false, cond, List, [], ◌∷◌, ◌++◌, map, length, ◌∙◌, sym, refl, ap, arith}
 use Rattle.std.proofs.lemmas.List.{map-append}
 use Rattle.std.proofs.lemmas.Bool.Decides.{nat_tests}
 use Rattle.ice_base.specs.Lots.{LotView, sub_address}
 use Rattle.ice_base.specs.Spare.{has, lacks, bitmaps}
 use Rattle.ice_base.specs.Used.{is_data, bitmap_of}
-use Rattle.ice_base.specs.Views.{Puts, Spent}
+use Rattle.ice_base.specs.Views.{Puts, Spent, Looked}
 use Rattle.ice_base.specs.declared.disk.Disk as disk
 use Rattle.ice_base.specs.declared.view.View as view
 use Rattle.ice_base.proofs.SpareLaws.{lacks_part, lacks_few, has-bitmaps, lacks-bitmaps}
@@ -19,9 +19,9 @@ module _ {V D : Type 0} (k : view.Ghosts V D) (lot : LotView) where
   puts-then ok xs ys zs v d w e x f p q inx iny = record {
     only = λ a. except_intro a zs _ (λ out. except_elim a ys _ (q.only a) (has-not zs ys a iny out) ∙ except_elim a xs _ (p.only a) (has-not zs xs a inx out));
     pays = λ wide. where_intro wide zs _ (λ all.
-    let r = where_elim wide xs _ (p.pays wide) (λ y h. all y (inx y h)) in
-    let s = where_elim wide ys _ (q.pays wide) (λ y h. all y (iny y h)) in
-    omega arith);
+        let r = where_elim wide xs _ (p.pays wide) (λ y h. all y (inx y h)) in
+        let s = where_elim wide ys _ (q.pays wide) (λ y h. all y (iny y h)) in
+        omega arith);
   }
 
   -- puts of a list are puts of a longer one
@@ -89,6 +89,26 @@ module _ {V D : Type 0} (d : disk.Ghosts D) (k : view.Ghosts V D) (lot : LotView
     steady = λ u f s. s;
   }
 
+  -- what a look leaves, and then a call
+  pub spent-after : (n : ℕ) (v : V) (e : D) (w : V) (f : D) (x : V) (h : D) → Looked d k lot v e w f → Spent d k lot n w f x h → Spent d k lot n v e x h
+  spent-after n v e w f x h a b = record {
+    shows = λ s. b.shows (a.shows s);
+    grows = λ q i. b.grows q (let s = a.held in cc);
+    room = let i = a.room in let j = b.room in omega arith;
+    size = b.size ∙ a.size;
+    tells = b.tells ∙ a.tells;
+    streams = b.streams ∙ a.streams;
+    later = let i = a.later in let j = b.later in omega arith;
+    steady = λ u q s. b.steady u q (a.steady u q s);
+  }
+
+  -- a look puts nothing
+  pub puts-look : (ok : Bool) (xs : List ℕ) (v : V) (e : D) (w : V) (f : D) → Looked d k lot v e w f → Puts k lot ok xs v e w f
+  puts-look ok xs v e w f a = record {
+    only = λ b. except_intro b xs _ (λ out. let m = a.map in cc);
+    pays = λ wide. where_intro wide xs _ (λ all. let r = a.room in let s = ap (λ (h : ℕ → Bool). lacks h wide) a.held in omega arith);
+  }
+
   -- and two calls
   pub spent-then : (n m p : ℕ) (v : V) (e : D) (w : V) (f : D) (x : V) (h : D) → Spent d k lot n v e w f → Spent d k lot m w f x h → n + m ≤ p → Spent d k lot p v e x h
   spent-then n m p v e w f x h a b l = record {
@@ -120,3 +140,14 @@ puts-none k lot xs v d = record {
   only = λ a. except_intro a xs _ (λ out. refl);
   pays = λ wide. where_intro wide xs _ (λ all. omega arith);
 }
+
+-- an address that is no bitmap block
+not_bitmap : (n a : ℕ) → ((o : ℕ) → a ≢ 256 * o) → has (bitmaps n) a ≡ false
+unfolding has bitmaps
+not_bitmap zero a h = refl
+not_bitmap (suc n) a h = let r = not_bitmap n a h in let ne = h n in grind (arith, nat_tests)
+
+-- what is put where only bitmap blocks and the sub-super block are
+pub bitmaps-only : {V D : Type 0} (k : view.Ghosts V D) (lot : LotView) (ok : Bool) (n : ℕ) (v : V) (d : D) (w : V) (e : D) → Puts k lot ok (sub_address ∷ bitmaps n) v d w e → (b : ℕ) → b ≢ sub_address → ((o : ℕ) → b ≢ 256 * o) → k.map w e lot b ≡ k.map v d lot b
+bitmaps-only k lot ok n v d w e p b ns nb =
+    except_elim b (sub_address ∷ bitmaps n) _ (p.only b) (let c = has-cons sub_address b (bitmaps n) in let r = not_bitmap n b nb in let t : (sub_address == b) ≡ false = grind (arith, nat_tests) in c ∙ ap (λ t. cond t true (has (bitmaps n) b)) t ∙ r)

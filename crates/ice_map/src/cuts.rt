@@ -4,11 +4,11 @@ ghost use Rattle.ice_base.specs.Disk.{Rose};
 ghost use Rattle.ice_base.specs.Lots.{is_sited, sub_address};
 ghost use Rattle.ice_base.specs.Spare.{bitmaps};
 ghost use Rattle.ice_base.specs.Used.{is_data, counted};
-ghost use Rattle.ice_base.specs.Views.{Spent, Puts};
+ghost use Rattle.ice_base.specs.Views.{Looked, Spent, Puts};
 ghost use Rattle.ice_base.specs.declared.fault.OpFault.TheVariants.{Disk as FaultDisk, Damaged};
 ghost use Rattle.ice_base.specs.declared.fault.Rule.TheVariants.{Counts, Pointer, Bitmap};
-ghost use Rattle.ice_map.specs.Faults.{IsCutFault};
-ghost use Rattle.ice_map.specs.Maps.{longest, nth_block, blocks_between, cut_off, cut_room, given_puts, shortened, Marked, Stays, OwnsOnce, Placed, Cut};
+ghost use Rattle.ice_map.specs.Faults.{IsCutFault, IsLookFault};
+ghost use Rattle.ice_map.specs.Maps.{longest, nth_block, blocks_between, cut_off, cut_room, given_puts, shortened, Marked, Stays, Owns, OwnsOnce, MapStays, Placed, Cut};
 
 use crate::codec::Inode;
 use crate::maps::checked;
@@ -64,4 +64,165 @@ fn give_between<D: Disk, K: Keep<D>, P: Pool<D, K>>(
         }
     }
     Ok(())
+}
+
+/// Reads the indirect block. Damaged: its address is no data place.
+#[tactic(auto, using(ice_base::proofs::UsedLaws::group_laws, ice_base::proofs::LotLaws::address_laws))]
+fn read_indirect<D: Disk, V: View<D>>(
+    view: &mut V,
+    disk: &mut D,
+    lot: &Lot,
+    inode: &Inode,
+    into: &mut Block,
+) -> Result<(), OpFault>
+    requires sited { is_sited lot.now (D.state disk.old).size ≡ true }
+    ensures content { V.shows lot.now view.old disk.old → OnOk result (into.new ≡ V.map view.old disk.old lot.now inode.now.single) }
+    ensures data { OnOk result (is_data lot.now inode.now.single ≡ true) }
+    ensures pointer { IsErrOf result (Damaged Pointer) → is_data lot.now inode.now.single ≡ false }
+    ensures looked { Looked D.Disk V.View lot.now view.old disk.old view.new disk.new }
+    ensures faults { IfErr result IsLookFault }
+    ensures failed { IsErrOf result FaultDisk → Rose (D.state disk.old).faults (D.state disk.new).faults }
+{
+    let single = checked(lot, inode.single)?;
+    fetch(view, disk, lot, single, into)
+}
+
+/// Gives back what a map past the direct blocks uses past its first `rest`.
+fn give_indirect<D: Disk, K: Keep<D>, P: Pool<D, K>>(
+    keep: &mut K,
+    pool: &mut P,
+    disk: &mut D,
+    lot: &Lot,
+    inode: &Inode,
+    count: u32,
+    rest: u32,
+) -> Result<(), OpFault>
+    requires sited { is_sited lot.now (D.state disk.old).size ≡ true }
+    requires order { rest < count }
+    requires long { 12 < count }
+    requires short { count ≤ longest }
+    requires room { cut_room count rest ≤ K.room keep.old }
+    ensures gave { K.shows lot.now keep.old disk.old → OnOk result (Marked lot.now false (K.map keep.old disk.old lot.now) (K.map keep.new disk.new lot.now) (cut_off (K.map keep.old disk.old lot.now) inode.now count rest)) }
+    ensures puts { K.shows lot.now keep.old disk.old → Puts K.View lot.now (is_ok result) (given_puts (cut_off (K.map keep.old disk.old lot.now) inode.now count rest)) keep.old disk.old keep.new disk.new }
+    ensures bitmaps { Puts K.View lot.now (is_ok result) (sub_address ∷ bitmaps (length lot.now.groups)) keep.old disk.old keep.new disk.new }
+    ensures single { OnOk result (K.map keep.new disk.new lot.now inode.now.single ≡ K.map keep.old disk.old lot.now inode.now.single) }
+    ensures spent { Spent D.Disk K.View lot.now (cut_room count rest) keep.old disk.old keep.new disk.new }
+    ensures zero { IsErrOf result (Damaged Counts) → K.shows lot.now keep.old disk.old → counted false (K.map keep.old disk.old lot.now) < length (cut_off (K.map keep.old disk.old lot.now) inode.now count rest) }
+    ensures unused { IsErrOf result (Damaged Bitmap) → K.shows lot.now keep.old disk.old → ¬ OwnsOnce (K.map keep.old disk.old lot.now) (cut_off (K.map keep.old disk.old lot.now) inode.now count rest) }
+    ensures pointer { IsErrOf result (Damaged Pointer) → K.shows lot.now keep.old disk.old → ¬ Placed lot.now (K.map keep.old disk.old lot.now) inode.now count }
+    ensures faults { IfErr result IsCutFault }
+    ensures failed { IsErrOf result FaultDisk → Rose (D.state disk.old).faults (D.state disk.new).faults }
+{
+    let mut block = [0; 1024];
+    match read_indirect(keep, disk, lot, inode, &mut block) {
+        Ok(()) => {}
+        Err(fault) => return Err(fault),
+    }
+    match give_between(keep, pool, disk, lot, inode, &block, rest, count) {
+        Ok(()) => {}
+        Err(fault) => return Err(fault),
+    }
+    if rest > 12 {
+        return Ok(());
+    }
+    match pool.give_block(keep, disk, lot, inode.single) {
+        Ok(()) => Ok(()),
+        Err(fault) => Err(fault),
+    }
+}
+
+fn clear_direct(direct: &mut [u32; 12], rest: u32)
+    ensures cleared { direct.new ≡ take rest direct.old ++ replicate (12 - rest) 0 }
+    ensures long { length direct.old ≡ 12 }
+{
+    let first = if rest < 12 { rest as usize } else { 12 };
+    for k in first..12usize {
+        direct[k] = 0;
+    }
+}
+
+/// Only the first `rest` pointers stay.
+#[tactic(auto, using(crate::proofs::CutLaws::shortened_laws))]
+fn shorten(inode: &mut Inode, rest: u32)
+    ensures shortened { inode.new ≡ shortened inode.old rest }
+    ensures long { length inode.old.direct ≡ 12 }
+{
+    clear_direct(&mut inode.direct, rest);
+    if rest <= 12 {
+        inode.single = 0;
+    }
+    inode.double = 0;
+}
+
+/// Gives back what a map of `count` blocks uses past its first `rest`.
+fn give_rest<D: Disk, K: Keep<D>, P: Pool<D, K>>(
+    keep: &mut K,
+    pool: &mut P,
+    disk: &mut D,
+    lot: &Lot,
+    inode: &Inode,
+    count: u32,
+    rest: u32,
+) -> Result<(), OpFault>
+    requires sited { is_sited lot.now (D.state disk.old).size ≡ true }
+    requires order { rest ≤ count }
+    requires short { count ≤ longest }
+    requires room { cut_room count rest ≤ K.room keep.old }
+    ensures gave { K.shows lot.now keep.old disk.old → OnOk result (Marked lot.now false (K.map keep.old disk.old lot.now) (K.map keep.new disk.new lot.now) (cut_off (K.map keep.old disk.old lot.now) inode.now count rest)) }
+    ensures puts { K.shows lot.now keep.old disk.old → Puts K.View lot.now (is_ok result) (given_puts (cut_off (K.map keep.old disk.old lot.now) inode.now count rest)) keep.old disk.old keep.new disk.new }
+    ensures bitmaps { Puts K.View lot.now (is_ok result) (sub_address ∷ bitmaps (length lot.now.groups)) keep.old disk.old keep.new disk.new }
+    ensures single { OnOk result (12 < rest → K.map keep.new disk.new lot.now inode.now.single ≡ K.map keep.old disk.old lot.now inode.now.single) }
+    ensures spent { Spent D.Disk K.View lot.now (cut_room count rest) keep.old disk.old keep.new disk.new }
+    ensures zero { IsErrOf result (Damaged Counts) → K.shows lot.now keep.old disk.old → counted false (K.map keep.old disk.old lot.now) < length (cut_off (K.map keep.old disk.old lot.now) inode.now count rest) }
+    ensures unused { IsErrOf result (Damaged Bitmap) → K.shows lot.now keep.old disk.old → ¬ OwnsOnce (K.map keep.old disk.old lot.now) (cut_off (K.map keep.old disk.old lot.now) inode.now count rest) }
+    ensures pointer { IsErrOf result (Damaged Pointer) → K.shows lot.now keep.old disk.old → ¬ Placed lot.now (K.map keep.old disk.old lot.now) inode.now count }
+    ensures faults { IfErr result IsCutFault }
+    ensures failed { IsErrOf result FaultDisk → Rose (D.state disk.old).faults (D.state disk.new).faults }
+{
+    if rest == count {
+        return Ok(());
+    }
+    if count > 12 {
+        return give_indirect(keep, pool, disk, lot, inode, count, rest);
+    }
+    give_between(keep, pool, disk, lot, inode, &[0; 1024], rest, count)
+}
+
+/// Cuts a map of `count` blocks to its first `rest`. The others are given back, and with the last of its pointers the indirect block.
+/// Pointers of the inode that the map doesn't use are 0 afterwards. The inode is the caller's to put.
+/// Damaged: a block of the map is no data place, or is not marked used, or the map has it twice, or the count of used blocks is too low.
+pub fn cut<D: Disk, K: Keep<D>, P: Pool<D, K>, F: Form>(
+    keep: &mut K,
+    pool: &mut P,
+    disk: &mut D,
+    lot: &Lot,
+    inode: &mut Inode,
+    count: u32,
+    rest: u32,
+) -> Result<(), OpFault>
+    requires sited { is_sited lot.now (D.state disk.old).size ≡ true }
+    requires order { rest ≤ count }
+    requires short { count ≤ longest }
+    requires room { cut_room count rest ≤ K.room keep.old }
+    ensures cut { K.shows lot.now keep.old disk.old → OnOk result (Cut lot.now (K.map keep.old disk.old lot.now) (K.map keep.new disk.new lot.now) inode.old inode.new count rest) }
+    ensures fields { OnOk result (inode.new ≡ shortened inode.old rest) }
+    ensures kept { OnErr result (inode.new ≡ inode.old) }
+    ensures puts { K.shows lot.now keep.old disk.old → Puts K.View lot.now (is_ok result) (given_puts (cut_off (K.map keep.old disk.old lot.now) inode.old count rest)) keep.old disk.old keep.new disk.new }
+    ensures bitmaps { Puts K.View lot.now (is_ok result) (sub_address ∷ bitmaps (length lot.now.groups)) keep.old disk.old keep.new disk.new }
+    ensures stays { Stays lot.now (K.map keep.old disk.old lot.now) (K.map keep.new disk.new lot.now) [] }
+    ensures others { (other : Inode) (n : ℕ) → Owns lot.now (K.map keep.old disk.old lot.now) other n → MapStays (K.map keep.old disk.old lot.now) (K.map keep.new disk.new lot.now) other n }
+    ensures spent { Spent D.Disk K.View lot.now (cut_room count rest) keep.old disk.old keep.new disk.new }
+    ensures zero { IsErrOf result (Damaged Counts) → K.shows lot.now keep.old disk.old → counted false (K.map keep.old disk.old lot.now) < length (cut_off (K.map keep.old disk.old lot.now) inode.old count rest) }
+    ensures unused { IsErrOf result (Damaged Bitmap) → K.shows lot.now keep.old disk.old → ¬ OwnsOnce (K.map keep.old disk.old lot.now) (cut_off (K.map keep.old disk.old lot.now) inode.old count rest) }
+    ensures pointer { IsErrOf result (Damaged Pointer) → K.shows lot.now keep.old disk.old → ¬ Placed lot.now (K.map keep.old disk.old lot.now) inode.old count }
+    ensures faults { IfErr result IsCutFault }
+    ensures failed { IsErrOf result FaultDisk → Rose (D.state disk.old).faults (D.state disk.new).faults }
+{
+    match give_rest(keep, pool, disk, lot, inode, count, rest) {
+        Ok(()) => {
+            shorten(inode, rest);
+            Ok(())
+        }
+        Err(fault) => Err(fault),
+    }
 }

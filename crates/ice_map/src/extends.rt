@@ -14,7 +14,6 @@ ghost use Rattle.ice_base.specs.declared.fault.Rule.TheVariants.{Counts, Pointer
 ghost use Rattle.ice_map.specs.Faults.{IsGrowFault};
 ghost use Rattle.ice_map.specs.Maps.{longest, indirect_of, needs, growth, growth_puts, widened, Marked, Stays, OthersStay, TookTwo, Grown};
 
-
 use crate::codec::Inode;
 use crate::maps::checked;
 use ice_base::{Disk, Form, Keep, Lot, OpFault, Pool, Rule, View, fetch, store, write_u32};

@@ -7,7 +7,6 @@ ghost use Rattle.ice_base.specs.Inodes.{inode_address};
 ghost use Rattle.ice_base.specs.Faults.{IsDiskFault};
 ghost use Rattle.ice_map.specs.Inodes.{inode_of, InodeSet};
 
-
 use crate::codec::{Inode, read_inode, write_inode};
 use ice_base::{Disk, Form, Keep, Lot, OpFault, Pool, View, fetch, store};
 

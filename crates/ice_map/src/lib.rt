@@ -8,6 +8,7 @@ mod inodes;
 mod maps;
 
 pub use codec::{Inode, read_inode, write_inode};
+pub use cuts::cut;
 pub use extends::extend;
 pub use inodes::{get_inode, put_inode};
 pub use maps::nth;

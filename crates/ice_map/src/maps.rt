@@ -9,7 +9,6 @@ ghost use Rattle.ice_base.specs.declared.fault.Rule.TheVariants.{Pointer};
 ghost use Rattle.ice_map.specs.Faults.{IsLookFault};
 ghost use Rattle.ice_map.specs.Maps.{longest, nth_block, leads};
 
-
 use crate::codec::Inode;
 use ice_base::{Disk, Form, Lot, OpFault, Rule, View, fetch, read_u32};
 

@@ -1,4 +1,4 @@
-use Rattle.std.proofs.Common.{◌≡◌, ◌≤◌, ℕ, replicate, vec_len, vec_capacity}
+use Rattle.std.proofs.Common.{◌≡◌, ◌≤◌, replicate, vec_len, vec_capacity}
 use Rattle.disk_mem.proofs.blocks.zero_blocks.Given as goal
 
 abbrev pub invariant-loop-i : goal.invariant-loop-i

@@ -1,4 +1,4 @@
-use Rattle.std.proofs.Common.{◌≡◌, List, ℕ, ◌∙◌, sym, subst, arith}
+use Rattle.std.proofs.Common.{List, ℕ, sym, subst, arith}
 use Rattle.disk_mem.specs.Fill.{Filled}
 use Rattle.ice_base.specs.Disk.{block}
 use Rattle.disk_mem.proofs.Past.{block_set_same, block_set_other, read_block}

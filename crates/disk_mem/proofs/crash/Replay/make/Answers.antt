@@ -1,4 +1,4 @@
-use Rattle.std.proofs.Common.{◌∙◌, sym, ap, subst, arith, nat_lt, if◌then◌else◌}
+use Rattle.std.proofs.Common.{◌∙◌, sym, ap, subst, arith}
 use Rattle.disk_mem.specs.Memory.{Moment, number_of, applied}
 use Rattle.disk_mem.specs.Crash.{Shows}
 use Rattle.disk_mem.specs.declared.step.Step.{Step}

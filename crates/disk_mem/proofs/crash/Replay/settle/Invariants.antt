@@ -1,4 +1,4 @@
-use Rattle.std.proofs.Common.{◌≡◌, ◌<◌, ℕ, false, length, slice_index_or}
+use Rattle.std.proofs.Common.{◌≡◌, ◌<◌, ℕ, false, slice_index_or}
 use Rattle.ice_base.specs.Disk.{block}
 use Rattle.disk_mem.proofs.crash.Replay.settle.Given as goal
 

@@ -1,7 +1,6 @@
-use Rattle.std.proofs.Common.{ℕ, List, Bool, length, ◌<◌, ◌≡◌, true, false, if◌then◌else◌, slice_index_or, ◌∙◌, sym, [], arith}
+use Rattle.std.proofs.Common.{ℕ, List, Bool, length, ◌<◌, ◌≡◌, true, false, if◌then◌else◌, slice_index_or, ◌∙◌, sym, arith}
 use Rattle.std.proofs.lemmas.List.{get_or_default}
 use Rattle.std.proofs.lemmas.Bool.Decides.{nat_tests}
-use Rattle.ice_base.specs.Disk.{block}
 use Rattle.disk_mem.proofs.Past.{block_set_same, block_set_other, read_block}
 use Rattle.disk_mem.proofs.crash.Replay.settle_one.Goals as goal
 

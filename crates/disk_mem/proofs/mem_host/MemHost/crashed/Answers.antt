@@ -1,4 +1,4 @@
-use Rattle.std.proofs.Common.{sym, ap, subst, ◌∙◌, List, arith}
+use Rattle.std.proofs.Common.{sym, subst, List, arith}
 use Rattle.ice_base.specs.Disk.{Image}
 use Rattle.disk_mem.specs.Memory.{fresh, past_of, after}
 use Rattle.disk_mem.specs.Crash.{Shows, LeavesFilled}

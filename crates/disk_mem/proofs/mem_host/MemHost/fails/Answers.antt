@@ -1,6 +1,5 @@
-use Rattle.std.proofs.Common.{◌≡◌, ℕ, true, List, ap, sym, subst, ◌∙◌, inl, inr, ⊎_elim, arith, nat_eq}
+use Rattle.std.proofs.Common.{◌≡◌, ℕ, List, ap, sym, ◌∙◌, inl, ⊎_elim, nat_eq}
 use Rattle.std.specs.List.{list_any}
-use Rattle.disk_mem.specs.Memory.{Planned}
 use Rattle.disk_mem.proofs.Planned.{contains_any, any_contains}
 use Rattle.disk_mem.proofs.mem_host.MemHost.fails.Goals as goal
 

@@ -1,6 +1,6 @@
 use Rattle.std.proofs.Common.{arith, refl, sym, ◌∙◌, ap, subst, inl, inr, ⊎_elim, List}
 use Rattle.disk_mem.specs.Memory.{Linked, LeftSince, Moment, past_of}
-use Rattle.disk_mem.proofs.Past.{Grows, grows, linked_pass, pass_left, pass_kept, linked_barrier, barrier_left, grown_kept}
+use Rattle.disk_mem.proofs.Past.{grows, linked_pass, pass_left, pass_kept, linked_barrier, barrier_left, grown_kept}
 use Rattle.disk_mem.specs.declared.step.Step.{Step}
 use Rattle.disk_mem.specs.declared.step.Step.TheVariants.{Barrier}
 use Rattle.disk_mem.proofs.mem_host.MemHostDisk.barrier.Goals as goal

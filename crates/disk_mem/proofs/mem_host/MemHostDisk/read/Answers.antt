@@ -1,7 +1,7 @@
 use Rattle.std.proofs.Common.{arith, refl, ◌∙◌, inl, inr, ⊎_elim, []}
 use Rattle.std.proofs.lemmas.List.{get_or_default}
 use Rattle.ice_base.specs.Disk.{block}
-use Rattle.disk_mem.proofs.Past.{linked_pass, pass_left, pass_kept}
+use Rattle.disk_mem.proofs.Past.{pass_left, pass_kept}
 use Rattle.disk_mem.proofs.mem_host.MemHostDisk.read.Goals as goal
 
 pub returns-then-fails-clause-within : goal.returns-then-fails-clause-within

@@ -1,8 +1,8 @@
-use Rattle.std.proofs.Common.{arith, refl, sym, ◌∙◌, ap, subst, inl, inr, ⊎_elim, List, true, false, slice_set}
+use Rattle.std.proofs.Common.{arith, refl, ◌∙◌, subst, inl, inr, ⊎_elim, List}
 use Rattle.std.proofs.lemmas.List.{length-set}
 use Rattle.disk_mem.specs.Memory.{past_of}
 use Rattle.disk_mem.specs.Record.{FailedNoted}
-use Rattle.disk_mem.proofs.Past.{Grows, grows, block_set_same, block_set_other, flag_other, linked_write, write_left, write_settled, grown_kept, failed_linked, failed_left, failed_kept, failed_past, failed_settled}
+use Rattle.disk_mem.proofs.Past.{grows, block_set_same, block_set_other, flag_other, linked_write, write_left, write_settled, grown_kept, failed_linked, failed_left, failed_kept, failed_past, failed_settled}
 use Rattle.disk_mem.specs.declared.step.Step.{Step}
 use Rattle.disk_mem.specs.declared.step.Step.TheVariants.{Write}
 use Rattle.disk_mem.proofs.mem_host.MemHostDisk.write.Goals as goal

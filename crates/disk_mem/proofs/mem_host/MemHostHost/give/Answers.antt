@@ -1,7 +1,7 @@
-use Rattle.std.proofs.Common.{arith, refl, sym, ◌∙◌, ap, subst, inl, inr, ⊎_elim, take, length, ◌+◌, List, ℕ}
+use Rattle.std.proofs.Common.{arith, refl, sym, ◌∙◌, subst, inl, inr, ⊎_elim, take, length, ◌+◌, List, ℕ}
 use Rattle.std.proofs.lemmas.List.{append-nil}
 use Rattle.disk_mem.specs.Memory.{Linked, LeftSince, past_of}
-use Rattle.disk_mem.proofs.Past.{Grows, grows, linked_pass, pass_left, pass_kept, linked_give, give_left, give_kept, give_settled}
+use Rattle.disk_mem.proofs.Past.{grows, linked_pass, pass_left, pass_kept, linked_give, give_left, give_kept, give_settled}
 use Rattle.disk_mem.specs.declared.step.Step.{Step}
 use Rattle.disk_mem.specs.declared.step.Step.TheVariants.{Give}
 use Rattle.disk_mem.proofs.mem_host.MemHostHost.give.Goals as goal

@@ -1,0 +1,21 @@
+use Rattle.std.proofs.Common.{rules, ◌≡◌, ◌≢◌, ◌≤◌, ◌<◌, ◌+◌, ◌==◌, max, ℕ, true, false, ◌∙◌, sym, ap, arith}
+use Rattle.std.proofs.lemmas.Bool.Decides.{nat_tests}
+use Rattle.ice_base.proofs.LotLaws.{sited-few}
+use Rattle.ice_file.specs.Writes.{due}
+use Rattle.ice_file.proofs.DueLaws.{due-less}
+use Rattle.ice_file.proofs.PieceLaws.{piece-put}
+use Rattle.ice_file.proofs.pieces.put_piece.Goals as goal
+
+pub returns-clause-put : goal.returns-clause-put
+returns-clause-put g c = λ s made.
+    let t = c.reach.ensures.spent.shows s in
+    piece-put c.args.lot.now (g.K.View.map c.args.keep.now c.args.disk.now c.args.lot.now) (g.K.View.map c.reach.new.keep c.reach.new.disk c.args.lot.now) (g.K.View.map c.fill.new.keep c.fill.new.disk c.args.lot.now)
+    c.args.inode.now c.reach.new.inode c.args.count c.args.k c.in_ok-at.at c.args.start c.args.bytes.now (sited-few _ _ c.requires.sited) (c.in_ok-at.ensures.reached s made)
+    c.in_ok-fill.ensures.puts.only (c.in_ok-fill.ensures.here t) (λ l. c.in_ok-fill.ensures.rest t (grind (arith, nat_tests)))
+
+pub returns-clause-pays : goal.returns-clause-pays
+returns-clause-pays g c =
+    let p = c.in_ok-at.ensures.pays in
+    let q = c.fill.ensures.spent.room in
+    let d = due-less (g.K.View.held c.reach.new.keep) (g.K.View.held c.fill.new.keep) c.reach.new.inode.single (max c.args.count (c.args.k + 1)) c.fill.ensures.spent.grows in
+    omega arith
