@@ -1,2 +1,4 @@
 pub mod RowLaws
 pub mod DirLaws
+pub mod SetLaws
+pub mod PutLaws

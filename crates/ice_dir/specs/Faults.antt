@@ -23,3 +23,22 @@ IsEntryFault (Damaged Kind) = Unit {0}
 IsEntryFault (Damaged Pointer) = Unit {0}
 IsEntryFault (Damaged Name) = Unit {0}
 IsEntryFault _ = ⊥
+
+-- those of an addition
+abbrev pub IsAddFault : OpFault → Type 0
+IsAddFault Disk = Unit {0}
+IsAddFault (Damaged Counts) = Unit {0}
+IsAddFault (Damaged Kind) = Unit {0}
+IsAddFault (Damaged Pointer) = Unit {0}
+IsAddFault (Damaged Bitmap) = Unit {0}
+IsAddFault NoSpace = Unit {0}
+IsAddFault _ = ⊥
+
+-- those of a removal
+abbrev pub IsTakeFault : OpFault → Type 0
+IsTakeFault Disk = Unit {0}
+IsTakeFault (Damaged Counts) = Unit {0}
+IsTakeFault (Damaged Kind) = Unit {0}
+IsTakeFault (Damaged Pointer) = Unit {0}
+IsTakeFault (Damaged Bitmap) = Unit {0}
+IsTakeFault _ = ⊥

@@ -1,7 +1,9 @@
 //! Directories as lists of rows: a name and the inode that it names.
 #![tactic(auto)]
 
+mod adds;
 mod looks;
 mod rows;
 
+pub use adds::add;
 pub use looks::{entry, find, len};

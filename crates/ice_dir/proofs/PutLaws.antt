@@ -1,0 +1,140 @@
+-- What a write of one row does.
+use Rattle.std.proofs.Common.{◌≡◌, ◌≢◌, ◌≤◌, ◌<◌, ◌⊎◌, ◌+◌, ◌-◌, ◌*◌, ◌/◌, ◌%◌, ◌==◌, max, ℕ, zero, suc, Bool, true, false, cond, List, [], ◌∷◌, ◌++◌, map, length, take, slice_index, slice_index_or, slice_set, get_or, ◌∙◌, sym, refl, ap, subst, inl, inr, ⊎_elim, arith, length-take, length-set}
+use Rattle.std.proofs.lemmas.Bool.Decides.{nat_tests}
+use Rattle.std.proofs.lemmas.List.{ext_get_or, get_or-take, get_or-set_same, get_or-set_other}
+use Rattle.std.proofs.lemmas.List.FromFn.{get_or-map-range_with_len, length-map-range_with_len, map-range_with_len_more}
+use Rattle.std.proofs.lemmas.Nat.{div-add-mod', mod_below}
+use Rattle.std.specs.List.{range_with_len, swap_remove, position_or_len}
+use Rattle.ice_base.specs.Fields.{SameBeside}
+use Rattle.ice_base.specs.Inodes.{inode_address}
+use Rattle.ice_base.specs.Lots.{LotView}
+use Rattle.ice_map.specs.declared.codec.Inode.{Inode}
+use Rattle.ice_map.specs.Inodes.{inode_of, InodeSet}
+use Rattle.ice_map.specs.Maps.{nth_block, uses}
+use Rattle.ice_file.specs.Own.{MadeOf, WellMade, map_length, blocks_for}
+use Rattle.ice_file.specs.Writes.{Moved, Reached, content_of}
+use Rattle.ice_file.proofs.MoveLaws.{moved-then, put-moved, put-others, put-here}
+use Rattle.ice_dir.specs.Changes.{dir_blocks, RowPut, DirSet}
+use Rattle.ice_dir.specs.Rows.{Row, per_block, place_of, row_at, row_of, rows_of, named, without, FirstNamed, IsDirectory}
+use Rattle.ice_dir.proofs.DirLaws.{map-same, rows-all, per-sixteen, position-found}
+use Rattle.ice_dir.proofs.RowLaws.{row-same}
+use Rattle.ice_dir.proofs.SetLaws.{set-content, own-set}
+
+-- the blocks of a directory
+pub dir-sixteenth : (entry size : ℕ) → entry ≡ 64 → dir_blocks entry size ≡ (size + 15) / 16
+dir-sixteenth entry size e =
+    let a = div-add-mod' (64 * size + 1023) 1024 in
+    let r = mod_below (64 * size + 1023) 1024 (omega arith) in
+    let b = div-add-mod' (size + 15) 16 in
+    let s = mod_below (size + 15) 16 (omega arith) in
+    let q : blocks_for (64 * size) ≡ (size + 15) / 16 = omega (arith, a, r, b, s) in
+    rw e q
+
+pub row-inside : (entry size j : ℕ) → entry ≡ 64 → j < size → j / per_block entry < dir_blocks entry size
+row-inside entry size j e h =
+    let l = dir-sixteenth entry size e in
+    let b = div-add-mod' (size + 15) 16 in
+    let s = mod_below (size + 15) 16 (omega arith) in
+    let c = div-add-mod' j 16 in
+    let t = mod_below j 16 (omega arith) in
+    let q : j / 16 < dir_blocks entry size = omega (arith, l, b, s, c, t) in
+    rw (per-sixteen entry e) q
+
+-- the blocks of a directory with one entry more
+pub one-more : (entry size : ℕ) → entry ≡ 64 → max (dir_blocks entry size) (size / per_block entry + 1) ≡ dir_blocks entry (size + 1)
+one-more entry size e =
+    let l = dir-sixteenth entry size e in
+    let m = dir-sixteenth entry (size + 1) e in
+    let a = div-add-mod' (size + 15) 16 in
+    let b = mod_below (size + 15) 16 (omega arith) in
+    let c = div-add-mod' (size + 1 + 15) 16 in
+    let d = mod_below (size + 1 + 15) 16 (omega arith) in
+    let f = div-add-mod' size 16 in
+    let i = mod_below size 16 (omega arith) in
+    let q : max (dir_blocks entry size) (size / 16 + 1) ≡ dir_blocks entry (size + 1) = omega (arith, l, m, a, b, c, d, f, i) in
+    rw (per-sixteen entry e) q
+
+-- two rows of a block
+pub rows-apart : (entry j k : ℕ) → entry ≡ 64 → j / per_block entry ≡ k / per_block entry → j ≢ k → (place_of entry j + entry ≤ place_of entry k) ⊎ (place_of entry k + entry ≤ place_of entry j)
+rows-apart entry j k e = rw e (sixteen j k)
+  where
+    sixteen : (j k : ℕ) → j / 16 ≡ k / 16 → j ≢ k → (64 * (j % 16) + 64 ≤ 64 * (k % 16)) ⊎ (64 * (k % 16) + 64 ≤ 64 * (j % 16))
+    sixteen j k same ne =
+        let a = div-add-mod' j 16 in
+        let b = div-add-mod' k 16 in
+        grind arith
+
+pub place-fits : (entry k : ℕ) → entry ≡ 64 → place_of entry k + entry ≤ 1024
+place-fits entry k e = rw e (let b = mod_below k 16 (omega arith) in omega (arith, b))
+
+-- a block of a map was put, in which one row was written
+module _ (lot : LotView) (entry : ℕ) (m0 m1 m2 : ℕ → List ℕ) (x y : Inode) (c d k at : ℕ) (old new : List ℕ) (row : Row) (sixty : entry ≡ 64) (reached : Reached lot m0 m1 x y c (k / per_block entry) at) (few : length lot.groups ≤ 64)
+  (wide : max c (k / per_block entry + 1) ≡ d) (had : k / per_block entry < c → old ≡ content_of m0 x (k / per_block entry)) (long : length old ≡ 1024) (now_long : length new ≡ 1024) (beside : SameBeside (place_of entry k) entry old new)
+  (here : row_at entry new (place_of entry k) ≡ row) (put : m2 at ≡ new) (only : (b : ℕ) → b ≢ at → m2 b ≡ m1 b) where
+  moved-one : Moved lot m0 m1 x y c d
+  moved-one = subst (λ n. Moved lot m0 m1 x y c n) wide reached.moved
+
+  block-inside : k / per_block entry < d
+  block-inside = omega arith
+
+  content-here : content_of m2 y (k / per_block entry) ≡ new
+  content-here = put-here lot m1 m2 y d (k / per_block entry) at moved-one.made few block-inside reached.here only ∙ put
+
+  content-other : (n : ℕ) → n < c → n ≢ k / per_block entry → content_of m2 y n ≡ content_of m0 x n
+  content-other n h ne = put-others lot m1 m2 y d (k / per_block entry) at moved-one.made few block-inside reached.here only n (omega arith) ne ∙ reached.contents n h
+
+  row-other : (j : ℕ) → j / per_block entry < c → j ≢ k → row_of entry m2 y j ≡ row_of entry m0 x j
+  row-other j h ne =
+      elim (j / per_block entry == k / per_block entry) as (λ t. (j / per_block entry == k / per_block entry) ≡ t → row_of entry m2 y j ≡ row_of entry m0 x j) [
+        | true ↦ λ t. let e : j / per_block entry ≡ k / per_block entry = grind (arith, nat_tests) in
+            let inside : k / per_block entry < c = omega arith in
+            let fit = place-fits entry j sixty in
+            ap (λ n. row_at entry (content_of m2 y n) (place_of entry j)) e
+            ∙ ap (λ (b : List ℕ). row_at entry b (place_of entry j)) content-here
+            ∙ row-same entry old new (place_of entry j) (place_of entry j) (omega arith) (omega arith) (λ i l. beside (place_of entry j + i) (⊎_elim (λ q. inl (omega arith)) (λ q. inr (omega arith)) (rows-apart entry j k sixty e ne)))
+            ∙ ap (λ (b : List ℕ). row_at entry b (place_of entry j)) (had inside)
+            ∙ ap (λ n. row_at entry (content_of m0 x n) (place_of entry j)) (sym e)
+        | false ↦ λ t. let ne' : j / per_block entry ≢ k / per_block entry = grind (arith, nat_tests) in
+            ap (λ (b : List ℕ). row_at entry b (place_of entry j)) (content-other (j / per_block entry) h ne')
+      ] refl
+
+  pub row-put : RowPut lot entry m0 m2 x y c d k row
+  row-put = record {
+    moved = moved-then lot m0 m1 m2 x y y c d d moved-one (put-moved lot m1 m2 y d (k / per_block entry) at moved-one.made few block-inside reached.here only);
+    here = ap (λ (b : List ℕ). row_at entry b (place_of entry k)) content-here ∙ here;
+    others = row-other;
+  }
+
+-- the rows of a directory to which one was added
+pub rows-added : (lot : LotView) (entry : ℕ) (m0 m1 m2 : ℕ → List ℕ) (x y z : Inode) (number : ℕ) (row : Row) → entry ≡ 64 → RowPut lot entry m0 m1 x y (dir_blocks entry x.size) (dir_blocks entry (x.size + 1)) x.size row
+    → inode_of m0 number ≡ x → inode_of m2 number ≡ z → x.kind ≡ 2 → z.kind ≡ 2 → z.size ≡ x.size + 1 → ((n : ℕ) → n < dir_blocks entry (x.size + 1) → content_of m2 z n ≡ content_of m1 y n)
+    → rows_of entry m2 number ≡ rows_of entry m0 number ++ row ∷ []
+rows-added lot entry m0 m1 m2 x y z number row e put before after kx kz more same =
+    let row-now : (j : ℕ) → j < x.size + 1 → row_of entry m2 z j ≡ row_of entry m1 y j = (λ j h. ap (λ (b : List ℕ). row_at entry b (place_of entry j)) (same (j / per_block entry) (row-inside entry (x.size + 1) j e h))) in
+    rows-all entry m2 number e (ap (λ (i : Inode). i.kind) after ∙ kz)
+    ∙ ap (λ (i : Inode). map (row_of entry m2 i) (range_with_len 0 i.size)) after
+    ∙ ap (λ n. map (row_of entry m2 z) (range_with_len 0 n)) more
+    ∙ map-range_with_len_more (row_of entry m2 z) 0 x.size x.size (omega arith)
+    ∙ ap (λ r. map (row_of entry m2 z) (range_with_len 0 x.size) ++ r ∷ []) (row-now x.size (omega arith) ∙ put.here)
+    ∙ ap (λ (rs : List Row). rs ++ row ∷ []) (map-same (row_of entry m2 z) (row_of entry m0 x) 0 x.size (λ j l h. row-now j (omega arith) ∙ put.others j (row-inside entry x.size j e (omega arith)) (λ q. omega arith))
+        ∙ ap (λ (i : Inode). map (row_of entry m0 i) (range_with_len 0 i.size)) (sym before)
+        ∙ sym (rows-all entry m0 number e (ap (λ (i : Inode). i.kind) before ∙ kx)))
+
+dir-map : (entry : ℕ) (x : Inode) → x.kind ≡ 2 → map_length entry x ≡ dir_blocks entry x.size
+dir-map entry x k = rw k refl
+
+-- a directory to which a row was added and which was then put
+pub dir-added : (lot : LotView) (entry : ℕ) (m0 m1 m2 : ℕ → List ℕ) (x y z : Inode) (number : ℕ) (row : Row) → entry ≡ 64 → IsDirectory lot x → x.size + 1 < 64 * length lot.groups → inode_of m0 number ≡ x
+    → RowPut lot entry m0 m1 x y (dir_blocks entry x.size) (dir_blocks entry (x.size + 1)) x.size row → InodeSet m1 m2 number z → z.kind ≡ y.kind → z.size ≡ y.size + 1 → z.direct ≡ y.direct → z.single ≡ y.single → z.double ≡ y.double
+    → ((b : ℕ) → b ≢ inode_address number → m2 b ≡ m1 b) → DirSet lot entry m0 m2 number (rows_of entry m0 number ++ row ∷ [])
+dir-added lot entry m0 m1 m2 x y z number row e is room before put set kind size direct single double only =
+    let kz : z.kind ≡ 2 = kind ∙ put.moved.kind ∙ is.kind in
+    let sz : z.size ≡ x.size + 1 = size ∙ ap (λ n. n + 1) put.moved.size in
+    record {
+      rows = rows-added lot entry m0 m1 m2 x y z number row e put before set.value is.kind kz sz (set-content lot m1 m2 y z (dir_blocks entry (x.size + 1)) number put.moved.made direct single double only);
+      is = rw set.value (record { kind = kz; few = omega arith });
+      set = own-set lot entry m0 m1 m2 x y z (dir_blocks entry x.size) (dir_blocks entry (x.size + 1)) number put.moved set direct single double only before (dir-map entry x is.kind) (dir-map entry z kz ∙ ap (dir_blocks entry) sz);
+    }
+
+pub made-dir : (lot : LotView) (entry : ℕ) (m : ℕ → List ℕ) (number : ℕ) (x : Inode) → inode_of m number ≡ x → x.kind ≡ 2 → WellMade lot entry m number → MadeOf lot m x (dir_blocks entry x.size)
+made-dir lot entry m number x before kind made = subst (λ n. MadeOf lot m x n) (dir-map entry x kind) (subst (λ i. MadeOf lot m i (map_length entry i)) before made)
