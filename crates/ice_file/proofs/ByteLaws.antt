@@ -1,13 +1,13 @@
 -- The bytes of a map, and those of a file.
-use Rattle.std.proofs.Common.{◌≡◌, ◌≤◌, ◌<◌, ◌+◌, ◌-◌, ◌*◌, ◌/◌, ◌%◌, ℕ, List, [], ◌∷◌, ◌++◌, map, length, take, drop, min, slice_index, slice_index_or, slice_range, ◌∙◌, sym, refl, ap, arith, length-take, length-drop}
+use Rattle.std.proofs.Common.{◌≡◌, ◌≤◌, ◌<◌, ◌+◌, ◌-◌, ◌*◌, ◌/◌, ◌%◌, ℕ, List, [], ◌++◌, map, length, take, drop, min, slice_index, slice_index_or, slice_range, ◌∙◌, sym, refl, ap, arith, length-take, length-drop}
 use Rattle.std.specs.List.{range_with_len}
 use Rattle.std.proofs.lemmas.List.{ext_get_or, get_or-map, get_or-drop, get_or-take}
 use Rattle.std.proofs.lemmas.List.Edits.{length-between, get_or-between}
-use Rattle.std.proofs.lemmas.List.FromFn.{get_or-map-range_with_len, length-map-range_with_len, length-range_with_len, get_or-range_with_len}
-use Rattle.std.proofs.lemmas.Nat.{div-add-mod', mod_below, div-mul-add, mod-mul-add}
+use Rattle.std.proofs.lemmas.List.FromFn.{get_or-map-range_with_len, length-map-range_with_len}
+use Rattle.std.proofs.lemmas.Nat.{div-add-mod', mod_below}
 use Rattle.ice_map.specs.declared.codec.Inode.{Inode}
 use Rattle.ice_map.specs.Inodes.{inode_of}
-use Rattle.ice_map.specs.Maps.{nth_block, blocks_of}
+use Rattle.ice_map.specs.Maps.{nth_block}
 use Rattle.ice_map.proofs.ListLaws.{map_range_same, range-append}
 use Rattle.ice_file.specs.Own.{own, own_of, file_bytes, map_length, blocks_for}
 use Rattle.ice_file.specs.Files.{byte_of, bytes_from}

@@ -1,12 +1,12 @@
 -- What a map may still cost.
-use Rattle.std.proofs.Common.{◌≡◌, ◌≢◌, ◌≤◌, ◌<◌, ◌+◌, ◌==◌, max, ℕ, Bool, true, false, cond, List, [], ◌∷◌, ◌∙◌, sym, refl, ap, arith, ltb, leb}
+use Rattle.std.proofs.Common.{◌≡◌, ◌≢◌, ◌≤◌, ◌<◌, ◌+◌, ◌==◌, ℕ, Bool, true, false, cond, [], ◌∷◌, ◌∙◌, sym, refl, ap, arith, ltb}
 use Rattle.std.proofs.lemmas.Bool.Decides.{nat_tests}
-use Rattle.ice_base.specs.Lots.{LotView, sub_address}
+use Rattle.ice_base.specs.Lots.{sub_address}
 use Rattle.ice_base.specs.Spare.{has, lacks, Pays}
 use Rattle.ice_base.specs.Used.{bitmap_of}
 use Rattle.ice_base.proofs.SpareLaws.{lacks-grows, lacks_few}
 use Rattle.ice_map.specs.Maps.{growth_puts}
-use Rattle.ice_map.proofs.ListLaws.{AllHas, where_elim, has-cons, has-head, has-tail}
+use Rattle.ice_map.proofs.ListLaws.{AllHas, where_elim}
 use Rattle.ice_map.proofs.GrowLaws.{puts-direct, puts-first, puts-single}
 use Rattle.ice_file.specs.Writes.{due}
 

@@ -3,3 +3,7 @@ pub mod OwnLaws
 pub mod MoveLaws
 pub mod DueLaws
 pub mod PieceLaws
+pub mod WriteLaws
+pub mod SetLaws
+pub mod CutLaws
+pub mod FileLaws

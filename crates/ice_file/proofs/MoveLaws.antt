@@ -1,6 +1,5 @@
 -- Maps of blocks that move under a growth, or under a put of one of their blocks.
-use Rattle.std.proofs.Common.{◌≡◌, ◌≢◌, ◌≤◌, ◌<◌, ◌⊎◌, ◌+◌, ◌-◌, ◌*◌, ◌%◌, ◌==◌, max, ℕ, Bool, true, false, cond, List, [], ◌∷◌, ◌++◌, map, length, slice_index, slice_set, get_or-set_other, ◌∙◌, sym, refl, ap, subst, arith, ltb}
-use Rattle.std.specs.List.{range_with_len}
+use Rattle.std.proofs.Common.{◌≡◌, ◌≢◌, ◌≤◌, ◌<◌, ◌+◌, ◌-◌, ◌*◌, ◌%◌, ◌==◌, max, ℕ, true, false, cond, List, [], ◌∷◌, ◌++◌, length, slice_index, slice_set, get_or-set_other, ◌∙◌, sym, refl, ap, subst, arith, ltb}
 use Rattle.std.proofs.lemmas.Bool.Decides.{nat_tests}
 use Rattle.std.proofs.lemmas.List.{get_or_append_left, get_or-append_right}
 use Rattle.std.proofs.lemmas.List.FromFn.{get_or-map-range_with_len, length-map-range_with_len}
@@ -9,14 +8,14 @@ use Rattle.ice_base.specs.Inodes.{inode_address}
 use Rattle.ice_base.specs.Spare.{has}
 use Rattle.ice_base.specs.Used.{used_block, is_data}
 use Rattle.ice_map.specs.declared.codec.Inode.{Inode}
-use Rattle.ice_map.specs.Inodes.{inode_at, inode_of}
+use Rattle.ice_map.specs.Inodes.{inode_at}
 use Rattle.ice_map.specs.Maps.{nth_block, blocks_of, indirect_of, uses, times, growth, widened, leads, Stays, Grown}
-use Rattle.ice_map.proofs.ListLaws.{times-append, has-append, has-one, has-none, has-cons, has-head, has-right, has-range, has-times, has-not, map_range_same}
+use Rattle.ice_map.proofs.ListLaws.{times-append, has-append, has-one, has-none, has-cons, has-times, map_range_same}
 use Rattle.ice_map.proofs.MapLaws.{nth-direct, leads-direct, leads-single}
 use Rattle.ice_map.proofs.MarkLaws.{data_not_bitmap, data_not_sub, used-same}
 use Rattle.ice_map.proofs.GrowLaws.{inode_not_data}
 use Rattle.ice_file.specs.Own.{MarksFollow, MadeOf, NoneUnused, Holds}
-use Rattle.ice_file.specs.Writes.{Moved, Reached, uses_of, content_of}
+use Rattle.ice_file.specs.Writes.{Moved, Reached, content_of}
 use Rattle.ice_file.proofs.OwnLaws.{times-one, times-none, times-has, marks-refl, marks-then, marks-same, marks-grow, indirect-none, indirect-one, length-uses, uses-nth, uses-single, single-apart, nth-apart, nth-moves, stays-then}
 
 -- one move after another

@@ -1,5 +1,5 @@
 -- Marks that follow what an inode uses, and well-made maps.
-use Rattle.std.proofs.Common.{◌≡◌, ◌≢◌, ◌≤◌, ◌<◌, ◌⊎◌, ◌+◌, ◌-◌, ◌*◌, ◌==◌, ℕ, zero, suc, Bool, true, false, cond, List, [], ◌∷◌, ◌++◌, map, length, slice_index, length-append, ◌∙◌, sym, refl, ap, arith, ltb}
+use Rattle.std.proofs.Common.{◌≡◌, ◌≢◌, ◌≤◌, ◌<◌, ◌+◌, ◌-◌, ◌*◌, ◌==◌, ℕ, Bool, true, false, cond, List, [], ◌∷◌, ◌++◌, map, length, slice_index, length-append, ◌∙◌, sym, refl, ap, arith, ltb}
 use Rattle.std.specs.List.{range_with_len}
 use Rattle.std.proofs.lemmas.Bool.Decides.{nat_tests}
 use Rattle.std.proofs.lemmas.List.FromFn.{length-map-range_with_len}
@@ -7,14 +7,13 @@ use Rattle.ice_base.specs.Bits.{bit_of}
 use Rattle.ice_base.specs.Fields.{word_at}
 use Rattle.ice_base.specs.Lots.{LotView, sub_address}
 use Rattle.ice_base.specs.Spare.{has}
-use Rattle.ice_base.specs.Used.{used_block, is_data, counted, free_count}
+use Rattle.ice_base.specs.Used.{used_block}
 use Rattle.ice_map.specs.declared.codec.Inode.{Inode}
-use Rattle.ice_map.specs.Inodes.{inode_of}
 use Rattle.ice_map.specs.Maps.{nth_block, blocks_of, indirect_of, uses, times, Marked, Stays}
-use Rattle.ice_map.proofs.ListLaws.{times-append, has-append, has-one, has-none, has-cons, has-head, has-left, has-right, has-range, has-times, range-append, map_range_same}
+use Rattle.ice_map.proofs.ListLaws.{times-append, has-cons, has-head, has-left, has-right, has-range, has-times, range-append}
 use Rattle.ice_map.proofs.MapLaws.{nth-direct, nth-single}
 use Rattle.ice_map.proofs.MarkLaws.{used-same, free-same}
-use Rattle.ice_file.specs.Own.{mark, MarksFollow, MadeOf, NoneUnused, Holds, Apart}
+use Rattle.ice_file.specs.Own.{mark, MarksFollow}
 use Rattle.ice_file.specs.Writes.{uses_of}
 
 times-cons : (a b : ℕ) (xs : List ℕ) → times (a ∷ xs) b ≡ cond (a == b) 1 0 + times xs b

@@ -1,5 +1,5 @@
 -- Files as byte strings.
-use Rattle.std.specs.Prelude.{◌≡◌, ◌≤◌, ◌<◌, ℕ, ◌+◌, ◌-◌, ◌*◌, ◌/◌, ◌%◌, List, map, slice_index}
+use Rattle.std.specs.Prelude.{◌≡◌, ◌≤◌, ℕ, ◌+◌, ◌/◌, ◌%◌, ◌++◌, List, map, length, take, drop, slice_index}
 use Rattle.std.specs.List.{range_with_len}
 use Rattle.ice_base.specs.Lots.{LotView}
 use Rattle.ice_base.specs.declared.fault.OpFault.{OpFault}
@@ -23,6 +23,10 @@ pub record ReachesTo (at : ℕ) (inode : Inode) : Type 0 where
   pub kind : inode.kind ≡ 1
   pub small : inode.size ≤ longest_file
   pub reaches : at ≤ inode.size
+
+-- bytes in place of those from `at` on, and past the end where there are more
+abbrev pub overwritten : List ℕ → ℕ → List ℕ → List ℕ
+overwritten old at bytes = take at old ++ bytes ++ drop (at + length bytes) old
 
 -- A file's bytes were set: its map is well made, the marks follow what it uses, and every other inode is as it was and says what it said.
 pub record FileSet (lot : LotView) (entry : ℕ) (old new : ℕ → List ℕ) (number : ℕ) (now : List ℕ) : Type 0 where

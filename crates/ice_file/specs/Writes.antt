@@ -1,10 +1,10 @@
 -- How a map of a file's blocks moves under a write.
-use Rattle.std.specs.Prelude.{◌≡◌, ◌≢◌, ◌≤◌, ◌<◌, ◌⊎◌, ℕ, ◌+◌, ◌-◌, ◌*◌, Bool, cond, nat_le, nat_lt, max, List, [], ◌∷◌, length, slice_index}
+use Rattle.std.specs.Prelude.{◌≡◌, ◌≢◌, ◌≤◌, ◌<◌, ◌⊎◌, ℕ, ◌+◌, ◌-◌, ◌*◌, Bool, cond, nat_le, nat_lt, min, max, List, [], ◌∷◌, length, slice_index}
 use Rattle.ice_base.specs.Lots.{LotView, sub_address}
 use Rattle.ice_base.specs.Spare.{lacks}
 use Rattle.ice_map.specs.declared.codec.Inode.{Inode}
 use Rattle.ice_map.specs.Maps.{nth_block, uses, Stays}
-use Rattle.ice_file.specs.Own.{MadeOf, MarksFollow}
+use Rattle.ice_file.specs.Own.{blocks_for, MadeOf, MarksFollow}
 use Rattle.ice_file.specs.Files.{byte_of}
 
 -- what block n of a map holds
@@ -37,6 +37,14 @@ pub record Written (lot : LotView) (m0 m1 : ℕ → List ℕ) (x y : Inode) (c d
   pub moved : Moved lot m0 m1 x y c d
   pub new : (i : ℕ) → at ≤ i → i < done → byte_of m1 y i ≡ slice_index bytes (i - at)
   pub old : (i : ℕ) → i < 1024 * c → (i < at) ⊎ (done ≤ i) → byte_of m1 y i ≡ byte_of m0 x i
+
+-- up to where the bytes from `at` to `end` lie before block k
+abbrev pub up_to : ℕ → ℕ → ℕ → ℕ
+up_to at end k = min end (max at (1024 * k))
+
+-- how many blocks a file of this size has when bytes up to `done` were put into it
+abbrev pub blocks_with : ℕ → ℕ → ℕ
+blocks_with size done = blocks_for (max size done)
 
 -- how many blocks a map of c blocks uses
 abbrev pub uses_of : ℕ → ℕ

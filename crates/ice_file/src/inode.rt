@@ -1,18 +1,29 @@
 //! The inode of a file.
-ghost use Rattle.std.specs.Prelude.{◌≡◌, ◌<◌, ◌*◌, true, OnOk, IfOk, IfErr, IsErrOf, length};
+ghost use Rattle.std.specs.Prelude.{◌≡◌, ◌≤◌, ◌<◌, ◌*◌, true, OnOk, IfOk, IfErr, IsErrOf, length};
 ghost use Rattle.ice_base.specs.Disk.{Rose};
 ghost use Rattle.ice_base.specs.Lots.{is_sited};
 ghost use Rattle.ice_base.specs.Views.{Looked};
 ghost use Rattle.ice_base.specs.declared.fault.OpFault.TheVariants.{Disk as FaultDisk, Damaged};
 ghost use Rattle.ice_base.specs.declared.fault.Rule.TheVariants.{Kind};
 ghost use Rattle.ice_map.specs.Inodes.{inode_of};
-ghost use Rattle.ice_file.specs.Files.{ReachesTo, IsKindFault};
+ghost use Rattle.ice_map.specs.Maps.{longest};
+ghost use Rattle.ice_file.specs.Files.{longest_file, ReachesTo, IsKindFault};
+ghost use Rattle.ice_file.specs.Own.{blocks_for};
 
 use ice_base::{Disk, Form, Lot, OpFault, Rule, View};
 use ice_map::{Inode, get_inode};
 
 /// The most bytes of a file.
 pub const LONGEST_FILE: u32 = 274_432;
+
+/// How many blocks hold this many bytes.
+pub fn map_length(bytes: u32) -> u32
+    requires { bytes ≤ longest_file }
+    ensures value { result ≡ blocks_for bytes }
+    ensures few { result ≤ longest }
+{
+    bytes.div_ceil(1024)
+}
 
 /// The inode of a file of at least `at` bytes. Damaged: it is none.
 pub fn file_inode<D: Disk, V: View<D>, F: Form>(

@@ -1,8 +1,12 @@
 //! Files as byte strings.
 #![tactic(auto)]
 
+mod cuts;
 mod inode;
 mod pieces;
 mod reads;
+mod writes;
 
+pub use cuts::cut_to;
 pub use reads::read_at;
+pub use writes::write_at;

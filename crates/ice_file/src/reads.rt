@@ -9,7 +9,7 @@ ghost use Rattle.ice_map.specs.Faults.{IsLookFault};
 ghost use Rattle.ice_map.specs.Inodes.{inode_of};
 ghost use Rattle.ice_map.specs.Maps.{leads};
 ghost use Rattle.ice_file.specs.Files.{longest_file, most_at_once, ReachesTo, bytes_from, IsReadFault};
-ghost use Rattle.ice_file.specs.Own.{own, file_bytes};
+ghost use Rattle.ice_file.specs.Own.{own, file_bytes, WellMade};
 
 use crate::inode::file_inode;
 use ice_base::{Disk, Form, Lot, OpFault, View, fetch};
@@ -73,6 +73,7 @@ pub fn read_at<D: Disk, V: View<D>, F: Form>(
     ensures reaches { V.shows lot.now view.old disk.old → OnOk result (ReachesTo at (inode_of (V.map view.old disk.old lot.now) number)) }
     ensures kind { IsErrOf result (Damaged Kind) → V.shows lot.now view.old disk.old → ¬ ReachesTo at (inode_of (V.map view.old disk.old lot.now) number) }
     ensures pointer { IsErrOf result (Damaged Pointer) → V.shows lot.now view.old disk.old → (k : ℕ) × (1024 * k < (inode_of (V.map view.old disk.old lot.now) number).size) × (leads lot.now (V.map view.old disk.old lot.now) (inode_of (V.map view.old disk.old lot.now) number) k ≡ false) }
+    ensures unmade { IsErrOf result (Damaged Pointer) → V.shows lot.now view.old disk.old → ¬ WellMade lot.now F.ENTRY (V.map view.old disk.old lot.now) number }
     ensures looked { Looked D.Disk V.View lot.now view.old disk.old view.new disk.new }
     ensures faults { IfErr result IsReadFault }
     ensures failed { IsErrOf result FaultDisk → Rose (D.state disk.old).faults (D.state disk.new).faults }

@@ -1,7 +1,6 @@
-use Rattle.std.proofs.Common.{rules, ◌≡◌, ◌≢◌, ◌≤◌, ◌<◌, ◌+◌, ◌==◌, max, ℕ, true, false, ◌∙◌, sym, ap, arith}
+use Rattle.std.proofs.Common.{◌+◌, max, arith}
 use Rattle.std.proofs.lemmas.Bool.Decides.{nat_tests}
 use Rattle.ice_base.proofs.LotLaws.{sited-few}
-use Rattle.ice_file.specs.Writes.{due}
 use Rattle.ice_file.proofs.DueLaws.{due-less}
 use Rattle.ice_file.proofs.PieceLaws.{piece-put}
 use Rattle.ice_file.proofs.pieces.put_piece.Goals as goal

@@ -1,5 +1,4 @@
-use Rattle.std.proofs.Common.{rules, ◌≡◌, ◌≢◌, ◌≤◌, ◌<◌, ◌+◌, max, ℕ, true, false, ◌∙◌, sym, ap, subst, arith}
-use Rattle.ice_map.specs.Maps.{leads}
+use Rattle.std.proofs.Common.{rules, ◌≡◌, ◌+◌, max, ℕ, sym, ap, subst, arith}
 use Rattle.ice_file.specs.Writes.{due, Reached}
 use Rattle.ice_file.proofs.DueLaws.{due-grow, due-same}
 use Rattle.ice_file.proofs.MoveLaws.{grown-reached, had-reached, made-leads, made-single, widened-single}

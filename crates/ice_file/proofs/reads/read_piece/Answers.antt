@@ -1,5 +1,4 @@
-use Rattle.std.proofs.Common.{◌≡◌, ◌+◌, ◌/◌, ◌++◌, List, ℕ, ap, ◌∙◌, sym, refl, arith}
-use Rattle.ice_map.specs.Maps.{nth_block}
+use Rattle.std.proofs.Common.{◌++◌, List, ℕ, ap, ◌∙◌, refl, arith}
 use Rattle.ice_file.proofs.ByteLaws.{piece}
 use Rattle.ice_file.proofs.reads.read_piece.Goals as goal
 

@@ -1,0 +1,71 @@
+-- Whole writes and whole cuts of files.
+use Rattle.std.proofs.Common.{◌≡◌, ◌≢◌, ◌≤◌, ◌<◌, ◌+◌, ◌*◌, max, ℕ, false, List, [], length, take, ◌∙◌, sym, refl, ap, subst, arith}
+use Rattle.std.proofs.lemmas.Nat.{div-add-mod', mod_below}
+use Rattle.ice_base.specs.Lots.{LotView}
+use Rattle.ice_base.specs.Inodes.{inode_address}
+use Rattle.ice_map.specs.declared.codec.Inode.{Inode}
+use Rattle.ice_map.specs.Inodes.{inode_of, InodeSet}
+use Rattle.ice_map.specs.Maps.{leads, cut_off, shortened, Stays, Cut, OwnsOnce}
+use Rattle.ice_file.specs.Own.{own, file_bytes, map_length, blocks_for, MadeOf, WellMade}
+use Rattle.ice_file.specs.Files.{overwritten, ReachesTo, FileSet}
+use Rattle.ice_file.specs.Writes.{Written, blocks_with, uses_of}
+use Rattle.ice_file.proofs.ByteLaws.{file_length}
+use Rattle.ice_file.proofs.CutLaws.{cut-moved, cut-contents, cut-once, cut-few}
+use Rattle.ice_file.proofs.MoveLaws.{made-leads}
+use Rattle.ice_file.proofs.SetLaws.{resized, file-written, file-cut}
+use Rattle.ice_file.proofs.WriteLaws.{count-less}
+
+-- the map of a file is well made
+pub made-file : (lot : LotView) (m m0 : ℕ → List ℕ) (x : Inode) (entry number : ℕ) → m0 ≡ m → x ≡ inode_of m number → x.kind ≡ 1 → WellMade lot entry m number → MadeOf lot m0 x (blocks_for x.size)
+made-file lot m m0 x entry number e is kind made =
+    subst (λ (n : ℕ → List ℕ). MadeOf lot n x (blocks_for x.size)) (sym e)
+    (subst (λ c. MadeOf lot m x c) (file_length entry x kind) (subst (λ (i : Inode). MadeOf lot m i (map_length entry i)) (sym is) made))
+
+pub write-all : (lot : LotView) (m m0 m1 m2 : ℕ → List ℕ) (x y : Inode) (entry number at s : ℕ) (bytes : List ℕ) → m0 ≡ m → x ≡ inode_of m number → ReachesTo at x
+    → Written lot m0 m1 x y (blocks_for x.size) (blocks_with x.size (at + length bytes)) at (at + length bytes) bytes
+    → s ≡ max y.size (at + length bytes) → InodeSet m1 m2 number (resized y s) → ((b : ℕ) → b ≢ inode_address number → m2 b ≡ m1 b)
+    → FileSet lot entry m m2 number (overwritten (file_bytes (own entry m number)) at bytes)
+write-all lot m m0 m1 m2 x y entry number at s bytes e is r w long set only =
+    file-written lot m m1 m2 x y entry number at bytes (sym is) r.kind r.reaches
+    (subst (λ (n : ℕ → List ℕ). Written lot n m1 x y (blocks_for x.size) (blocks_with x.size (at + length bytes)) at (at + length bytes) bytes) e w)
+    (subst (λ n. InodeSet m1 m2 number (resized y n)) (long ∙ ap (λ n. max n (at + length bytes)) w.moved.size) set) only
+
+pub cut-all : (lot : LotView) (m m0 m1 m2 : ℕ → List ℕ) (x y : Inode) (entry number len count rest : ℕ) → m0 ≡ m → x ≡ inode_of m number → ReachesTo len x → count ≡ blocks_for x.size → rest ≡ blocks_for len
+    → Cut lot m0 m1 x y count rest → Stays lot m0 m1 [] → y ≡ shortened x rest
+    → InodeSet m1 m2 number (resized y len) → ((b : ℕ) → b ≢ inode_address number → m2 b ≡ m1 b) → WellMade lot entry m number
+    → FileSet lot entry m m2 number (take len (file_bytes (own entry m number)))
+cut-all lot m m0 m1 m2 x y entry number len count rest e is r n o was stay fields set only made =
+    let order = count-less len x.size r.reaches in
+    let was' = subst (λ (z : ℕ → List ℕ). Cut lot z m1 x y (blocks_for x.size) (blocks_for len)) e (subst (λ k. Cut lot m0 m1 x y (blocks_for x.size) k) o (subst (λ k. Cut lot m0 m1 x y k rest) n was)) in
+    let stay' = subst (λ (z : ℕ → List ℕ). Stays lot z m1 []) e stay in
+    let fields' = fields ∙ ap (shortened x) o in
+    let made' = made-file lot m m x entry number refl is r.kind made in
+    file-cut lot m m1 m2 x y entry number len (sym is) r.kind r.reaches
+    (cut-moved lot m m1 x y (blocks_for x.size) (blocks_for len) made' order was' stay' fields')
+    (cut-contents lot m m1 x y (blocks_for x.size) (blocks_for len) made' order was' stay' fields') set only
+
+-- what a cut gives back is used, and none of it twice
+pub cut-owns : (lot : LotView) (m m0 : ℕ → List ℕ) (x : Inode) (entry number len count rest : ℕ) → m0 ≡ m → x ≡ inode_of m number → ReachesTo len x → count ≡ blocks_for x.size → rest ≡ blocks_for len
+    → WellMade lot entry m number → OwnsOnce m0 (cut_off m0 x count rest)
+cut-owns lot m m0 x entry number len count rest e is r n o made =
+    let order = count-less len x.size r.reaches in
+    let once = cut-once lot m0 x (blocks_for x.size) (blocks_for len) order (made-file lot m m0 x entry number e is r.kind made) in
+    subst (λ k. OwnsOnce m0 (cut_off m0 x count k)) (sym o) (subst (λ k. OwnsOnce m0 (cut_off m0 x k (blocks_for len))) (sym n) once)
+
+-- and not more than the map uses
+pub cut-most : (m m0 : ℕ → List ℕ) (x : Inode) (number len count rest : ℕ) → x ≡ inode_of m number → ReachesTo len x → count ≡ blocks_for x.size → rest ≡ blocks_for len
+    → length (cut_off m0 x count rest) ≤ uses_of (blocks_for (inode_of m number).size)
+cut-most m m0 x number len count rest is r n o =
+    let order = count-less len x.size r.reaches in
+    let l = cut-few m0 x count rest (omega arith) in
+    let s = ap (λ (i : Inode). uses_of (blocks_for i.size)) is in
+    let t = ap uses_of n in
+    omega arith
+
+-- a block of a well-made map that leads nowhere
+pub unmade : (lot : LotView) (m m0 : ℕ → List ℕ) (x : Inode) (entry number at k end : ℕ) → m0 ≡ m → x ≡ inode_of m number → ReachesTo at x → 1024 * k < end → end ≤ x.size → leads lot m0 x k ≡ false → ¬ WellMade lot entry m number
+unmade lot m m0 x entry number at k end e is r small short lost made =
+    let q = div-add-mod' (x.size + 1023) 1024 in
+    let d = mod_below (x.size + 1023) 1024 (omega arith) in
+    let l = made-leads lot m0 x (blocks_for x.size) k (made-file lot m m0 x entry number e is r.kind made) (omega arith) in
+    absurd cc

@@ -1,0 +1,42 @@
+use Rattle.std.proofs.Common.{rules, ◌≤◌, ℕ, arith}
+use Rattle.std.proofs.lemmas.Bool.Decides.{nat_tests}
+use Rattle.ice_map.proofs.PutsLaws.{spent-after, spent-then}
+use Rattle.ice_map.specs.Maps.{cut_room}
+use Rattle.ice_file.proofs.FileLaws.{cut-all, cut-owns, cut-most}
+use Rattle.ice_file.proofs.cuts.cut_to.Goals as goal
+
+pub returns-in_err-cut-clause-zero : goal.returns-in_err-cut-clause-zero
+returns-in_err-cut-clause-zero g c = λ e s.
+    let z = c.in_err-cut.ensures.zero (search rules) (c.file_inode.ensures.looked.shows s) in
+    let m = c.file_inode.ensures.looked.map in
+    let l = cut-most (g.K.View.map c.args.keep.now c.args.disk.now c.args.lot.now) (g.K.View.map c.file_inode.new.view c.file_inode.new.disk c.args.lot.now) c.in_ok-inode.inode c.args.number c.args.len c.map_length-count.result c.map_length-rest.result
+    (c.in_ok-inode.ensures.value s) c.in_ok-inode.ensures.reaches (omega arith) (omega arith) in
+    grind arith
+
+pub returns-in_err-cut-clause-unused : goal.returns-in_err-cut-clause-unused
+returns-in_err-cut-clause-unused g c = λ e s made.
+    c.in_err-cut.ensures.unused (search rules) (c.file_inode.ensures.looked.shows s)
+    (cut-owns c.args.lot.now (g.K.View.map c.args.keep.now c.args.disk.now c.args.lot.now) (g.K.View.map c.file_inode.new.view c.file_inode.new.disk c.args.lot.now) c.in_ok-inode.inode g.F.Form.ENTRY c.args.number c.args.len c.map_length-count.result c.map_length-rest.result
+    c.file_inode.ensures.looked.map (c.in_ok-inode.ensures.value s) c.in_ok-inode.ensures.reaches (omega arith) (omega arith) made)
+
+few-cut : (count rest : ℕ) → cut_room count rest ≤ 66
+few-cut count rest = grind (arith, nat_tests)
+
+pub returns-in_err-put_inode-clause-spent : goal.returns-in_err-put_inode-clause-spent
+returns-in_err-put_inode-clause-spent g c =
+    let few = few-cut c.map_length-count.result c.map_length-rest.result in
+    spent-after g.D.Disk g.K.View c.args.lot.now 72 _ _ _ _ _ _ c.file_inode.ensures.looked
+    (spent-then g.D.Disk g.K.View c.args.lot.now _ 1 72 _ _ _ _ _ _ c.cut.ensures.spent c.put_inode.ensures.spent (omega arith))
+
+pub returns-clause-spent : goal.returns-clause-spent
+returns-clause-spent g c =
+    let few = few-cut c.map_length-count.result c.map_length-rest.result in
+    spent-after g.D.Disk g.K.View c.args.lot.now 72 _ _ _ _ _ _ c.file_inode.ensures.looked
+    (spent-then g.D.Disk g.K.View c.args.lot.now _ 1 72 _ _ _ _ _ _ c.cut.ensures.spent c.put_inode.ensures.spent (omega arith))
+
+pub returns-clause-cut : goal.returns-clause-cut
+returns-clause-cut g c = λ s made.
+    let t = c.file_inode.ensures.looked.shows s in
+    cut-all c.args.lot.now (g.K.View.map c.args.keep.now c.args.disk.now c.args.lot.now) (g.K.View.map c.file_inode.new.view c.file_inode.new.disk c.args.lot.now) (g.K.View.map c.cut.new.keep c.cut.new.disk c.args.lot.now) (g.K.View.map c.put_inode.new.keep c.put_inode.new.disk c.args.lot.now)
+    c.in_ok-inode.inode c.cut.new.inode g.F.Form.ENTRY c.args.number c.args.len c.map_length-count.result c.map_length-rest.result c.file_inode.ensures.looked.map (c.in_ok-inode.ensures.value s) c.in_ok-inode.ensures.reaches (omega arith) (omega arith)
+    (c.in_ok-cut.ensures.cut t) c.cut.ensures.stays c.in_ok-cut.ensures.fields (c.in_ok-put_inode.ensures.written (c.cut.ensures.spent.shows t)) c.in_ok-put_inode.ensures.puts.only made

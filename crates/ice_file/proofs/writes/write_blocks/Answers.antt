@@ -1,0 +1,77 @@
+use Rattle.std.proofs.Common.{rules, ◌+◌, max, ℕ, length, ◌∙◌, sym, ap, subst, refl, arith}
+use Rattle.ice_map.proofs.PutsLaws.{spent-then, spent-by}
+use Rattle.ice_file.specs.Own.{MadeOf, blocks_for}
+use Rattle.ice_file.specs.Writes.{Written, due, up_to}
+use Rattle.ice_file.proofs.DueLaws.{due-most}
+use Rattle.ice_file.proofs.WriteLaws.{written-step, count-now, count-next, few-pieces, none-step, full-step, reserved-moved}
+use Rattle.ice_file.proofs.writes.write_blocks.Goals as goal
+
+pub put_piece-requires-clause-room : goal.put_piece-requires-clause-room
+put_piece-requires-clause-room g c =
+    let p = c.loop-k.invariant.pays in
+    let d = due-most (g.K.View.held c.args.keep.now) c.args.inode.now.single (blocks_for c.args.inode.now.size) in
+    let n = few-pieces c.args.at (c.args.at + length c.args.bytes.now) c.loop-k.k (omega arith) (omega arith) in
+    omega arith
+
+pub returns-in_err-put_piece-clause-spent : goal.returns-in_err-put_piece-clause-spent
+returns-in_err-put_piece-clause-spent g c =
+    let p = c.loop-k.invariant.pays in
+    let d = due-most (g.K.View.held c.args.keep.now) c.args.inode.now.single (blocks_for c.args.inode.now.size) in
+    let n = few-pieces c.args.at (c.args.at + length c.args.bytes.now) c.loop-k.k (omega arith) (omega arith) in
+    let r = c.put_piece.ensures.spent.room in
+    spent-by g.D.Disk g.K.View c.args.lot.now 51 44 _ _ _ _ (spent-then g.D.Disk g.K.View c.args.lot.now 44 7 51 _ _ _ _ _ _ c.loop-k.invariant.spent c.put_piece.ensures.spent (omega arith)) (omega arith)
+
+pub returns-in_err-put_piece-clause-none : goal.returns-in_err-put_piece-clause-none
+returns-in_err-put_piece-clause-none g c = λ e s made.
+    let w = c.loop-k.invariant.written s made in
+    let p = c.in_err-put_piece.ensures.none (search rules) (c.loop-k.invariant.spent.shows s) in
+    let n = count-now c.args.inode.now.size c.args.at (c.args.at + length c.args.bytes.now) c.loop-k.k c.max-from.result c.map_length-count.result (omega arith) (omega arith) (omega arith) (omega arith) in
+    none-step c.args.lot.now (g.K.View.map c.args.keep.now c.args.disk.now c.args.lot.now) (g.K.View.map c.loop-k.keep c.loop-k.disk c.args.lot.now) c.args.inode.now c.loop-k.inode c.args.inode.now.size c.args.at (c.args.at + length c.args.bytes.now) c.loop-k.k c.map_length-count.result c.args.bytes.now
+    (subst (λ d. Written c.args.lot.now (g.K.View.map c.args.keep.now c.args.disk.now c.args.lot.now) (g.K.View.map c.loop-k.keep c.loop-k.disk c.args.lot.now) c.args.inode.now c.loop-k.inode (blocks_for c.args.inode.now.size) d c.args.at (up_to c.args.at (c.args.at + length c.args.bytes.now) c.loop-k.k) c.args.bytes.now) n w)
+    p.0 (omega arith) p.1
+
+pub returns-in_err-put_piece-clause-full : goal.returns-in_err-put_piece-clause-full
+returns-in_err-put_piece-clause-full g c = λ e s made h.
+    let w = c.loop-k.invariant.written s made in
+    let p = c.in_err-put_piece.ensures.full (search rules) (c.loop-k.invariant.spent.shows s) in
+    let n = count-now c.args.inode.now.size c.args.at (c.args.at + length c.args.bytes.now) c.loop-k.k c.max-from.result c.map_length-count.result (omega arith) (omega arith) (omega arith) (omega arith) in
+    full-step c.args.lot.now (g.K.View.map c.args.keep.now c.args.disk.now c.args.lot.now) (g.K.View.map c.loop-k.keep c.loop-k.disk c.args.lot.now) c.args.inode.now c.loop-k.inode c.args.inode.now.size c.args.at (c.args.at + length c.args.bytes.now) c.loop-k.k c.map_length-count.result c.args.bytes.now
+    (subst (λ d. Written c.args.lot.now (g.K.View.map c.args.keep.now c.args.disk.now c.args.lot.now) (g.K.View.map c.loop-k.keep c.loop-k.disk c.args.lot.now) c.args.inode.now c.loop-k.inode (blocks_for c.args.inode.now.size) d c.args.at (up_to c.args.at (c.args.at + length c.args.bytes.now) c.loop-k.k) c.args.bytes.now) n w)
+    p.0 (omega arith) h p.1
+
+pub returns-in_err-put_piece-clause-unreserved : goal.returns-in_err-put_piece-clause-unreserved
+returns-in_err-put_piece-clause-unreserved g c = λ e s made r.
+    let w = c.loop-k.invariant.written s made in
+    c.in_err-put_piece.ensures.unreserved (search rules) (c.loop-k.invariant.spent.shows s)
+    (reserved-moved c.args.lot.now (g.K.View.map c.args.keep.now c.args.disk.now c.args.lot.now) (g.K.View.map c.loop-k.keep c.loop-k.disk c.args.lot.now) c.args.inode.now c.loop-k.inode _ _ made w.moved r)
+
+pub returns-in_err-put_piece-clause-pointer : goal.returns-in_err-put_piece-clause-pointer
+returns-in_err-put_piece-clause-pointer g c = λ e s made.
+    let w = c.loop-k.invariant.written s made in
+    let n = count-now c.args.inode.now.size c.args.at (c.args.at + length c.args.bytes.now) c.loop-k.k c.max-from.result c.map_length-count.result (omega arith) (omega arith) (omega arith) (omega arith) in
+    c.in_err-put_piece.ensures.pointer (search rules) (c.loop-k.invariant.spent.shows s)
+    (subst (λ d. MadeOf c.args.lot.now (g.K.View.map c.loop-k.keep c.loop-k.disk c.args.lot.now) c.loop-k.inode d) n w.moved.made)
+
+pub loop-k-preserved : goal.loop-k-preserved
+loop-k-preserved g c =
+    let p = c.loop-k.invariant.pays in
+    let q = c.in_ok-put_piece.ensures.pays in
+    let r = c.put_piece.ensures.spent.room in
+    let end : ℕ = c.args.at + length c.args.bytes.now in
+    let size : ℕ = c.args.inode.now.size in
+    let d = due-most (g.K.View.held c.args.keep.now) c.args.inode.now.single (blocks_for c.args.inode.now.size) in
+    let few = few-pieces c.args.at (c.args.at + length c.args.bytes.now) c.loop-k.k (omega arith) (omega arith) in
+    let n = count-now c.args.inode.now.size c.args.at (c.args.at + length c.args.bytes.now) c.loop-k.k c.max-from.result c.map_length-count.result (omega arith) (omega arith) (omega arith) (omega arith) in
+    let m = count-next c.args.inode.now.size c.args.at (c.args.at + length c.args.bytes.now) c.loop-k.k (omega arith) (omega arith) (omega arith) in
+    let before = ap (due (g.K.View.held c.loop-k.keep) c.loop-k.inode.single) n in
+    let after = ap (due (g.K.View.held c.put_piece.new.keep) c.put_piece.new.inode.single) (ap (λ x. max x (c.loop-k.k + 1)) (sym n) ∙ m) in
+    record {
+      spent = spent-by g.D.Disk g.K.View c.args.lot.now 51 44 _ _ _ _ (spent-then g.D.Disk g.K.View c.args.lot.now 44 7 51 _ _ _ _ _ _ c.loop-k.invariant.spent c.put_piece.ensures.spent (omega arith)) (omega arith);
+      pays = omega arith;
+      written = λ s made.
+          let w = c.loop-k.invariant.written s made in
+          let made' = subst (λ d. MadeOf c.args.lot.now (g.K.View.map c.loop-k.keep c.loop-k.disk c.args.lot.now) c.loop-k.inode d) n w.moved.made in
+          written-step c.args.lot.now (g.K.View.map c.args.keep.now c.args.disk.now c.args.lot.now) (g.K.View.map c.loop-k.keep c.loop-k.disk c.args.lot.now) (g.K.View.map c.put_piece.new.keep c.put_piece.new.disk c.args.lot.now)
+          c.args.inode.now c.loop-k.inode c.put_piece.new.inode c.args.inode.now.size c.args.at (c.args.at + length c.args.bytes.now) c.loop-k.k c.max-from.result c.min-to.result c.map_length-count.result c.args.bytes.now _
+          w (omega arith) (omega arith) (omega arith) refl refl (omega arith) (omega arith) (c.in_ok-put_piece.ensures.put (c.loop-k.invariant.spent.shows s) made');
+    }

@@ -1,0 +1,49 @@
+//! Cuts of files.
+ghost use Rattle.std.specs.Prelude.{◌≡◌, ◌≤◌, ◌<◌, ◌*◌, true, false, OnOk, IfErr, IsErrOf, length, take};
+ghost use Rattle.ice_base.specs.Disk.{Rose};
+ghost use Rattle.ice_base.specs.Lots.{is_sited};
+ghost use Rattle.ice_base.specs.Used.{counted};
+ghost use Rattle.ice_base.specs.Views.{Looked, Spent};
+ghost use Rattle.ice_base.specs.declared.fault.OpFault.TheVariants.{Disk as FaultDisk, Damaged};
+ghost use Rattle.ice_base.specs.declared.fault.Rule.TheVariants.{Counts, Kind, Pointer, Bitmap};
+ghost use Rattle.ice_map.specs.Inodes.{inode_of};
+ghost use Rattle.ice_file.specs.Files.{longest_file, ReachesTo, FileSet, IsCutToFault};
+ghost use Rattle.ice_file.specs.Own.{own, file_bytes, blocks_for, WellMade};
+ghost use Rattle.ice_file.specs.Writes.{uses_of};
+
+use crate::inode::{file_inode, map_length};
+use ice_base::{Disk, Form, Keep, Lot, OpFault, Pool};
+use ice_map::{cut, put_inode};
+
+/// Keeps the first `len` bytes of a file, and gives back the blocks that hold none of them.
+/// After a fault some of them may have been given back. Damaged: the inode is no file of at least `len` bytes, or what a cut of its map says.
+pub fn cut_to<D: Disk, K: Keep<D>, P: Pool<D, K>, F: Form>(
+    keep: &mut K,
+    pool: &mut P,
+    disk: &mut D,
+    lot: &Lot,
+    number: u32,
+    len: u32,
+) -> Result<(), OpFault>
+    requires sited { is_sited lot.now (D.state disk.old).size ≡ true }
+    requires number { number < 64 * length lot.now.groups }
+    requires room { 72 ≤ K.room keep.old }
+    ensures cut { K.shows lot.now keep.old disk.old → WellMade lot.now F.ENTRY (K.map keep.old disk.old lot.now) number → OnOk result (FileSet lot.now F.ENTRY (K.map keep.old disk.old lot.now) (K.map keep.new disk.new lot.now) number (take len (file_bytes (own F.ENTRY (K.map keep.old disk.old lot.now) number)))) }
+    ensures reaches { K.shows lot.now keep.old disk.old → OnOk result (ReachesTo len (inode_of (K.map keep.old disk.old lot.now) number)) }
+    ensures spent { Spent D.Disk K.View lot.now 72 keep.old disk.old keep.new disk.new }
+    ensures kind { IsErrOf result (Damaged Kind) → K.shows lot.now keep.old disk.old → ¬ ReachesTo len (inode_of (K.map keep.old disk.old lot.now) number) }
+    ensures looked { IsErrOf result (Damaged Kind) → Looked D.Disk K.View lot.now keep.old disk.old keep.new disk.new }
+    ensures zero { IsErrOf result (Damaged Counts) → K.shows lot.now keep.old disk.old → counted false (K.map keep.old disk.old lot.now) < uses_of (blocks_for (inode_of (K.map keep.old disk.old lot.now) number).size) }
+    ensures unused { IsErrOf result (Damaged Bitmap) → K.shows lot.now keep.old disk.old → ¬ WellMade lot.now F.ENTRY (K.map keep.old disk.old lot.now) number }
+    ensures pointer { IsErrOf result (Damaged Pointer) → K.shows lot.now keep.old disk.old → ¬ WellMade lot.now F.ENTRY (K.map keep.old disk.old lot.now) number }
+    ensures faults { IfErr result IsCutToFault }
+    ensures failed { IsErrOf result FaultDisk → Rose (D.state disk.old).faults (D.state disk.new).faults }
+{
+    let mut inode = file_inode::<D, K, F>(keep, disk, lot, number, len)?;
+    let count = map_length(inode.size);
+    let rest = map_length(len);
+    cut::<D, K, P, F>(keep, pool, disk, lot, &mut inode, count, rest)?;
+    inode.size = len;
+    put_inode::<D, K, P, F>(keep, pool, disk, lot, number, &inode)?;
+    Ok(())
+}

@@ -1,0 +1,100 @@
+//! Writes to files.
+ghost use Rattle.std.specs.Prelude.{◌≡◌, ◌≤◌, ◌<◌, ◌+◌, ◌-◌, ◌*◌, ◌^◌, ◌++◌, max, ℕ, true, false, [], OnOk, IfOk, IfErr, IsErrOf, length, take, drop};
+ghost use Rattle.ice_base.specs.Disk.{Rose};
+ghost use Rattle.ice_base.specs.Lots.{is_sited};
+ghost use Rattle.ice_base.specs.Used.{counted, free_count, Reserved};
+ghost use Rattle.ice_base.specs.Views.{Looked, Spent};
+ghost use Rattle.ice_base.specs.declared.fault.OpFault.TheVariants.{Disk as FaultDisk, Damaged, NoSpace};
+ghost use Rattle.ice_base.specs.declared.fault.Rule.TheVariants.{Counts, Kind, Pointer, Bitmap};
+ghost use Rattle.ice_map.specs.Faults.{IsGrowFault};
+ghost use Rattle.ice_map.specs.Inodes.{inode_of};
+ghost use Rattle.ice_file.specs.Files.{longest_file, most_at_once, ReachesTo, FileSet, IsWriteFault, overwritten};
+ghost use Rattle.ice_file.specs.Own.{own, file_bytes, blocks_for, MadeOf, WellMade};
+ghost use Rattle.ice_file.specs.Writes.{Written, blocks_with, uses_of};
+
+use crate::inode::{file_inode, map_length};
+use crate::pieces::put_piece;
+use ice_base::{Disk, Form, Keep, Lot, OpFault, Pool};
+use ice_map::{Inode, put_inode};
+
+/// Puts the bytes into the blocks from `at` on, with new blocks past the last. The inode is the caller's to put.
+fn write_blocks<D: Disk, K: Keep<D>, P: Pool<D, K>, F: Form>(
+    keep: &mut K,
+    pool: &mut P,
+    disk: &mut D,
+    lot: &Lot,
+    inode: &mut Inode,
+    at: u32,
+    bytes: &[u8],
+) -> Result<(), OpFault>
+    requires sited { is_sited lot.now (D.state disk.old).size ≡ true }
+    requires room { 44 ≤ K.room keep.old }
+    requires few { length bytes.now ≤ most_at_once }
+    requires short { at + length bytes.now ≤ longest_file }
+    requires reaches { ReachesTo at inode.old }
+    ensures written { K.shows lot.now keep.old disk.old → MadeOf lot.now (K.map keep.old disk.old lot.now) inode.old (blocks_for inode.old.size) → OnOk result (Written lot.now (K.map keep.old disk.old lot.now) (K.map keep.new disk.new lot.now) inode.old inode.new (blocks_for inode.old.size) (blocks_with inode.old.size (at + length bytes.now)) at (at + length bytes.now) bytes.now) }
+    ensures spent { Spent D.Disk K.View lot.now 44 keep.old disk.old keep.new disk.new }
+    ensures none { IsErrOf result NoSpace → K.shows lot.now keep.old disk.old → MadeOf lot.now (K.map keep.old disk.old lot.now) inode.old (blocks_for inode.old.size) → free_count false lot.now (K.map keep.old disk.old lot.now) + uses_of (blocks_for inode.old.size) < uses_of (blocks_with inode.old.size (at + length bytes.now)) }
+    ensures full { IsErrOf result (Damaged Counts) → K.shows lot.now keep.old disk.old → MadeOf lot.now (K.map keep.old disk.old lot.now) inode.old (blocks_for inode.old.size) → uses_of (blocks_for inode.old.size) ≤ counted false (K.map keep.old disk.old lot.now) → 2 ^ 32 + uses_of (blocks_for inode.old.size) ≤ counted false (K.map keep.old disk.old lot.now) + uses_of (blocks_with inode.old.size (at + length bytes.now)) }
+    ensures unreserved { IsErrOf result (Damaged Bitmap) → K.shows lot.now keep.old disk.old → MadeOf lot.now (K.map keep.old disk.old lot.now) inode.old (blocks_for inode.old.size) → ¬ Reserved lot.now (K.map keep.old disk.old lot.now) }
+    ensures pointer { IsErrOf result (Damaged Pointer) → K.shows lot.now keep.old disk.old → ¬ MadeOf lot.now (K.map keep.old disk.old lot.now) inode.old (blocks_for inode.old.size) }
+    ensures faults { IfErr result IsGrowFault }
+    ensures failed { IsErrOf result FaultDisk → Rose (D.state disk.old).faults (D.state disk.new).faults }
+{
+    let size = inode.size;
+    let end = at + bytes.len() as u32;
+    for k in at / 1024..map_length(end) {
+        let from = at.max(1024 * k);
+        let to = end.min(1024 * (k + 1));
+        let count = map_length(size.max(from));
+        let part = &bytes[(from - at) as usize..(to - at) as usize];
+        put_piece::<D, K, P, F>(
+            keep,
+            pool,
+            disk,
+            lot,
+            inode,
+            count,
+            k,
+            from - 1024 * k,
+            part,
+        )?;
+    }
+    Ok(())
+}
+
+/// Puts the bytes into a file from `at` on: they replace those that stand there, and those past the end extend it.
+/// After a fault the blocks of the file may hold part of them. NoSpace: fewer blocks are free than the file needs.
+/// Damaged: the inode is no file of at least `at` bytes, or what a growth or a look at the blocks says.
+pub fn write_at<D: Disk, K: Keep<D>, P: Pool<D, K>, F: Form>(
+    keep: &mut K,
+    pool: &mut P,
+    disk: &mut D,
+    lot: &Lot,
+    number: u32,
+    at: u32,
+    bytes: &[u8],
+) -> Result<(), OpFault>
+    requires sited { is_sited lot.now (D.state disk.old).size ≡ true }
+    requires number { number < 64 * length lot.now.groups }
+    requires room { 48 ≤ K.room keep.old }
+    requires few { length bytes.now ≤ most_at_once }
+    requires short { at + length bytes.now ≤ longest_file }
+    ensures written { K.shows lot.now keep.old disk.old → WellMade lot.now F.ENTRY (K.map keep.old disk.old lot.now) number → OnOk result (FileSet lot.now F.ENTRY (K.map keep.old disk.old lot.now) (K.map keep.new disk.new lot.now) number (overwritten (file_bytes (own F.ENTRY (K.map keep.old disk.old lot.now) number)) at bytes.now)) }
+    ensures reaches { K.shows lot.now keep.old disk.old → OnOk result (ReachesTo at (inode_of (K.map keep.old disk.old lot.now) number)) }
+    ensures spent { Spent D.Disk K.View lot.now 48 keep.old disk.old keep.new disk.new }
+    ensures kind { IsErrOf result (Damaged Kind) → K.shows lot.now keep.old disk.old → ¬ ReachesTo at (inode_of (K.map keep.old disk.old lot.now) number) }
+    ensures looked { IsErrOf result (Damaged Kind) → Looked D.Disk K.View lot.now keep.old disk.old keep.new disk.new }
+    ensures none { IsErrOf result NoSpace → K.shows lot.now keep.old disk.old → WellMade lot.now F.ENTRY (K.map keep.old disk.old lot.now) number → free_count false lot.now (K.map keep.old disk.old lot.now) + uses_of (blocks_for (inode_of (K.map keep.old disk.old lot.now) number).size) < uses_of (blocks_with (inode_of (K.map keep.old disk.old lot.now) number).size (at + length bytes.now)) }
+    ensures full { IsErrOf result (Damaged Counts) → K.shows lot.now keep.old disk.old → WellMade lot.now F.ENTRY (K.map keep.old disk.old lot.now) number → uses_of (blocks_for (inode_of (K.map keep.old disk.old lot.now) number).size) ≤ counted false (K.map keep.old disk.old lot.now) → 2 ^ 32 + uses_of (blocks_for (inode_of (K.map keep.old disk.old lot.now) number).size) ≤ counted false (K.map keep.old disk.old lot.now) + uses_of (blocks_with (inode_of (K.map keep.old disk.old lot.now) number).size (at + length bytes.now)) }
+    ensures unreserved { IsErrOf result (Damaged Bitmap) → K.shows lot.now keep.old disk.old → WellMade lot.now F.ENTRY (K.map keep.old disk.old lot.now) number → ¬ Reserved lot.now (K.map keep.old disk.old lot.now) }
+    ensures pointer { IsErrOf result (Damaged Pointer) → K.shows lot.now keep.old disk.old → ¬ WellMade lot.now F.ENTRY (K.map keep.old disk.old lot.now) number }
+    ensures faults { IfErr result IsWriteFault }
+    ensures failed { IsErrOf result FaultDisk → Rose (D.state disk.old).faults (D.state disk.new).faults }
+{
+    let mut inode = file_inode::<D, K, F>(keep, disk, lot, number, at)?;
+    write_blocks::<D, K, P, F>(keep, pool, disk, lot, &mut inode, at, bytes)?;
+    inode.size = inode.size.max(at + bytes.len() as u32);
+    put_inode::<D, K, P, F>(keep, pool, disk, lot, number, &inode)?;
+    Ok(())
+}
