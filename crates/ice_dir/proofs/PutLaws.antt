@@ -18,7 +18,8 @@ use Rattle.ice_dir.specs.Changes.{dir_blocks, RowPut, DirSet}
 use Rattle.ice_dir.specs.Rows.{Row, per_block, place_of, row_at, row_of, rows_of, named, without, FirstNamed, IsDirectory}
 use Rattle.ice_dir.proofs.DirLaws.{map-same, rows-all, per-sixteen, position-found}
 use Rattle.ice_dir.proofs.RowLaws.{row-same}
-use Rattle.ice_dir.proofs.SetLaws.{set-content, own-set}
+use Rattle.ice_file.proofs.SetLaws.{resized, own-set}
+use Rattle.ice_dir.proofs.SetLaws.{set-content}
 
 -- the blocks of a directory
 pub dir-sixteenth : (entry size : ℕ) → entry ≡ 64 → dir_blocks entry size ≡ (size + 15) / 16
@@ -69,8 +70,8 @@ place-fits entry k e = rw e (let b = mod_below k 16 (omega arith) in omega (arit
 
 -- a block of a map was put, in which one row was written
 module _ (lot : LotView) (entry : ℕ) (m0 m1 m2 : ℕ → List ℕ) (x y : Inode) (c d k at : ℕ) (old new : List ℕ) (row : Row) (sixty : entry ≡ 64) (reached : Reached lot m0 m1 x y c (k / per_block entry) at) (few : length lot.groups ≤ 64)
-  (wide : max c (k / per_block entry + 1) ≡ d) (had : k / per_block entry < c → old ≡ content_of m0 x (k / per_block entry)) (long : length old ≡ 1024) (now_long : length new ≡ 1024) (beside : SameBeside (place_of entry k) entry old new)
-  (here : row_at entry new (place_of entry k) ≡ row) (put : m2 at ≡ new) (only : (b : ℕ) → b ≢ at → m2 b ≡ m1 b) where
+    (wide : max c (k / per_block entry + 1) ≡ d) (had : k / per_block entry < c → old ≡ content_of m0 x (k / per_block entry)) (long : length old ≡ 1024) (now_long : length new ≡ 1024) (beside : SameBeside (place_of entry k) entry old new)
+    (here : row_at entry new (place_of entry k) ≡ row) (put : m2 at ≡ new) (only : (b : ℕ) → b ≢ at → m2 b ≡ m1 b) where
   moved-one : Moved lot m0 m1 x y c d
   moved-one = subst (λ n. Moved lot m0 m1 x y c n) wide reached.moved
 
@@ -117,24 +118,75 @@ rows-added lot entry m0 m1 m2 x y z number row e put before after kx kz more sam
     ∙ map-range_with_len_more (row_of entry m2 z) 0 x.size x.size (omega arith)
     ∙ ap (λ r. map (row_of entry m2 z) (range_with_len 0 x.size) ++ r ∷ []) (row-now x.size (omega arith) ∙ put.here)
     ∙ ap (λ (rs : List Row). rs ++ row ∷ []) (map-same (row_of entry m2 z) (row_of entry m0 x) 0 x.size (λ j l h. row-now j (omega arith) ∙ put.others j (row-inside entry x.size j e (omega arith)) (λ q. omega arith))
-        ∙ ap (λ (i : Inode). map (row_of entry m0 i) (range_with_len 0 i.size)) (sym before)
-        ∙ sym (rows-all entry m0 number e (ap (λ (i : Inode). i.kind) before ∙ kx)))
+    ∙ ap (λ (i : Inode). map (row_of entry m0 i) (range_with_len 0 i.size)) (sym before)
+    ∙ sym (rows-all entry m0 number e (ap (λ (i : Inode). i.kind) before ∙ kx)))
 
 dir-map : (entry : ℕ) (x : Inode) → x.kind ≡ 2 → map_length entry x ≡ dir_blocks entry x.size
 dir-map entry x k = rw k refl
 
 -- a directory to which a row was added and which was then put
-pub dir-added : (lot : LotView) (entry : ℕ) (m0 m1 m2 : ℕ → List ℕ) (x y z : Inode) (number : ℕ) (row : Row) → entry ≡ 64 → IsDirectory lot x → x.size + 1 < 64 * length lot.groups → inode_of m0 number ≡ x
-    → RowPut lot entry m0 m1 x y (dir_blocks entry x.size) (dir_blocks entry (x.size + 1)) x.size row → InodeSet m1 m2 number z → z.kind ≡ y.kind → z.size ≡ y.size + 1 → z.direct ≡ y.direct → z.single ≡ y.single → z.double ≡ y.double
+pub dir-added : (lot : LotView) (entry : ℕ) (m0 m1 m2 : ℕ → List ℕ) (x y : Inode) (number : ℕ) (row : Row) → entry ≡ 64 → IsDirectory lot x → x.size + 1 < 64 * length lot.groups → inode_of m0 number ≡ x
+    → RowPut lot entry m0 m1 x y (dir_blocks entry x.size) (dir_blocks entry (x.size + 1)) x.size row → InodeSet m1 m2 number (resized y (y.size + 1))
     → ((b : ℕ) → b ≢ inode_address number → m2 b ≡ m1 b) → DirSet lot entry m0 m2 number (rows_of entry m0 number ++ row ∷ [])
-dir-added lot entry m0 m1 m2 x y z number row e is room before put set kind size direct single double only =
-    let kz : z.kind ≡ 2 = kind ∙ put.moved.kind ∙ is.kind in
-    let sz : z.size ≡ x.size + 1 = size ∙ ap (λ n. n + 1) put.moved.size in
+dir-added lot entry m0 m1 m2 x y number row e is room before put set only =
+    let kz : y.kind ≡ 2 = put.moved.kind ∙ is.kind in
+    let sz : y.size + 1 ≡ x.size + 1 = ap (λ n. n + 1) put.moved.size in
     record {
-      rows = rows-added lot entry m0 m1 m2 x y z number row e put before set.value is.kind kz sz (set-content lot m1 m2 y z (dir_blocks entry (x.size + 1)) number put.moved.made direct single double only);
+      rows = rows-added lot entry m0 m1 m2 x y (resized y (y.size + 1)) number row e put before set.value is.kind kz sz (set-content lot m1 m2 y (y.size + 1) (dir_blocks entry (x.size + 1)) number put.moved.made only);
       is = rw set.value (record { kind = kz; few = omega arith });
-      set = own-set lot entry m0 m1 m2 x y z (dir_blocks entry x.size) (dir_blocks entry (x.size + 1)) number put.moved set direct single double only before (dir-map entry x is.kind) (dir-map entry z kz ∙ ap (dir_blocks entry) sz);
+      set = own-set lot m0 m1 m2 x y (dir_blocks entry x.size) (dir_blocks entry (x.size + 1)) (y.size + 1) entry number before (dir-map entry x is.kind) put.moved set (dir-map entry (resized y (y.size + 1)) kz ∙ ap (dir_blocks entry) sz) only;
     }
 
 pub made-dir : (lot : LotView) (entry : ℕ) (m : ℕ → List ℕ) (number : ℕ) (x : Inode) → inode_of m number ≡ x → x.kind ≡ 2 → WellMade lot entry m number → MadeOf lot m x (dir_blocks entry x.size)
 made-dir lot entry m number x before kind made = subst (λ n. MadeOf lot m x n) (dir-map entry x kind) (subst (λ i. MadeOf lot m i (map_length entry i)) before made)
+
+-- the rows of a directory from which one was taken
+swapped : (row new : ℕ → Row) (n k : ℕ) → k < n → new k ≡ row (n - 1) → ((j : ℕ) → j < n - 1 → j ≢ k → new j ≡ row j) → map new (range_with_len 0 (n - 1)) ≡ swap_remove (map row (range_with_len 0 n)) k ([], 0)
+swapped row new n k h here others =
+    let none : Row = ([], 0) in
+    let rows : List Row = map row (range_with_len 0 n) in
+    let l : length (map row (range_with_len 0 n)) ≡ n = length-map-range_with_len row 0 n in
+    let l' = length-map-range_with_len new 0 (n - 1) in
+    let last : slice_index_or (map row (range_with_len 0 n)) (length (map row (range_with_len 0 n)) - 1) ([], 0) ≡ row (n - 1) = ap (λ i. slice_index_or (map row (range_with_len 0 n)) (i - 1) ([], 0)) l ∙ get_or-map-range_with_len row 0 n (n - 1) (n - 1) ([], 0) (omega arith) (omega arith) in
+    let set : List Row = slice_set rows k (slice_index_or rows (length rows - 1) none) in
+    let ls : length (slice_set (map row (range_with_len 0 n)) k (slice_index_or (map row (range_with_len 0 n)) (length (map row (range_with_len 0 n)) - 1) ([], 0))) ≡ n = length-set (map row (range_with_len 0 n)) k (slice_index_or (map row (range_with_len 0 n)) (length (map row (range_with_len 0 n)) - 1) ([], 0)) ∙ l in
+    let lt = length-take (length (map row (range_with_len 0 n)) - 1) (slice_set (map row (range_with_len 0 n)) k (slice_index_or (map row (range_with_len 0 n)) (length (map row (range_with_len 0 n)) - 1) ([], 0))) in
+    ext_get_or ([], 0) (map new (range_with_len 0 (n - 1))) (swap_remove (map row (range_with_len 0 n)) k ([], 0)) (omega arith) (λ j m.
+    let first : get_or (map new (range_with_len 0 (n - 1))) j ([], 0) ≡ new j = get_or-map-range_with_len new 0 (n - 1) j j ([], 0) (omega arith) (omega arith) in
+    let taken : get_or (swap_remove (map row (range_with_len 0 n)) k ([], 0)) j ([], 0) ≡ get_or (slice_set (map row (range_with_len 0 n)) k (slice_index_or (map row (range_with_len 0 n)) (length (map row (range_with_len 0 n)) - 1) ([], 0))) j ([], 0) =
+    get_or-take (length (map row (range_with_len 0 n)) - 1) (slice_set (map row (range_with_len 0 n)) k (slice_index_or (map row (range_with_len 0 n)) (length (map row (range_with_len 0 n)) - 1) ([], 0))) j ([], 0) (omega arith) in
+    first ∙ (elim (j == k) as (λ t. (j == k) ≡ t → new j ≡ get_or (slice_set (map row (range_with_len 0 n)) k (slice_index_or (map row (range_with_len 0 n)) (length (map row (range_with_len 0 n)) - 1) ([], 0))) j ([], 0)) [
+      | true ↦ λ t. let same : j ≡ k = grind (arith, nat_tests) in
+          ap new same ∙ here ∙ sym last
+          ∙ sym (ap (λ i. get_or (slice_set (map row (range_with_len 0 n)) k (slice_index_or (map row (range_with_len 0 n)) (length (map row (range_with_len 0 n)) - 1) ([], 0))) i ([], 0)) same
+          ∙ get_or-set_same (map row (range_with_len 0 n)) k (slice_index_or (map row (range_with_len 0 n)) (length (map row (range_with_len 0 n)) - 1) ([], 0)) ([], 0) (omega arith))
+      | false ↦ λ t. let ne : j ≢ k = grind (arith, nat_tests) in
+          others j (omega arith) ne
+          ∙ sym (get_or-set_other (map row (range_with_len 0 n)) k j (slice_index_or (map row (range_with_len 0 n)) (length (map row (range_with_len 0 n)) - 1) ([], 0)) ([], 0) ne
+          ∙ get_or-map-range_with_len row 0 n j j ([], 0) (omega arith) (omega arith))
+    ] refl) ∙ sym taken)
+
+-- a directory whose last row was moved to row k, which was then cut by one row and put
+pub dir-taken : (lot : LotView) (entry : ℕ) (m0 m1 m2 m3 : ℕ → List ℕ) (x y : Inode) (number k : ℕ) → entry ≡ 64 → IsDirectory lot x → k < x.size → inode_of m0 number ≡ x
+    → RowPut lot entry m0 m1 x x (dir_blocks entry x.size) (dir_blocks entry x.size) k (row_of entry m0 x (x.size - 1))
+    → Moved lot m1 m2 x y (dir_blocks entry x.size) (dir_blocks entry (x.size - 1)) → ((n : ℕ) → n < dir_blocks entry (x.size - 1) → content_of m2 y n ≡ content_of m1 x n)
+    → InodeSet m2 m3 number (resized y (x.size - 1)) → ((b : ℕ) → b ≢ inode_address number → m3 b ≡ m2 b) → DirSet lot entry m0 m3 number (swap_remove (rows_of entry m0 number) k ([], 0))
+dir-taken lot entry m0 m1 m2 m3 x y number k e is below before put moved contents set only =
+    let kz : y.kind ≡ 2 = moved.kind ∙ is.kind in
+    let few = is.few in
+    let all = moved-then lot m0 m1 m2 x x y (dir_blocks entry x.size) (dir_blocks entry x.size) (dir_blocks entry (x.size - 1)) put.moved moved in
+    let same = set-content lot m2 m3 y (x.size - 1) (dir_blocks entry (x.size - 1)) number moved.made only in
+    let row-now : (j : ℕ) → j < x.size - 1 → row_of entry m3 (resized y (x.size - 1)) j ≡ row_of entry m1 x j = (λ j h.
+    let n : j / per_block entry < dir_blocks entry (x.size - 1) = row-inside entry (x.size - 1) j e h in
+    ap (λ (b : List ℕ). row_at entry b (place_of entry j)) (same (j / per_block entry) n ∙ contents (j / per_block entry) n)) in
+    let k0 : (inode_of m0 number).kind ≡ 2 = ap (λ (i : Inode). i.kind) before ∙ is.kind in
+    let now : rows_of entry m3 number ≡ map (row_of entry m3 (resized y (x.size - 1))) (range_with_len 0 (x.size - 1)) =
+    rows-all entry m3 number e (ap (λ (i : Inode). i.kind) set.value ∙ kz) ∙ ap (λ (i : Inode). map (row_of entry m3 i) (range_with_len 0 i.size)) set.value in
+    let old : rows_of entry m0 number ≡ map (row_of entry m0 x) (range_with_len 0 x.size) = rows-all entry m0 number e k0 ∙ ap (λ (i : Inode). map (row_of entry m0 i) (range_with_len 0 i.size)) before in
+    record {
+      rows = now ∙ map-same (row_of entry m3 (resized y (x.size - 1))) (row_of entry m1 x) 0 (x.size - 1) (λ j l h. row-now j (omega arith))
+          ∙ swapped (row_of entry m0 x) (row_of entry m1 x) x.size k below put.here (λ j h ne. put.others j (row-inside entry x.size j e (omega arith)) ne)
+          ∙ ap (λ (rs : List Row). swap_remove rs k ([], 0)) (sym old);
+      is = rw set.value (record { kind = kz; few = omega arith });
+      set = own-set lot m0 m2 m3 x y (dir_blocks entry x.size) (dir_blocks entry (x.size - 1)) (x.size - 1) entry number before (dir-map entry x is.kind) all set (dir-map entry (resized y (x.size - 1)) kz) only;
+    }

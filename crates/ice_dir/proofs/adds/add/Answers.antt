@@ -23,4 +23,4 @@ returns-clause-added g c = λ s made.
     let put = c.in_ok-append.ensures.put (looked.shows s) (subst (λ m. MadeOf lot m x (dir_blocks entry x.size)) (sym looked.map) (made-dir lot entry m0 c.args.number x before is.kind made)) in
     let put' = subst (λ m. RowPut lot entry m m1 x c.append.new.dir (dir_blocks entry x.size) (dir_blocks entry (x.size + 1)) x.size (c.bytes.result.now, c.args.inode)) looked.map put in
     let set = c.in_ok-put_inode.ensures.written (c.append.ensures.spent.shows (looked.shows s)) in
-    rw (sym c.bytes.ensures.value) (dir-added lot entry m0 m1 m2 x c.append.new.dir _ c.args.number (c.bytes.result.now, c.args.inode) one.1 is ? before put' set refl refl refl refl refl c.put_inode.ensures.puts.only)
+    rw (sym c.bytes.ensures.value) (dir-added lot entry m0 m1 m2 x c.append.new.dir c.args.number (c.bytes.result.now, c.args.inode) one.1 is (let l = c.len.ensures.len in let t = c.if-dir-len.false in omega arith) before put' set c.put_inode.ensures.puts.only)

@@ -22,7 +22,7 @@ returns-clause-put g c = λ s made.
     let place = c.row_place-place.ensures.value in
     let had = c.in_ok-at.ensures.reached s (subst (λ n. MadeOf lot m0 dir n) (sym count) made) in
     let reached = subst (λ n. Reached lot m0 m1 dir c.open_block.new.inode n (dir.size / per_block entry) c.in_ok-at.at) count
-        (subst (λ p. Reached lot m0 m1 dir c.open_block.new.inode c.blocks_for_rows-count.result (dir.size / p) c.in_ok-at.at) per had) in
+    (subst (λ p. Reached lot m0 m1 dir c.open_block.new.inode c.blocks_for_rows-count.result (dir.size / p) c.in_ok-at.at) per had) in
     row-put lot entry m0 m1 m2 dir c.open_block.new.inode (dir_blocks entry dir.size) (dir_blocks entry (dir.size + 1)) dir.size c.in_ok-at.at c.open_block.new.into c.write_row.new.block (c.args.name.now, c.args.inode) one.1 reached
     (sited-few _ _ c.requires.sited) (one-more entry dir.size one.1)
     (λ h. c.in_ok-at.ensures.content s (rw (per, count) h) ∙ ap (λ p. content_of m0 dir (dir.size / p)) per)
