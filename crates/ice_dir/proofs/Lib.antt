@@ -2,3 +2,4 @@ pub mod RowLaws
 pub mod DirLaws
 pub mod SetLaws
 pub mod PutLaws
+pub mod TakeLaws

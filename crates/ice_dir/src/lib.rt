@@ -4,6 +4,8 @@
 mod adds;
 mod looks;
 mod rows;
+mod takes;
 
 pub use adds::add;
 pub use looks::{entry, find, len};
+pub use takes::take;
