@@ -1,22 +1,19 @@
 -- The rows of directories.
-use Rattle.std.proofs.Common.{◌≡◌, ◌≢◌, ◌≤◌, ◌<◌, ◌⊎◌, ◌+◌, ◌-◌, ◌*◌, ◌/◌, ◌%◌, ◌==◌, ◌^◌, ℕ, zero, suc, Bool, true, false, cond, not, nat_lt, List, [], ◌∷◌, ◌++◌, map, length, take, drop, slice_index, slice_index_or, slice_get, slice_set, get_or, Option, Some, None, ◌∙◌, sym, refl, ap, arith, min}
-use Rattle.std.proofs.lemmas.Bool.Decides.{nat_tests}
-use Rattle.std.proofs.lemmas.List.{ext_get_or, get_or-map}
+use Rattle.std.proofs.Common.{◌≡◌, ◌≢◌, ◌≤◌, ◌<◌, ◌+◌, ◌*◌, ◌/◌, ℕ, zero, suc, true, false, List, [], ◌∷◌, map, length, slice_index_or, slice_get, get_or, Some, None, ◌∙◌, sym, refl, ap, arith}
+use Rattle.std.proofs.lemmas.List.{get_or-map}
 use Rattle.std.proofs.lemmas.List.FromFn.{get_or-map-range_with_len, length-map-range_with_len}
 use Rattle.std.proofs.lemmas.List.Folds.{find_at}
 use Rattle.std.proofs.lemmas.List.Sums.{position_or_len_is}
 use Rattle.std.proofs.lemmas.Option.{slice_get_past}
-use Rattle.std.proofs.lemmas.Nat.{div-add-mod', mod_below, div-mul-add, mod-mul-add}
+use Rattle.std.proofs.lemmas.Nat.{div-add-mod', mod_below}
 use Rattle.std.specs.Cmp.Lexicographic.{same_text, other_text}
-use Rattle.std.specs.List.{range_with_len, find, position_or_len}
+use Rattle.std.specs.List.{range_with_len, position_or_len}
 use Rattle.std.specs.Option.{option_map}
-use Rattle.std.specs.Str.{bytes_eq}
-use Rattle.ice_base.specs.Lots.{LotView}
 use Rattle.ice_map.specs.declared.codec.Inode.{Inode}
 use Rattle.ice_map.specs.Inodes.{inode_of}
-use Rattle.ice_map.specs.Maps.{nth_block, blocks_of}
-use Rattle.ice_file.specs.Own.{Own, own, own_of, map_length, blocks_for}
-use Rattle.ice_dir.specs.Rows.{Row, per_block, place_of, row_at, row_of, dir_rows, rows_of, named, look_up, without, NoneNamed, FirstNamed}
+use Rattle.ice_map.specs.Maps.{nth_block}
+use Rattle.ice_file.specs.Own.{map_length, blocks_for}
+use Rattle.ice_dir.specs.Rows.{Row, per_block, place_of, row_at, row_of, dir_rows, rows_of, named, look_up, NoneNamed, FirstNamed}
 
 pub map-same : {X : Type 0} (f g : ℕ → X) (a n : ℕ) → ((k : ℕ) → a ≤ k → k < a + n → f k ≡ g k) → map f (range_with_len a n) ≡ map g (range_with_len a n)
 map-same f g a zero h = refl

@@ -1,22 +1,21 @@
 -- What a write of one row does.
-use Rattle.std.proofs.Common.{◌≡◌, ◌≢◌, ◌≤◌, ◌<◌, ◌⊎◌, ◌+◌, ◌-◌, ◌*◌, ◌/◌, ◌%◌, ◌==◌, max, ℕ, zero, suc, Bool, true, false, cond, List, [], ◌∷◌, ◌++◌, map, length, take, slice_index, slice_index_or, slice_set, get_or, ◌∙◌, sym, refl, ap, subst, inl, inr, ⊎_elim, arith, length-take, length-set}
+use Rattle.std.proofs.Common.{◌≡◌, ◌≢◌, ◌≤◌, ◌<◌, ◌⊎◌, ◌+◌, ◌-◌, ◌*◌, ◌/◌, ◌%◌, ◌==◌, max, ℕ, true, false, List, [], ◌∷◌, ◌++◌, map, length, slice_index_or, slice_set, get_or, ◌∙◌, sym, refl, ap, subst, inl, inr, ⊎_elim, arith, length-take, length-set}
 use Rattle.std.proofs.lemmas.Bool.Decides.{nat_tests}
 use Rattle.std.proofs.lemmas.List.{ext_get_or, get_or-take, get_or-set_same, get_or-set_other}
 use Rattle.std.proofs.lemmas.List.FromFn.{get_or-map-range_with_len, length-map-range_with_len, map-range_with_len_more}
 use Rattle.std.proofs.lemmas.Nat.{div-add-mod', mod_below}
-use Rattle.std.specs.List.{range_with_len, swap_remove, position_or_len}
+use Rattle.std.specs.List.{range_with_len, swap_remove}
 use Rattle.ice_base.specs.Fields.{SameBeside}
 use Rattle.ice_base.specs.Inodes.{inode_address}
 use Rattle.ice_base.specs.Lots.{LotView}
 use Rattle.ice_map.specs.declared.codec.Inode.{Inode}
 use Rattle.ice_map.specs.Inodes.{inode_of, InodeSet}
-use Rattle.ice_map.specs.Maps.{nth_block, uses}
 use Rattle.ice_file.specs.Own.{MadeOf, WellMade, map_length, blocks_for}
 use Rattle.ice_file.specs.Writes.{Moved, Reached, content_of}
 use Rattle.ice_file.proofs.MoveLaws.{moved-then, put-moved, put-others, put-here}
 use Rattle.ice_dir.specs.Changes.{dir_blocks, RowPut, DirSet}
-use Rattle.ice_dir.specs.Rows.{Row, per_block, place_of, row_at, row_of, rows_of, named, without, FirstNamed, IsDirectory}
-use Rattle.ice_dir.proofs.DirLaws.{map-same, rows-all, per-sixteen, position-found}
+use Rattle.ice_dir.specs.Rows.{Row, per_block, place_of, row_at, row_of, rows_of, IsDirectory}
+use Rattle.ice_dir.proofs.DirLaws.{map-same, rows-all, per-sixteen}
 use Rattle.ice_dir.proofs.RowLaws.{row-same}
 use Rattle.ice_file.proofs.SetLaws.{resized, own-set}
 use Rattle.ice_dir.proofs.SetLaws.{set-content}
@@ -140,31 +139,44 @@ dir-added lot entry m0 m1 m2 x y number row e is room before put set only =
 pub made-dir : (lot : LotView) (entry : ℕ) (m : ℕ → List ℕ) (number : ℕ) (x : Inode) → inode_of m number ≡ x → x.kind ≡ 2 → WellMade lot entry m number → MadeOf lot m x (dir_blocks entry x.size)
 made-dir lot entry m number x before kind made = subst (λ n. MadeOf lot m x n) (dir-map entry x kind) (subst (λ i. MadeOf lot m i (map_length entry i)) before made)
 
+abbrev no_row : Row
+no_row = ([], 0)
+
+-- a list from which one element was taken
+length-taken : (rows : List Row) (k : ℕ) → length (swap_remove rows k no_row) ≡ length rows - 1
+length-taken rows k =
+    let s = length-set rows k (slice_index_or rows (length rows - 1) no_row) in
+    let t = length-take (length rows - 1) (slice_set rows k (slice_index_or rows (length rows - 1) no_row)) in
+    omega arith
+
+taken-here : (rows : List Row) (k : ℕ) → k < length rows - 1 → get_or (swap_remove rows k no_row) k no_row ≡ get_or rows (length rows - 1) no_row
+taken-here rows k h =
+    get_or-take (length rows - 1) (slice_set rows k (slice_index_or rows (length rows - 1) no_row)) k no_row h
+    ∙ get_or-set_same rows k (slice_index_or rows (length rows - 1) no_row) no_row (omega arith)
+
+taken-other : (rows : List Row) (k j : ℕ) → j < length rows - 1 → j ≢ k → get_or (swap_remove rows k no_row) j no_row ≡ get_or rows j no_row
+taken-other rows k j h ne =
+    get_or-take (length rows - 1) (slice_set rows k (slice_index_or rows (length rows - 1) no_row)) j no_row h
+    ∙ get_or-set_other rows k j (slice_index_or rows (length rows - 1) no_row) no_row ne
+
 -- the rows of a directory from which one was taken
 swapped : (row new : ℕ → Row) (n k : ℕ) → k < n → new k ≡ row (n - 1) → ((j : ℕ) → j < n - 1 → j ≢ k → new j ≡ row j) → map new (range_with_len 0 (n - 1)) ≡ swap_remove (map row (range_with_len 0 n)) k ([], 0)
 swapped row new n k h here others =
-    let none : Row = ([], 0) in
-    let rows : List Row = map row (range_with_len 0 n) in
     let l : length (map row (range_with_len 0 n)) ≡ n = length-map-range_with_len row 0 n in
     let l' = length-map-range_with_len new 0 (n - 1) in
-    let last : slice_index_or (map row (range_with_len 0 n)) (length (map row (range_with_len 0 n)) - 1) ([], 0) ≡ row (n - 1) = ap (λ i. slice_index_or (map row (range_with_len 0 n)) (i - 1) ([], 0)) l ∙ get_or-map-range_with_len row 0 n (n - 1) (n - 1) ([], 0) (omega arith) (omega arith) in
-    let set : List Row = slice_set rows k (slice_index_or rows (length rows - 1) none) in
-    let ls : length (slice_set (map row (range_with_len 0 n)) k (slice_index_or (map row (range_with_len 0 n)) (length (map row (range_with_len 0 n)) - 1) ([], 0))) ≡ n = length-set (map row (range_with_len 0 n)) k (slice_index_or (map row (range_with_len 0 n)) (length (map row (range_with_len 0 n)) - 1) ([], 0)) ∙ l in
-    let lt = length-take (length (map row (range_with_len 0 n)) - 1) (slice_set (map row (range_with_len 0 n)) k (slice_index_or (map row (range_with_len 0 n)) (length (map row (range_with_len 0 n)) - 1) ([], 0))) in
-    ext_get_or ([], 0) (map new (range_with_len 0 (n - 1))) (swap_remove (map row (range_with_len 0 n)) k ([], 0)) (omega arith) (λ j m.
-    let first : get_or (map new (range_with_len 0 (n - 1))) j ([], 0) ≡ new j = get_or-map-range_with_len new 0 (n - 1) j j ([], 0) (omega arith) (omega arith) in
-    let taken : get_or (swap_remove (map row (range_with_len 0 n)) k ([], 0)) j ([], 0) ≡ get_or (slice_set (map row (range_with_len 0 n)) k (slice_index_or (map row (range_with_len 0 n)) (length (map row (range_with_len 0 n)) - 1) ([], 0))) j ([], 0) =
-    get_or-take (length (map row (range_with_len 0 n)) - 1) (slice_set (map row (range_with_len 0 n)) k (slice_index_or (map row (range_with_len 0 n)) (length (map row (range_with_len 0 n)) - 1) ([], 0))) j ([], 0) (omega arith) in
-    first ∙ (elim (j == k) as (λ t. (j == k) ≡ t → new j ≡ get_or (slice_set (map row (range_with_len 0 n)) k (slice_index_or (map row (range_with_len 0 n)) (length (map row (range_with_len 0 n)) - 1) ([], 0))) j ([], 0)) [
+    let t = length-taken (map row (range_with_len 0 n)) k in
+    ext_get_or no_row (map new (range_with_len 0 (n - 1))) (swap_remove (map row (range_with_len 0 n)) k no_row) (omega arith) (λ j m.
+    get_or-map-range_with_len new 0 (n - 1) j j no_row (omega arith) (omega arith)
+    ∙ elim (j == k) as (λ t. (j == k) ≡ t → new j ≡ get_or (swap_remove (map row (range_with_len 0 n)) k no_row) j no_row) [
       | true ↦ λ t. let same : j ≡ k = grind (arith, nat_tests) in
-          ap new same ∙ here ∙ sym last
-          ∙ sym (ap (λ i. get_or (slice_set (map row (range_with_len 0 n)) k (slice_index_or (map row (range_with_len 0 n)) (length (map row (range_with_len 0 n)) - 1) ([], 0))) i ([], 0)) same
-          ∙ get_or-set_same (map row (range_with_len 0 n)) k (slice_index_or (map row (range_with_len 0 n)) (length (map row (range_with_len 0 n)) - 1) ([], 0)) ([], 0) (omega arith))
+          ap new same ∙ here
+          ∙ sym (ap (λ i. get_or (swap_remove (map row (range_with_len 0 n)) k no_row) i no_row) same
+          ∙ taken-here (map row (range_with_len 0 n)) k (omega arith)
+          ∙ get_or-map-range_with_len row 0 n (length (map row (range_with_len 0 n)) - 1) (n - 1) no_row (omega arith) (omega arith))
       | false ↦ λ t. let ne : j ≢ k = grind (arith, nat_tests) in
           others j (omega arith) ne
-          ∙ sym (get_or-set_other (map row (range_with_len 0 n)) k j (slice_index_or (map row (range_with_len 0 n)) (length (map row (range_with_len 0 n)) - 1) ([], 0)) ([], 0) ne
-          ∙ get_or-map-range_with_len row 0 n j j ([], 0) (omega arith) (omega arith))
-    ] refl) ∙ sym taken)
+          ∙ sym (taken-other (map row (range_with_len 0 n)) k j (omega arith) ne ∙ get_or-map-range_with_len row 0 n j j no_row (omega arith) (omega arith))
+    ] refl)
 
 -- a directory whose last row was moved to row k, which was then cut by one row and put
 pub dir-taken : (lot : LotView) (entry : ℕ) (m0 m1 m2 m3 : ℕ → List ℕ) (x y : Inode) (number k : ℕ) → entry ≡ 64 → IsDirectory lot x → k < x.size → inode_of m0 number ≡ x

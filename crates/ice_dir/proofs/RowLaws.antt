@@ -1,12 +1,12 @@
 -- Entries as bytes and as rows.
-use Rattle.std.proofs.Common.{◌≡◌, ◌≢◌, ◌≤◌, ◌<◌, ◌⊎◌, ◌+◌, ◌-◌, ◌*◌, ◌/◌, ◌%◌, ℕ, Bool, true, false, cond, nat_le, List, [], ◌∷◌, ◌++◌, length, take, drop, slice_index, slice_set, slice_range, ◌∙◌, sym, refl, ap, arith, inl, inr, length-take, length-drop}
+use Rattle.std.proofs.Common.{◌≡◌, ◌≢◌, ◌≤◌, ◌<◌, ◌+◌, ◌-◌, ℕ, true, false, nat_le, List, [], length, take, drop, slice_index, slice_set, ◌∙◌, sym, refl, ap, arith, inl, length-take, length-drop}
 use Rattle.std.proofs.lemmas.Bool.Decides.{nat_tests}
 use Rattle.std.proofs.lemmas.List.{ext_get_or, get_or-drop, get_or-take}
 use Rattle.std.proofs.lemmas.List.Edits.{length-between, get_or-between}
 use Rattle.ice_base.specs.Fields.{word_at, WordSet, SameBeside}
 use Rattle.ice_base.proofs.FieldLaws.{word-same}
 use Rattle.std.proofs.lemmas.Grind.{elements}
-use Rattle.ice_dir.specs.Rows.{row_bytes, name_in, row_in, row_at, Row}
+use Rattle.ice_dir.specs.Rows.{row_bytes, name_in, row_in, row_at}
 
 pub name-some : (bytes : List ℕ) (end : ℕ) → end ≡ 5 + slice_index bytes 4 → end ≤ length bytes → take (end - 5) (drop 5 bytes) ≡ name_in bytes
 unfolding name_in

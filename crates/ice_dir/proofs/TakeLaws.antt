@@ -1,5 +1,5 @@
 -- What a removal of one row does.
-use Rattle.std.proofs.Common.{◌≡◌, ◌≢◌, ◌≤◌, ◌<◌, ◌+◌, ◌-◌, ◌*◌, ◌/◌, max, ℕ, true, false, List, [], map, length, ◌∙◌, sym, refl, ap, subst, arith}
+use Rattle.std.proofs.Common.{◌≡◌, ◌≢◌, ◌≤◌, ◌<◌, ◌+◌, ◌-◌, ◌*◌, ◌/◌, ℕ, true, List, [], length, ◌∙◌, sym, ap, subst, arith}
 use Rattle.std.proofs.lemmas.Bool.Decides.{nat_tests}
 use Rattle.std.proofs.lemmas.Nat.{div-add-mod', mod_below}
 use Rattle.std.specs.List.{swap_remove, position_or_len}
@@ -9,7 +9,7 @@ use Rattle.ice_base.specs.Lots.{LotView}
 use Rattle.ice_map.specs.declared.codec.Inode.{Inode}
 use Rattle.ice_map.specs.Inodes.{inode_of, InodeSet}
 use Rattle.ice_map.specs.Maps.{nth_block, leads, cut_off, cut_room, shortened, Stays, Cut, OwnsOnce, Placed}
-use Rattle.ice_file.specs.Own.{MadeOf, WellMade}
+use Rattle.ice_file.specs.Own.{MadeOf}
 use Rattle.ice_file.specs.Writes.{Reached, content_of}
 use Rattle.ice_file.proofs.CutLaws.{cut-moved, cut-contents, cut-once}
 use Rattle.ice_file.proofs.MoveLaws.{had-reached, made-leads}
@@ -17,7 +17,7 @@ use Rattle.ice_file.proofs.SetLaws.{resized}
 use Rattle.ice_dir.specs.Changes.{dir_blocks, RowPut, DirSet}
 use Rattle.ice_dir.specs.Rows.{Row, per_block, place_of, row_at, row_of, rows_of, named, without, FirstNamed, IsDirectory}
 use Rattle.ice_dir.proofs.DirLaws.{per-sixteen, position-found, rows-read}
-use Rattle.ice_dir.proofs.PutLaws.{dir-sixteenth, row-inside, row-put, made-dir, dir-taken}
+use Rattle.ice_dir.proofs.PutLaws.{dir-sixteenth, row-inside, row-put, dir-taken}
 
 -- the block of a row of a well-made directory leads to a data place
 pub row-leads : (lot : LotView) (entry : ℕ) (m : ℕ → List ℕ) (x : Inode) (k per : ℕ) → entry ≡ 64 → MadeOf lot m x (dir_blocks entry x.size) → k < x.size → per ≡ per_block entry → leads lot m x (k / per) ≡ true

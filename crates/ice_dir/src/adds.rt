@@ -122,6 +122,7 @@ pub fn add<D: Disk, K: Keep<D>, P: Pool<D, K>, F: Form>(
     ensures unreserved { IsErrOf result (Damaged Bitmap) → K.shows lot.now keep.old disk.old → ¬ Reserved lot.now (K.map keep.old disk.old lot.now) }
     ensures pointer { IsErrOf result (Damaged Pointer) → K.shows lot.now keep.old disk.old → ¬ WellMade lot.now F.ENTRY (K.map keep.old disk.old lot.now) number }
     ensures looked { IsErrOf result NoSpace → Looked D.Disk K.View lot.now keep.old disk.old keep.new disk.new }
+    ensures unchanged { IsErrOf result (Damaged Kind) → Looked D.Disk K.View lot.now keep.old disk.old keep.new disk.new }
     ensures faults { IfErr result IsAddFault }
     ensures failed { IsErrOf result FaultDisk → Rose (D.state disk.old).faults (D.state disk.new).faults }
 {

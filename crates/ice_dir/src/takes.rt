@@ -110,6 +110,7 @@ pub fn take<D: Disk, K: Keep<D>, P: Pool<D, K>, F: Form>(
     ensures kind { IsErrOf result (Damaged Kind) → K.shows lot.now keep.old disk.old → ¬ IsDirectory lot.now (inode_of (K.map keep.old disk.old lot.now) number) }
     ensures unused { IsErrOf result (Damaged Bitmap) → K.shows lot.now keep.old disk.old → ¬ WellMade lot.now F.ENTRY (K.map keep.old disk.old lot.now) number }
     ensures pointer { IsErrOf result (Damaged Pointer) → K.shows lot.now keep.old disk.old → ¬ WellMade lot.now F.ENTRY (K.map keep.old disk.old lot.now) number }
+    ensures unchanged { IsErrOf result (Damaged Kind) → Looked D.Disk K.View lot.now keep.old disk.old keep.new disk.new }
     ensures faults { IfErr result IsTakeFault }
     ensures failed { IsErrOf result FaultDisk → Rose (D.state disk.old).faults (D.state disk.new).faults }
 {

@@ -1,4 +1,4 @@
-use Rattle.std.proofs.Common.{rules, ◌≡◌, ◌<◌, ◌≤◌, ◌+◌, ◌*◌, ℕ, true, List, ◌∙◌, sym, ap, subst, refl, arith, length, ◌++◌, ◌∷◌, []}
+use Rattle.std.proofs.Common.{◌+◌, sym, subst, arith}
 use Rattle.ice_base.proofs.LotLaws.{sited-few}
 use Rattle.ice_file.specs.Own.{MadeOf}
 use Rattle.ice_dir.specs.Changes.{dir_blocks, RowPut}

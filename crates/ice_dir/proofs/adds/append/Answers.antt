@@ -1,4 +1,4 @@
-use Rattle.std.proofs.Common.{rules, ◌≡◌, ◌<◌, ◌+◌, ◌/◌, ℕ, true, List, ◌∙◌, sym, ap, subst, arith, length}
+use Rattle.std.proofs.Common.{◌+◌, ◌/◌, ◌∙◌, sym, ap, subst}
 use Rattle.ice_base.proofs.LotLaws.{sited-few}
 use Rattle.ice_base.specs.Fields.{SameBeside}
 use Rattle.ice_file.specs.Own.{MadeOf}

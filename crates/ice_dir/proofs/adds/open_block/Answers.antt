@@ -1,5 +1,5 @@
-use Rattle.std.proofs.Common.{rules, ◌≡◌, ◌<◌, ◌+◌, ℕ, true, false, arith}
-use Rattle.ice_file.proofs.MoveLaws.{grown-reached, had-reached, reached-from, made-leads, made-single}
+use Rattle.std.proofs.Common.{rules, arith}
+use Rattle.ice_file.proofs.MoveLaws.{grown-reached, made-leads, made-single}
 use Rattle.ice_dir.proofs.adds.open_block.Goals as goal
 
 pub returns-in_err-at-clause-pointer : goal.returns-in_err-at-clause-pointer

@@ -1,6 +1,6 @@
-use Rattle.std.proofs.Common.{◌∙◌, ◌/◌, ap, sym, refl, Some, false, ◌≡◌, List, ℕ, IfSome}
+use Rattle.std.proofs.Common.{◌∙◌, ◌/◌, ap, sym, Some, ◌≡◌, List, ℕ}
 use Rattle.tree_spec.specs.Names.{is_name}
-use Rattle.ice_dir.specs.Rows.{Row, per_block, row_at}
+use Rattle.ice_dir.specs.Rows.{row_at}
 use Rattle.ice_dir.proofs.DirLaws.{read-row}
 use Rattle.ice_dir.proofs.looks.entry.Goals as goal
 

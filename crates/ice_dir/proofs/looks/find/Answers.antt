@@ -1,6 +1,6 @@
-use Rattle.std.proofs.Common.{◌∙◌, ◌≡◌, ◌≤◌, ap, sym, Some, arith, List, ℕ}
+use Rattle.std.proofs.Common.{◌∙◌, ap, sym, Some, arith}
 use Rattle.ice_base.proofs.LotLaws.{sited-few}
-use Rattle.ice_dir.specs.Rows.{row_of, look_up, rows_of}
+use Rattle.ice_dir.specs.Rows.{row_of}
 use Rattle.ice_dir.proofs.DirLaws.{look-found, look-none, rows-read}
 use Rattle.ice_dir.proofs.looks.find.Goals as goal
 

@@ -1,4 +1,4 @@
-use Rattle.std.proofs.Common.{◌*◌, ◌≡◌, ℕ, min}
+use Rattle.std.proofs.Common.{◌*◌, min}
 use Rattle.ice_base.specs.Views.{Looked}
 use Rattle.ice_dir.specs.Rows.{row_of, per_block, NoneNamed}
 use Rattle.ice_dir.proofs.looks.seek.Given as goal

@@ -1,4 +1,4 @@
-use Rattle.std.proofs.Common.{◌*◌, ℕ}
+use Rattle.std.proofs.Common.{◌*◌}
 use Rattle.ice_dir.specs.Rows.{row_at, NoneNamed}
 use Rattle.ice_dir.proofs.looks.seek_in.Given as goal
 

@@ -1,5 +1,5 @@
-use Rattle.std.proofs.Common.{◌∙◌, ap, sym, refl, arith}
-use Rattle.ice_dir.proofs.RowLaws.{name-some, name-none, length-row}
+use Rattle.std.proofs.Common.{sym, refl}
+use Rattle.ice_dir.proofs.RowLaws.{name-some, name-none}
 use Rattle.ice_dir.proofs.rows.read_name.Goals as goal
 
 pub returns-then-end-row-clause-name : goal.returns-then-end-row-clause-name

@@ -1,4 +1,4 @@
-use Rattle.std.proofs.Common.{rules, refl, arith}
+use Rattle.std.proofs.Common.{rules, refl}
 use Rattle.ice_dir.proofs.RowLaws.{row-written}
 use Rattle.ice_dir.proofs.rows.write_row.Goals as goal
 

@@ -1,4 +1,4 @@
-use Rattle.std.proofs.Common.{rules, ◌≡◌, ◌<◌, ◌+◌, ◌-◌, ◌/◌, ℕ, true, false, List, ◌∙◌, sym, refl, ap, arith, length}
+use Rattle.std.proofs.Common.{rules, ◌-◌, arith}
 use Rattle.ice_base.specs.Lots.{sub_address}
 use Rattle.ice_base.proofs.LotLaws.{sited-few}
 use Rattle.ice_map.proofs.MarkLaws.{data_not_sub}

@@ -1,5 +1,4 @@
-use Rattle.std.proofs.Common.{rules, ◌≡◌, ◌≤◌, ◌<◌, ◌+◌, ◌-◌, ℕ, List, ◌∙◌, sym, refl, ap, arith}
-use Rattle.ice_map.specs.Maps.{cut_room}
+use Rattle.std.proofs.Common.{rules, arith}
 use Rattle.ice_map.proofs.PutsLaws.{spent-then}
 use Rattle.ice_dir.proofs.PutLaws.{made-dir}
 use Rattle.ice_dir.proofs.TakeLaws.{taken-owns, taken-placed, dir-removed, cut-six}
