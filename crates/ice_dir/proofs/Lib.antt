@@ -1,0 +1,5 @@
+pub mod RowLaws
+pub mod DirLaws
+pub mod SetLaws
+pub mod PutLaws
+pub mod TakeLaws

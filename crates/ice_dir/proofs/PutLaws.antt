@@ -1,0 +1,204 @@
+-- What a write of one row does.
+use Rattle.std.proofs.Common.{◌≡◌, ◌≢◌, ◌≤◌, ◌<◌, ◌⊎◌, ◌+◌, ◌-◌, ◌*◌, ◌/◌, ◌%◌, ◌==◌, max, ℕ, true, false, List, [], ◌∷◌, ◌++◌, map, length, slice_index_or, slice_set, get_or, ◌∙◌, sym, refl, ap, subst, inl, inr, ⊎_elim, arith, length-take, length-set}
+use Rattle.std.proofs.lemmas.Bool.Decides.{nat_tests}
+use Rattle.std.proofs.lemmas.List.{ext_get_or, get_or-take, get_or-set_same, get_or-set_other}
+use Rattle.std.proofs.lemmas.List.FromFn.{get_or-map-range_with_len, length-map-range_with_len, map-range_with_len_more}
+use Rattle.std.proofs.lemmas.Nat.{div-add-mod', mod_below}
+use Rattle.std.specs.List.{range_with_len, swap_remove}
+use Rattle.ice_base.specs.Fields.{SameBeside}
+use Rattle.ice_base.specs.Inodes.{inode_address}
+use Rattle.ice_base.specs.Lots.{LotView}
+use Rattle.ice_map.specs.declared.codec.Inode.{Inode}
+use Rattle.ice_map.specs.Inodes.{inode_of, InodeSet}
+use Rattle.ice_file.specs.Own.{MadeOf, WellMade, map_length, blocks_for}
+use Rattle.ice_file.specs.Writes.{Moved, Reached, content_of}
+use Rattle.ice_file.proofs.MoveLaws.{moved-then, put-moved, put-others, put-here}
+use Rattle.ice_dir.specs.Changes.{dir_blocks, RowPut, DirSet}
+use Rattle.ice_dir.specs.Rows.{Row, per_block, place_of, row_at, row_of, rows_of, IsDirectory}
+use Rattle.ice_dir.proofs.DirLaws.{map-same, rows-all, per-sixteen}
+use Rattle.ice_dir.proofs.RowLaws.{row-same}
+use Rattle.ice_file.proofs.SetLaws.{resized, own-set}
+use Rattle.ice_dir.proofs.SetLaws.{set-content}
+
+-- the blocks of a directory
+pub dir-sixteenth : (entry size : ℕ) → entry ≡ 64 → dir_blocks entry size ≡ (size + 15) / 16
+dir-sixteenth entry size e =
+    let a = div-add-mod' (64 * size + 1023) 1024 in
+    let r = mod_below (64 * size + 1023) 1024 (omega arith) in
+    let b = div-add-mod' (size + 15) 16 in
+    let s = mod_below (size + 15) 16 (omega arith) in
+    let q : blocks_for (64 * size) ≡ (size + 15) / 16 = omega (arith, a, r, b, s) in
+    rw e q
+
+pub row-inside : (entry size j : ℕ) → entry ≡ 64 → j < size → j / per_block entry < dir_blocks entry size
+row-inside entry size j e h =
+    let l = dir-sixteenth entry size e in
+    let b = div-add-mod' (size + 15) 16 in
+    let s = mod_below (size + 15) 16 (omega arith) in
+    let c = div-add-mod' j 16 in
+    let t = mod_below j 16 (omega arith) in
+    let q : j / 16 < dir_blocks entry size = omega (arith, l, b, s, c, t) in
+    rw (per-sixteen entry e) q
+
+-- the blocks of a directory with one entry more
+pub one-more : (entry size : ℕ) → entry ≡ 64 → max (dir_blocks entry size) (size / per_block entry + 1) ≡ dir_blocks entry (size + 1)
+one-more entry size e =
+    let l = dir-sixteenth entry size e in
+    let m = dir-sixteenth entry (size + 1) e in
+    let a = div-add-mod' (size + 15) 16 in
+    let b = mod_below (size + 15) 16 (omega arith) in
+    let c = div-add-mod' (size + 1 + 15) 16 in
+    let d = mod_below (size + 1 + 15) 16 (omega arith) in
+    let f = div-add-mod' size 16 in
+    let i = mod_below size 16 (omega arith) in
+    let q : max (dir_blocks entry size) (size / 16 + 1) ≡ dir_blocks entry (size + 1) = omega (arith, l, m, a, b, c, d, f, i) in
+    rw (per-sixteen entry e) q
+
+-- two rows of a block
+pub rows-apart : (entry j k : ℕ) → entry ≡ 64 → j / per_block entry ≡ k / per_block entry → j ≢ k → (place_of entry j + entry ≤ place_of entry k) ⊎ (place_of entry k + entry ≤ place_of entry j)
+rows-apart entry j k e = rw e (sixteen j k)
+  where
+    sixteen : (j k : ℕ) → j / 16 ≡ k / 16 → j ≢ k → (64 * (j % 16) + 64 ≤ 64 * (k % 16)) ⊎ (64 * (k % 16) + 64 ≤ 64 * (j % 16))
+    sixteen j k same ne =
+        let a = div-add-mod' j 16 in
+        let b = div-add-mod' k 16 in
+        grind arith
+
+pub place-fits : (entry k : ℕ) → entry ≡ 64 → place_of entry k + entry ≤ 1024
+place-fits entry k e = rw e (let b = mod_below k 16 (omega arith) in omega (arith, b))
+
+-- a block of a map was put, in which one row was written
+module _ (lot : LotView) (entry : ℕ) (m0 m1 m2 : ℕ → List ℕ) (x y : Inode) (c d k at : ℕ) (old new : List ℕ) (row : Row) (sixty : entry ≡ 64) (reached : Reached lot m0 m1 x y c (k / per_block entry) at) (few : length lot.groups ≤ 64)
+    (wide : max c (k / per_block entry + 1) ≡ d) (had : k / per_block entry < c → old ≡ content_of m0 x (k / per_block entry)) (long : length old ≡ 1024) (now_long : length new ≡ 1024) (beside : SameBeside (place_of entry k) entry old new)
+    (here : row_at entry new (place_of entry k) ≡ row) (put : m2 at ≡ new) (only : (b : ℕ) → b ≢ at → m2 b ≡ m1 b) where
+  moved-one : Moved lot m0 m1 x y c d
+  moved-one = subst (λ n. Moved lot m0 m1 x y c n) wide reached.moved
+
+  block-inside : k / per_block entry < d
+  block-inside = omega arith
+
+  content-here : content_of m2 y (k / per_block entry) ≡ new
+  content-here = put-here lot m1 m2 y d (k / per_block entry) at moved-one.made few block-inside reached.here only ∙ put
+
+  content-other : (n : ℕ) → n < c → n ≢ k / per_block entry → content_of m2 y n ≡ content_of m0 x n
+  content-other n h ne = put-others lot m1 m2 y d (k / per_block entry) at moved-one.made few block-inside reached.here only n (omega arith) ne ∙ reached.contents n h
+
+  row-other : (j : ℕ) → j / per_block entry < c → j ≢ k → row_of entry m2 y j ≡ row_of entry m0 x j
+  row-other j h ne =
+      elim (j / per_block entry == k / per_block entry) as (λ t. (j / per_block entry == k / per_block entry) ≡ t → row_of entry m2 y j ≡ row_of entry m0 x j) [
+        | true ↦ λ t. let e : j / per_block entry ≡ k / per_block entry = grind (arith, nat_tests) in
+            let inside : k / per_block entry < c = omega arith in
+            let fit = place-fits entry j sixty in
+            ap (λ n. row_at entry (content_of m2 y n) (place_of entry j)) e
+            ∙ ap (λ (b : List ℕ). row_at entry b (place_of entry j)) content-here
+            ∙ row-same entry old new (place_of entry j) (place_of entry j) (omega arith) (omega arith) (λ i l. beside (place_of entry j + i) (⊎_elim (λ q. inl (omega arith)) (λ q. inr (omega arith)) (rows-apart entry j k sixty e ne)))
+            ∙ ap (λ (b : List ℕ). row_at entry b (place_of entry j)) (had inside)
+            ∙ ap (λ n. row_at entry (content_of m0 x n) (place_of entry j)) (sym e)
+        | false ↦ λ t. let ne' : j / per_block entry ≢ k / per_block entry = grind (arith, nat_tests) in
+            ap (λ (b : List ℕ). row_at entry b (place_of entry j)) (content-other (j / per_block entry) h ne')
+      ] refl
+
+  pub row-put : RowPut lot entry m0 m2 x y c d k row
+  row-put = record {
+    moved = moved-then lot m0 m1 m2 x y y c d d moved-one (put-moved lot m1 m2 y d (k / per_block entry) at moved-one.made few block-inside reached.here only);
+    here = ap (λ (b : List ℕ). row_at entry b (place_of entry k)) content-here ∙ here;
+    others = row-other;
+  }
+
+-- the rows of a directory to which one was added
+pub rows-added : (lot : LotView) (entry : ℕ) (m0 m1 m2 : ℕ → List ℕ) (x y z : Inode) (number : ℕ) (row : Row) → entry ≡ 64 → RowPut lot entry m0 m1 x y (dir_blocks entry x.size) (dir_blocks entry (x.size + 1)) x.size row
+    → inode_of m0 number ≡ x → inode_of m2 number ≡ z → x.kind ≡ 2 → z.kind ≡ 2 → z.size ≡ x.size + 1 → ((n : ℕ) → n < dir_blocks entry (x.size + 1) → content_of m2 z n ≡ content_of m1 y n)
+    → rows_of entry m2 number ≡ rows_of entry m0 number ++ row ∷ []
+rows-added lot entry m0 m1 m2 x y z number row e put before after kx kz more same =
+    let row-now : (j : ℕ) → j < x.size + 1 → row_of entry m2 z j ≡ row_of entry m1 y j = (λ j h. ap (λ (b : List ℕ). row_at entry b (place_of entry j)) (same (j / per_block entry) (row-inside entry (x.size + 1) j e h))) in
+    rows-all entry m2 number e (ap (λ (i : Inode). i.kind) after ∙ kz)
+    ∙ ap (λ (i : Inode). map (row_of entry m2 i) (range_with_len 0 i.size)) after
+    ∙ ap (λ n. map (row_of entry m2 z) (range_with_len 0 n)) more
+    ∙ map-range_with_len_more (row_of entry m2 z) 0 x.size x.size (omega arith)
+    ∙ ap (λ r. map (row_of entry m2 z) (range_with_len 0 x.size) ++ r ∷ []) (row-now x.size (omega arith) ∙ put.here)
+    ∙ ap (λ (rs : List Row). rs ++ row ∷ []) (map-same (row_of entry m2 z) (row_of entry m0 x) 0 x.size (λ j l h. row-now j (omega arith) ∙ put.others j (row-inside entry x.size j e (omega arith)) (λ q. omega arith))
+    ∙ ap (λ (i : Inode). map (row_of entry m0 i) (range_with_len 0 i.size)) (sym before)
+    ∙ sym (rows-all entry m0 number e (ap (λ (i : Inode). i.kind) before ∙ kx)))
+
+dir-map : (entry : ℕ) (x : Inode) → x.kind ≡ 2 → map_length entry x ≡ dir_blocks entry x.size
+dir-map entry x k = rw k refl
+
+-- a directory to which a row was added and which was then put
+pub dir-added : (lot : LotView) (entry : ℕ) (m0 m1 m2 : ℕ → List ℕ) (x y : Inode) (number : ℕ) (row : Row) → entry ≡ 64 → IsDirectory lot x → x.size + 1 < 64 * length lot.groups → inode_of m0 number ≡ x
+    → RowPut lot entry m0 m1 x y (dir_blocks entry x.size) (dir_blocks entry (x.size + 1)) x.size row → InodeSet m1 m2 number (resized y (y.size + 1))
+    → ((b : ℕ) → b ≢ inode_address number → m2 b ≡ m1 b) → DirSet lot entry m0 m2 number (rows_of entry m0 number ++ row ∷ [])
+dir-added lot entry m0 m1 m2 x y number row e is room before put set only =
+    let kz : y.kind ≡ 2 = put.moved.kind ∙ is.kind in
+    let sz : y.size + 1 ≡ x.size + 1 = ap (λ n. n + 1) put.moved.size in
+    record {
+      rows = rows-added lot entry m0 m1 m2 x y (resized y (y.size + 1)) number row e put before set.value is.kind kz sz (set-content lot m1 m2 y (y.size + 1) (dir_blocks entry (x.size + 1)) number put.moved.made only);
+      is = rw set.value (record { kind = kz; few = omega arith });
+      set = own-set lot m0 m1 m2 x y (dir_blocks entry x.size) (dir_blocks entry (x.size + 1)) (y.size + 1) entry number before (dir-map entry x is.kind) put.moved set (dir-map entry (resized y (y.size + 1)) kz ∙ ap (dir_blocks entry) sz) only;
+    }
+
+pub made-dir : (lot : LotView) (entry : ℕ) (m : ℕ → List ℕ) (number : ℕ) (x : Inode) → inode_of m number ≡ x → x.kind ≡ 2 → WellMade lot entry m number → MadeOf lot m x (dir_blocks entry x.size)
+made-dir lot entry m number x before kind made = subst (λ n. MadeOf lot m x n) (dir-map entry x kind) (subst (λ i. MadeOf lot m i (map_length entry i)) before made)
+
+abbrev no_row : Row
+no_row = ([], 0)
+
+-- a list from which one element was taken
+length-taken : (rows : List Row) (k : ℕ) → length (swap_remove rows k no_row) ≡ length rows - 1
+length-taken rows k =
+    let s = length-set rows k (slice_index_or rows (length rows - 1) no_row) in
+    let t = length-take (length rows - 1) (slice_set rows k (slice_index_or rows (length rows - 1) no_row)) in
+    omega arith
+
+taken-here : (rows : List Row) (k : ℕ) → k < length rows - 1 → get_or (swap_remove rows k no_row) k no_row ≡ get_or rows (length rows - 1) no_row
+taken-here rows k h =
+    get_or-take (length rows - 1) (slice_set rows k (slice_index_or rows (length rows - 1) no_row)) k no_row h
+    ∙ get_or-set_same rows k (slice_index_or rows (length rows - 1) no_row) no_row (omega arith)
+
+taken-other : (rows : List Row) (k j : ℕ) → j < length rows - 1 → j ≢ k → get_or (swap_remove rows k no_row) j no_row ≡ get_or rows j no_row
+taken-other rows k j h ne =
+    get_or-take (length rows - 1) (slice_set rows k (slice_index_or rows (length rows - 1) no_row)) j no_row h
+    ∙ get_or-set_other rows k j (slice_index_or rows (length rows - 1) no_row) no_row ne
+
+-- the rows of a directory from which one was taken
+swapped : (row new : ℕ → Row) (n k : ℕ) → k < n → new k ≡ row (n - 1) → ((j : ℕ) → j < n - 1 → j ≢ k → new j ≡ row j) → map new (range_with_len 0 (n - 1)) ≡ swap_remove (map row (range_with_len 0 n)) k ([], 0)
+swapped row new n k h here others =
+    let l : length (map row (range_with_len 0 n)) ≡ n = length-map-range_with_len row 0 n in
+    let l' = length-map-range_with_len new 0 (n - 1) in
+    let t = length-taken (map row (range_with_len 0 n)) k in
+    ext_get_or no_row (map new (range_with_len 0 (n - 1))) (swap_remove (map row (range_with_len 0 n)) k no_row) (omega arith) (λ j m.
+    get_or-map-range_with_len new 0 (n - 1) j j no_row (omega arith) (omega arith)
+    ∙ elim (j == k) as (λ t. (j == k) ≡ t → new j ≡ get_or (swap_remove (map row (range_with_len 0 n)) k no_row) j no_row) [
+      | true ↦ λ t. let same : j ≡ k = grind (arith, nat_tests) in
+          ap new same ∙ here
+          ∙ sym (ap (λ i. get_or (swap_remove (map row (range_with_len 0 n)) k no_row) i no_row) same
+          ∙ taken-here (map row (range_with_len 0 n)) k (omega arith)
+          ∙ get_or-map-range_with_len row 0 n (length (map row (range_with_len 0 n)) - 1) (n - 1) no_row (omega arith) (omega arith))
+      | false ↦ λ t. let ne : j ≢ k = grind (arith, nat_tests) in
+          others j (omega arith) ne
+          ∙ sym (taken-other (map row (range_with_len 0 n)) k j (omega arith) ne ∙ get_or-map-range_with_len row 0 n j j no_row (omega arith) (omega arith))
+    ] refl)
+
+-- a directory whose last row was moved to row k, which was then cut by one row and put
+pub dir-taken : (lot : LotView) (entry : ℕ) (m0 m1 m2 m3 : ℕ → List ℕ) (x y : Inode) (number k : ℕ) → entry ≡ 64 → IsDirectory lot x → k < x.size → inode_of m0 number ≡ x
+    → RowPut lot entry m0 m1 x x (dir_blocks entry x.size) (dir_blocks entry x.size) k (row_of entry m0 x (x.size - 1))
+    → Moved lot m1 m2 x y (dir_blocks entry x.size) (dir_blocks entry (x.size - 1)) → ((n : ℕ) → n < dir_blocks entry (x.size - 1) → content_of m2 y n ≡ content_of m1 x n)
+    → InodeSet m2 m3 number (resized y (x.size - 1)) → ((b : ℕ) → b ≢ inode_address number → m3 b ≡ m2 b) → DirSet lot entry m0 m3 number (swap_remove (rows_of entry m0 number) k ([], 0))
+dir-taken lot entry m0 m1 m2 m3 x y number k e is below before put moved contents set only =
+    let kz : y.kind ≡ 2 = moved.kind ∙ is.kind in
+    let few = is.few in
+    let all = moved-then lot m0 m1 m2 x x y (dir_blocks entry x.size) (dir_blocks entry x.size) (dir_blocks entry (x.size - 1)) put.moved moved in
+    let same = set-content lot m2 m3 y (x.size - 1) (dir_blocks entry (x.size - 1)) number moved.made only in
+    let row-now : (j : ℕ) → j < x.size - 1 → row_of entry m3 (resized y (x.size - 1)) j ≡ row_of entry m1 x j = (λ j h.
+    let n : j / per_block entry < dir_blocks entry (x.size - 1) = row-inside entry (x.size - 1) j e h in
+    ap (λ (b : List ℕ). row_at entry b (place_of entry j)) (same (j / per_block entry) n ∙ contents (j / per_block entry) n)) in
+    let k0 : (inode_of m0 number).kind ≡ 2 = ap (λ (i : Inode). i.kind) before ∙ is.kind in
+    let now : rows_of entry m3 number ≡ map (row_of entry m3 (resized y (x.size - 1))) (range_with_len 0 (x.size - 1)) =
+    rows-all entry m3 number e (ap (λ (i : Inode). i.kind) set.value ∙ kz) ∙ ap (λ (i : Inode). map (row_of entry m3 i) (range_with_len 0 i.size)) set.value in
+    let old : rows_of entry m0 number ≡ map (row_of entry m0 x) (range_with_len 0 x.size) = rows-all entry m0 number e k0 ∙ ap (λ (i : Inode). map (row_of entry m0 i) (range_with_len 0 i.size)) before in
+    record {
+      rows = now ∙ map-same (row_of entry m3 (resized y (x.size - 1))) (row_of entry m1 x) 0 (x.size - 1) (λ j l h. row-now j (omega arith))
+          ∙ swapped (row_of entry m0 x) (row_of entry m1 x) x.size k below put.here (λ j h ne. put.others j (row-inside entry x.size j e (omega arith)) ne)
+          ∙ ap (λ (rs : List Row). swap_remove rs k ([], 0)) (sym old);
+      is = rw set.value (record { kind = kz; few = omega arith });
+      set = own-set lot m0 m2 m3 x y (dir_blocks entry x.size) (dir_blocks entry (x.size - 1)) (x.size - 1) entry number before (dir-map entry x is.kind) all set (dir-map entry (resized y (x.size - 1)) kz) only;
+    }

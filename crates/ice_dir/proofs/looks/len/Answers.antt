@@ -1,0 +1,7 @@
+use Rattle.std.proofs.Common.{◌∙◌, ap, sym}
+use Rattle.ice_map.specs.declared.codec.Inode.{Inode}
+use Rattle.ice_dir.proofs.DirLaws.{length-rows}
+use Rattle.ice_dir.proofs.looks.len.Goals as goal
+
+pub returns-clause-rows : goal.returns-clause-rows
+returns-clause-rows g c = λ s. ap (λ (i : Inode). i.size) (c.in_ok-dir_inode.ensures.value s) ∙ sym (length-rows g.F.Form.ENTRY (g.V.View.map c.args.view.now c.args.disk.now c.args.lot.now) c.args.number)

@@ -1,0 +1,29 @@
+-- Changes of directories.
+use Rattle.std.specs.Prelude.{◌≡◌, ◌≢◌, ◌<◌, ℕ, ◌+◌, ◌*◌, ◌/◌, List, length}
+use Rattle.ice_base.specs.Lots.{LotView}
+use Rattle.ice_map.specs.declared.codec.Inode.{Inode}
+use Rattle.ice_map.specs.Inodes.{inode_of}
+use Rattle.ice_file.specs.Own.{OwnSet, blocks_for}
+use Rattle.ice_file.specs.Writes.{Moved}
+use Rattle.ice_dir.specs.Rows.{Row, per_block, row_of, rows_of, IsDirectory}
+
+-- how many blocks a directory of so many entries has
+abbrev pub dir_blocks : ℕ → ℕ → ℕ
+dir_blocks entry size = blocks_for (entry * size)
+
+-- an inode is a directory that can have one entry more
+pub record HasRoom (lot : LotView) (inode : Inode) : Type 0 where
+  pub is : IsDirectory lot inode
+  pub room : inode.size + 1 < 64 * length lot.groups
+
+-- A directory's rows were set: its map is well made, the marks follow what it uses, and every other inode is as it was and says what it said.
+pub record DirSet (lot : LotView) (entry : ℕ) (old new : ℕ → List ℕ) (number : ℕ) (now : List Row) : Type 0 where
+  pub rows : rows_of entry new number ≡ now
+  pub is : IsDirectory lot (inode_of new number)
+  pub set : OwnSet lot entry old new number
+
+-- Row k was written where a map of c blocks became one of d, and every other row of the c blocks stays.
+pub record RowPut (lot : LotView) (entry : ℕ) (m0 m1 : ℕ → List ℕ) (x y : Inode) (c d k : ℕ) (row : Row) : Type 0 where
+  pub moved : Moved lot m0 m1 x y c d
+  pub here : row_of entry m1 y k ≡ row
+  pub others : (j : ℕ) → j / per_block entry < c → j ≢ k → row_of entry m1 y j ≡ row_of entry m0 x j

@@ -1,0 +1,137 @@
+//! Entries that are added.
+ghost use Rattle.std.specs.Prelude.{◌≡◌, ◌≤◌, ◌<◌, ◌*◌, ◌+◌, ◌/◌, ◌^◌, ◌++◌, true, false, [], ◌∷◌, OnOk, OnErr, IfOk, IfErr, IsErrOf, length};
+ghost use Rattle.ice_base.specs.Disk.{Rose};
+ghost use Rattle.ice_base.specs.Lots.{is_sited};
+ghost use Rattle.ice_base.specs.Used.{is_data, counted, free_count, Reserved};
+ghost use Rattle.ice_base.specs.Views.{Looked, Spent};
+ghost use Rattle.ice_base.specs.declared.fault.OpFault.TheVariants.{Disk as FaultDisk, Damaged, NoSpace};
+ghost use Rattle.ice_base.specs.declared.fault.Rule.TheVariants.{Counts, Kind, Pointer, Bitmap};
+ghost use Rattle.ice_map.specs.Faults.{IsGrowFault};
+ghost use Rattle.ice_map.specs.Inodes.{inode_of};
+ghost use Rattle.ice_map.specs.Maps.{longest, needs};
+ghost use Rattle.ice_file.specs.Own.{MadeOf, WellMade};
+ghost use Rattle.ice_file.specs.Writes.{Reached, content_of, uses_of};
+ghost use Rattle.ice_dir.specs.Changes.{dir_blocks, HasRoom, DirSet, RowPut};
+ghost use Rattle.ice_dir.specs.Faults.{IsAddFault};
+ghost use Rattle.ice_dir.specs.Rows.{rows_of};
+
+use crate::looks::{dir_inode, read_block};
+use crate::rows::{blocks_for_rows, row_place, rows_per_block, write_row};
+use ice_base::{Block, Disk, Form, Keep, Lot, OpFault, Pool, Rule, store};
+use ice_map::{Inode, extend, put_inode};
+use tree_spec::Name;
+
+/// Block `k` of a map of `count` blocks with what it holds, or a new one where the map ends there: then `into` stays.
+fn open_block<D: Disk, K: Keep<D>, P: Pool<D, K>, F: Form>(
+    keep: &mut K,
+    pool: &mut P,
+    disk: &mut D,
+    lot: &Lot,
+    inode: &mut Inode,
+    count: u32,
+    k: u32,
+    into: &mut Block,
+) -> Result<u32, OpFault>
+    requires sited { is_sited lot.now (D.state disk.old).size ≡ true }
+    requires room { 6 ≤ K.room keep.old }
+    requires order { k ≤ count }
+    requires short { k < longest }
+    ensures reached { K.shows lot.now keep.old disk.old → MadeOf lot.now (K.map keep.old disk.old lot.now) inode.old count → IfOk result (Reached lot.now (K.map keep.old disk.old lot.now) (K.map keep.new disk.new lot.now) inode.old inode.new count k) }
+    ensures content { K.shows lot.now keep.old disk.old → k < count → OnOk result (into.new ≡ content_of (K.map keep.old disk.old lot.now) inode.old k) }
+    ensures fresh { k ≡ count → OnOk result (into.new ≡ into.old) }
+    ensures data { IfOk result (λ a. is_data lot.now a ≡ true) }
+    ensures kind { OnOk result (inode.new.kind ≡ inode.old.kind) }
+    ensures size { OnOk result (inode.new.size ≡ inode.old.size) }
+    ensures spent { Spent D.Disk K.View lot.now 6 keep.old disk.old keep.new disk.new }
+    ensures none { IsErrOf result NoSpace → K.shows lot.now keep.old disk.old → (k ≡ count) × (free_count false lot.now (K.map keep.old disk.old lot.now) < needs count) }
+    ensures full { IsErrOf result (Damaged Counts) → K.shows lot.now keep.old disk.old → (k ≡ count) × (2 ^ 32 ≤ counted false (K.map keep.old disk.old lot.now) + needs count) }
+    ensures unreserved { IsErrOf result (Damaged Bitmap) → K.shows lot.now keep.old disk.old → ¬ Reserved lot.now (K.map keep.old disk.old lot.now) }
+    ensures pointer { IsErrOf result (Damaged Pointer) → K.shows lot.now keep.old disk.old → ¬ MadeOf lot.now (K.map keep.old disk.old lot.now) inode.old count }
+    ensures looked { IsErrOf result NoSpace → Looked D.Disk K.View lot.now keep.old disk.old keep.new disk.new }
+    ensures faults { IfErr result IsGrowFault }
+    ensures failed { IsErrOf result FaultDisk → Rose (D.state disk.old).faults (D.state disk.new).faults }
+{
+    if k < count {
+        let at = read_block::<D, K, F>(keep, disk, lot, inode, k, into)?;
+        return Ok(at);
+    }
+    let taken = extend::<D, K, P, F>(keep, pool, disk, lot, inode, count)?;
+    Ok(taken)
+}
+
+/// Writes an entry behind the last of a directory, in a new block where the last one is full. The inode is the caller's to put.
+#[tactic(auto, using(ice_base::proofs::LotLaws::address_laws, ice_base::proofs::UsedLaws::group_laws))]
+fn append<D: Disk, K: Keep<D>, P: Pool<D, K>, F: Form>(
+    keep: &mut K,
+    pool: &mut P,
+    disk: &mut D,
+    lot: &Lot,
+    dir: &mut Inode,
+    name: &[u8],
+    inode: u32,
+) -> Result<(), OpFault>
+    requires sited { is_sited lot.now (D.state disk.old).size ≡ true }
+    requires room { 7 ≤ K.room keep.old }
+    requires short { dir.old.size < 4096 }
+    requires fits { length name.now ≤ F.NAME }
+    ensures put { K.shows lot.now keep.old disk.old → MadeOf lot.now (K.map keep.old disk.old lot.now) dir.old (dir_blocks F.ENTRY dir.old.size) → OnOk result (RowPut lot.now F.ENTRY (K.map keep.old disk.old lot.now) (K.map keep.new disk.new lot.now) dir.old dir.new (dir_blocks F.ENTRY dir.old.size) (dir_blocks F.ENTRY (dir.old.size + 1)) dir.old.size (name.now, inode)) }
+    ensures kind { OnOk result (dir.new.kind ≡ dir.old.kind) }
+    ensures size { OnOk result (dir.new.size ≡ dir.old.size) }
+    ensures spent { Spent D.Disk K.View lot.now 7 keep.old disk.old keep.new disk.new }
+    ensures none { IsErrOf result NoSpace → K.shows lot.now keep.old disk.old → free_count false lot.now (K.map keep.old disk.old lot.now) + uses_of (dir_blocks F.ENTRY dir.old.size) < uses_of (dir_blocks F.ENTRY (dir.old.size + 1)) }
+    ensures full { IsErrOf result (Damaged Counts) → K.shows lot.now keep.old disk.old → 2 ^ 32 + uses_of (dir_blocks F.ENTRY dir.old.size) ≤ counted false (K.map keep.old disk.old lot.now) + uses_of (dir_blocks F.ENTRY (dir.old.size + 1)) }
+    ensures unreserved { IsErrOf result (Damaged Bitmap) → K.shows lot.now keep.old disk.old → ¬ Reserved lot.now (K.map keep.old disk.old lot.now) }
+    ensures pointer { IsErrOf result (Damaged Pointer) → K.shows lot.now keep.old disk.old → ¬ MadeOf lot.now (K.map keep.old disk.old lot.now) dir.old (dir_blocks F.ENTRY dir.old.size) }
+    ensures looked { IsErrOf result NoSpace → Looked D.Disk K.View lot.now keep.old disk.old keep.new disk.new }
+    ensures faults { IfErr result IsGrowFault }
+    ensures failed { IsErrOf result FaultDisk → Rose (D.state disk.old).faults (D.state disk.new).faults }
+{
+    let mut block = [0; 1024];
+    let count = blocks_for_rows::<F>(dir.size);
+    let k = dir.size / rows_per_block::<F>();
+    let place = row_place::<F>(dir.size);
+    let at = open_block::<D, K, P, F>(keep, pool, disk, lot, dir, count, k, &mut block)?;
+    write_row::<F>(&mut block, place, name, inode);
+    store(keep, disk, lot, at, &block)?;
+    Ok(())
+}
+
+/// Adds an entry at the end of a directory, which has none of this name.
+/// NoSpace: the directory's new block, with its indirect block, needs more blocks than are free.
+/// Damaged: the inode is no directory that can have one entry more, its map is not well made, the count of used blocks can't grow so far, or the least free block is no data place.
+pub fn add<D: Disk, K: Keep<D>, P: Pool<D, K>, F: Form>(
+    keep: &mut K,
+    pool: &mut P,
+    disk: &mut D,
+    lot: &Lot,
+    number: u32,
+    name: &Name,
+    inode: u32,
+) -> Result<(), OpFault>
+    requires sited { is_sited lot.now (D.state disk.old).size ≡ true }
+    requires number { number < 64 * length lot.now.groups }
+    requires inode { inode < 64 * length lot.now.groups }
+    requires fits { length name.now ≤ F.NAME }
+    requires room { 8 ≤ K.room keep.old }
+    ensures added { K.shows lot.now keep.old disk.old → WellMade lot.now F.ENTRY (K.map keep.old disk.old lot.now) number → OnOk result (DirSet lot.now F.ENTRY (K.map keep.old disk.old lot.now) (K.map keep.new disk.new lot.now) number (rows_of F.ENTRY (K.map keep.old disk.old lot.now) number ++ (name.now, inode) ∷ [])) }
+    ensures is { K.shows lot.now keep.old disk.old → OnOk result (HasRoom lot.now (inode_of (K.map keep.old disk.old lot.now) number)) }
+    ensures spent { Spent D.Disk K.View lot.now 8 keep.old disk.old keep.new disk.new }
+    ensures none { IsErrOf result NoSpace → K.shows lot.now keep.old disk.old → free_count false lot.now (K.map keep.old disk.old lot.now) + uses_of (dir_blocks F.ENTRY (inode_of (K.map keep.old disk.old lot.now) number).size) < uses_of (dir_blocks F.ENTRY ((inode_of (K.map keep.old disk.old lot.now) number).size + 1)) }
+    ensures full { IsErrOf result (Damaged Counts) → K.shows lot.now keep.old disk.old → 2 ^ 32 + uses_of (dir_blocks F.ENTRY (inode_of (K.map keep.old disk.old lot.now) number).size) ≤ counted false (K.map keep.old disk.old lot.now) + uses_of (dir_blocks F.ENTRY ((inode_of (K.map keep.old disk.old lot.now) number).size + 1)) }
+    ensures kind { IsErrOf result (Damaged Kind) → K.shows lot.now keep.old disk.old → ¬ HasRoom lot.now (inode_of (K.map keep.old disk.old lot.now) number) }
+    ensures unreserved { IsErrOf result (Damaged Bitmap) → K.shows lot.now keep.old disk.old → ¬ Reserved lot.now (K.map keep.old disk.old lot.now) }
+    ensures pointer { IsErrOf result (Damaged Pointer) → K.shows lot.now keep.old disk.old → ¬ WellMade lot.now F.ENTRY (K.map keep.old disk.old lot.now) number }
+    ensures looked { IsErrOf result NoSpace → Looked D.Disk K.View lot.now keep.old disk.old keep.new disk.new }
+    ensures unchanged { IsErrOf result (Damaged Kind) → Looked D.Disk K.View lot.now keep.old disk.old keep.new disk.new }
+    ensures faults { IfErr result IsAddFault }
+    ensures failed { IsErrOf result FaultDisk → Rose (D.state disk.old).faults (D.state disk.new).faults }
+{
+    let mut dir = dir_inode::<D, K, F>(keep, disk, lot, number)?;
+    if dir.size + 1 >= 64 * lot.len() as u32 {
+        return Err(OpFault::Damaged(Rule::Kind));
+    }
+    append::<D, K, P, F>(keep, pool, disk, lot, &mut dir, name.bytes(), inode)?;
+    dir.size += 1;
+    put_inode::<D, K, P, F>(keep, pool, disk, lot, number, &dir)?;
+    Ok(())
+}

@@ -1,0 +1,11 @@
+//! Directories as lists of rows: a name and the inode that it names.
+#![tactic(auto)]
+
+mod adds;
+mod looks;
+mod rows;
+mod takes;
+
+pub use adds::add;
+pub use looks::{entry, find, len};
+pub use takes::take;

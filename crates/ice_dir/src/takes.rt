@@ -1,0 +1,125 @@
+//! Entries that are taken.
+ghost use Rattle.std.specs.Prelude.{◌≡◌, ◌≤◌, ◌<◌, ◌*◌, ◌+◌, ◌-◌, ◌/◌, ℕ, true, false, [], IsSome, IsNone, OnOk, OnErr, IfOk, IfErr, IsErrOf, length};
+ghost use Rattle.std.specs.List.{swap_remove};
+ghost use Rattle.ice_base.specs.Disk.{Rose};
+ghost use Rattle.ice_base.specs.Lots.{is_sited, sub_address};
+ghost use Rattle.ice_base.specs.Used.{counted};
+ghost use Rattle.ice_base.specs.Views.{Looked, Spent};
+ghost use Rattle.ice_base.specs.declared.fault.OpFault.TheVariants.{Disk as FaultDisk, Damaged};
+ghost use Rattle.ice_base.specs.declared.fault.Rule.TheVariants.{Counts, Kind, Pointer, Bitmap};
+ghost use Rattle.ice_map.specs.Faults.{IsLookFault, IsCutFault};
+ghost use Rattle.ice_map.specs.Inodes.{inode_of};
+ghost use Rattle.ice_file.specs.Own.{MadeOf, WellMade};
+ghost use Rattle.ice_file.specs.Writes.{uses_of};
+ghost use Rattle.ice_dir.specs.Changes.{dir_blocks, DirSet, RowPut};
+ghost use Rattle.ice_dir.specs.Faults.{IsTakeFault};
+ghost use Rattle.ice_dir.specs.Rows.{row_of, rows_of, look_up, without, IsDirectory};
+
+use crate::looks::{dir_inode, read_block, seek};
+use crate::rows::{blocks_for_rows, copy_row, row_place, rows_per_block};
+use ice_base::{Disk, Form, Keep, Lot, OpFault, Pool, store};
+use ice_map::{Inode, cut, put_inode};
+use tree_spec::Name;
+
+/// Copies the last entry of a directory over entry `k`.
+#[tactic(auto, using(ice_base::proofs::LotLaws::address_laws, ice_base::proofs::UsedLaws::group_laws))]
+fn move_last<D: Disk, K: Keep<D>, F: Form>(
+    keep: &mut K,
+    disk: &mut D,
+    lot: &Lot,
+    dir: &Inode,
+    k: u32,
+) -> Result<(), OpFault>
+    requires sited { is_sited lot.now (D.state disk.old).size ≡ true }
+    requires room { 1 ≤ K.room keep.old }
+    requires short { dir.now.size ≤ 4096 }
+    requires below { k < dir.now.size }
+    ensures put { K.shows lot.now keep.old disk.old → MadeOf lot.now (K.map keep.old disk.old lot.now) dir.now (dir_blocks F.ENTRY dir.now.size) → OnOk result (RowPut lot.now F.ENTRY (K.map keep.old disk.old lot.now) (K.map keep.new disk.new lot.now) dir.now dir.now (dir_blocks F.ENTRY dir.now.size) (dir_blocks F.ENTRY dir.now.size) k (row_of F.ENTRY (K.map keep.old disk.old lot.now) dir.now (dir.now.size - 1))) }
+    ensures counts { K.map keep.new disk.new lot.now sub_address ≡ K.map keep.old disk.old lot.now sub_address }
+    ensures spent { Spent D.Disk K.View lot.now 1 keep.old disk.old keep.new disk.new }
+    ensures pointer { IsErrOf result (Damaged Pointer) → K.shows lot.now keep.old disk.old → ¬ MadeOf lot.now (K.map keep.old disk.old lot.now) dir.now (dir_blocks F.ENTRY dir.now.size) }
+    ensures faults { IfErr result IsLookFault }
+    ensures failed { IsErrOf result FaultDisk → Rose (D.state disk.old).faults (D.state disk.new).faults }
+{
+    let per_block = rows_per_block::<F>();
+    let last = dir.size - 1;
+    let mut from = [0; 1024];
+    read_block::<D, K, F>(keep, disk, lot, dir, last / per_block, &mut from)?;
+    let mut into = [0; 1024];
+    let at = read_block::<D, K, F>(keep, disk, lot, dir, k / per_block, &mut into)?;
+    copy_row::<F>(&from, row_place::<F>(last), &mut into, row_place::<F>(k));
+    store(keep, disk, lot, at, &into)?;
+    Ok(())
+}
+
+/// Takes entry `k` from the directory of an inode: the last entry moves into the gap, and a block that becomes empty is given back.
+fn remove_row<D: Disk, K: Keep<D>, P: Pool<D, K>, F: Form>(
+    keep: &mut K,
+    pool: &mut P,
+    disk: &mut D,
+    lot: &Lot,
+    number: u32,
+    dir: Inode,
+    k: u32,
+) -> Result<(), OpFault>
+    requires sited { is_sited lot.now (D.state disk.old).size ≡ true }
+    requires number { number < 64 * length lot.now.groups }
+    requires room { 8 ≤ K.room keep.old }
+    requires is { IsDirectory lot.now dir }
+    requires below { k < dir.size }
+    ensures removed { K.shows lot.now keep.old disk.old → inode_of (K.map keep.old disk.old lot.now) number ≡ dir → WellMade lot.now F.ENTRY (K.map keep.old disk.old lot.now) number → OnOk result (DirSet lot.now F.ENTRY (K.map keep.old disk.old lot.now) (K.map keep.new disk.new lot.now) number (swap_remove (rows_of F.ENTRY (K.map keep.old disk.old lot.now) number) k ([], 0))) }
+    ensures spent { Spent D.Disk K.View lot.now 8 keep.old disk.old keep.new disk.new }
+    ensures zero { IsErrOf result (Damaged Counts) → K.shows lot.now keep.old disk.old → counted false (K.map keep.old disk.old lot.now) + uses_of (dir_blocks F.ENTRY (dir.size - 1)) < uses_of (dir_blocks F.ENTRY dir.size) }
+    ensures unused { IsErrOf result (Damaged Bitmap) → K.shows lot.now keep.old disk.old → inode_of (K.map keep.old disk.old lot.now) number ≡ dir → ¬ WellMade lot.now F.ENTRY (K.map keep.old disk.old lot.now) number }
+    ensures pointer { IsErrOf result (Damaged Pointer) → K.shows lot.now keep.old disk.old → inode_of (K.map keep.old disk.old lot.now) number ≡ dir → ¬ WellMade lot.now F.ENTRY (K.map keep.old disk.old lot.now) number }
+    ensures faults { IfErr result IsCutFault }
+    ensures failed { IsErrOf result FaultDisk → Rose (D.state disk.old).faults (D.state disk.new).faults }
+{
+    let _groups = lot.len();
+    move_last::<D, K, F>(keep, disk, lot, &dir, k)?;
+    let last = dir.size - 1;
+    let count = blocks_for_rows::<F>(dir.size);
+    let rest = blocks_for_rows::<F>(last);
+    let mut shorter = dir;
+    cut::<D, K, P, F>(keep, pool, disk, lot, &mut shorter, count, rest)?;
+    shorter.size = last;
+    put_inode::<D, K, P, F>(keep, pool, disk, lot, number, &shorter)?;
+    Ok(())
+}
+
+/// Takes the entry of a name and answers its inode, None exactly where no entry has the name: then nothing is put.
+/// The last entry moves into the gap, and a block that becomes empty is given back.
+/// Damaged: the inode is no directory, its map is not well made, or the count of used blocks is too low.
+pub fn take<D: Disk, K: Keep<D>, P: Pool<D, K>, F: Form>(
+    keep: &mut K,
+    pool: &mut P,
+    disk: &mut D,
+    lot: &Lot,
+    number: u32,
+    name: &Name,
+) -> Result<Option<u32>, OpFault>
+    requires sited { is_sited lot.now (D.state disk.old).size ≡ true }
+    requires number { number < 64 * length lot.now.groups }
+    requires room { 8 ≤ K.room keep.old }
+    ensures found { K.shows lot.now keep.old disk.old → IfOk result (λ o. o ≡ look_up name.now (rows_of F.ENTRY (K.map keep.old disk.old lot.now) number)) }
+    ensures taken { K.shows lot.now keep.old disk.old → WellMade lot.now F.ENTRY (K.map keep.old disk.old lot.now) number → IfOk result (λ o. IsSome o → DirSet lot.now F.ENTRY (K.map keep.old disk.old lot.now) (K.map keep.new disk.new lot.now) number (without name.now (rows_of F.ENTRY (K.map keep.old disk.old lot.now) number))) }
+    ensures absent { IfOk result (λ o. IsNone o → Looked D.Disk K.View lot.now keep.old disk.old keep.new disk.new) }
+    ensures is { K.shows lot.now keep.old disk.old → OnOk result (IsDirectory lot.now (inode_of (K.map keep.old disk.old lot.now) number)) }
+    ensures spent { Spent D.Disk K.View lot.now 8 keep.old disk.old keep.new disk.new }
+    ensures zero { IsErrOf result (Damaged Counts) → K.shows lot.now keep.old disk.old → counted false (K.map keep.old disk.old lot.now) + uses_of (dir_blocks F.ENTRY ((inode_of (K.map keep.old disk.old lot.now) number).size - 1)) < uses_of (dir_blocks F.ENTRY (inode_of (K.map keep.old disk.old lot.now) number).size) }
+    ensures kind { IsErrOf result (Damaged Kind) → K.shows lot.now keep.old disk.old → ¬ IsDirectory lot.now (inode_of (K.map keep.old disk.old lot.now) number) }
+    ensures unused { IsErrOf result (Damaged Bitmap) → K.shows lot.now keep.old disk.old → ¬ WellMade lot.now F.ENTRY (K.map keep.old disk.old lot.now) number }
+    ensures pointer { IsErrOf result (Damaged Pointer) → K.shows lot.now keep.old disk.old → ¬ WellMade lot.now F.ENTRY (K.map keep.old disk.old lot.now) number }
+    ensures unchanged { IsErrOf result (Damaged Kind) → Looked D.Disk K.View lot.now keep.old disk.old keep.new disk.new }
+    ensures faults { IfErr result IsTakeFault }
+    ensures failed { IsErrOf result FaultDisk → Rose (D.state disk.old).faults (D.state disk.new).faults }
+{
+    let dir = dir_inode::<D, K, F>(keep, disk, lot, number)?;
+    match seek::<D, K, F>(keep, disk, lot, &dir, name.bytes())? {
+        None => Ok(None),
+        Some((k, inode)) => {
+            remove_row::<D, K, P, F>(keep, pool, disk, lot, number, dir, k)?;
+            Ok(Some(inode))
+        }
+    }
+}
