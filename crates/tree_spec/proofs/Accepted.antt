@@ -1,17 +1,14 @@
 -- What an accepted operation found in the tree, and what it costs.
-use Rattle.std.proofs.Common.{◌≡◌, ◌≢◌, ℕ, suc, ◌+◌, ◌*◌, ◌<◌, ◌≤◌, Bool, true, false, cond, T, List, [], ◌∷◌, ◌++◌, length, Some, None, Option, sym, refl, ap, ◌∙◌, subst, arith, length-append}
-use Rattle.std.specs.Prelude.{not, is_some, max, ◌&&◌, ◌||◌, nat_lt}
+use Rattle.std.proofs.Common.{◌≡◌, ℕ, ◌+◌, ◌≤◌, Bool, true, false, T, List, [], ◌∷◌, length, Some, None, Option, sym, refl, ap, ◌∙◌, subst, arith, length-append}
+use Rattle.std.specs.Prelude.{not, ◌&&◌, ◌||◌, nat_lt}
 use Rattle.std.proofs.lemmas.Bool.Decides.{nat_tests}
-use Rattle.std.specs.FinMap.{find, is_sorted}
+use Rattle.std.specs.FinMap.{find}
 use Rattle.tree_spec.specs.Why as why
-use Rattle.tree_spec.specs.Trees.{Tree, File, Dir, Entries, Nil, Entry, rows, by_bytes, found_or_not, walk, and_on, Walk, Found, NotFound, NotDir, at, with_entry, without, without_entry, parent, last_name, needs_dir, parent_walk, height, height_in, total, is_ordered, all_ordered}
+use Rattle.tree_spec.specs.Trees.{Tree, File, Dir, Entries, rows, by_bytes, found_or_not, walk, and_on, Walk, Found, NotFound, NotDir, parent, last_name, needs_dir}
 use Rattle.tree_spec.specs.Costs.{Form}
-use Rattle.tree_spec.specs.Routes.{is_prefix, is_same_path}
-use Rattle.tree_spec.specs.Operations.{Operation, Mkdir, Make, Write, Read, Trunc, Remove, Rename, ListDir, Stat}
-use Rattle.tree_spec.specs.Answers.{refusal, next, moved, deepest, is_root, is_found, is_not_found, is_not_dir, is_dir_found, is_full_found, tree_found, bytes_found, bytes_of, written}
-use Rattle.tree_spec.proofs.Trees.{walk-append, parent-last, outline, outline-without}
-use Rattle.tree_spec.proofs.Sums.{height-walk, height-at, height-with, height-without, total-at, total-with_at, total-without_at, length-without}
-use Rattle.tree_spec.proofs.Orders.{ordered-walk}
+use Rattle.tree_spec.specs.Operations.{Mkdir, Make, Write, Trunc, Remove}
+use Rattle.tree_spec.specs.Answers.{refusal, is_root, is_found, is_not_found, is_not_dir, is_dir_found, is_full_found, bytes_found}
+use Rattle.tree_spec.proofs.Trees.{walk-append, parent-last}
 use Rattle.tree_spec.proofs.Refusals.{refusal-none}
 
 abbrev Names : Type 0
@@ -162,9 +159,12 @@ module _ (t : Tree) (done n : ℕ) (f : Form) where
   accepted-write p off bytes h =
       let op = Write p off bytes in
       let w = file_walk (walk p t) (first_false _ _ (refusal-none t done n f op why.NotFound h)) (first_false _ _ (first_false _ _ (refusal-none t done n f op why.NotDir h))) (refusal-none t done n f op why.IsDir h) in
-      record { old = w.0; found = w.1;
+      record {
+        old = w.0;
+        found = w.1;
         within = at_most _ _ (ap (λ x. nat_lt (length (bytes_found x)) off) (sym w.1) ∙ refusal-none t done n f op why.BeyondEnd h);
-        small = at_most _ _ (refusal-none t done n f op why.FileBig h) }
+        small = at_most _ _ (refusal-none t done n f op why.FileBig h);
+      }
 
   -- a file at least as long as what stays of it
   pub record CutsFile (p : Names) (len : ℕ) : Type 0 where

@@ -1,14 +1,13 @@
 -- What an accepted change does to the height of the tree and to the sums over it.
-use Rattle.std.proofs.Common.{◌≡◌, ◌≢◌, ℕ, suc, ◌+◌, ◌*◌, ◌<◌, ◌≤◌, Bool, true, false, cond, T, List, [], ◌∷◌, ◌++◌, length, Some, None, Option, sym, refl, ap, ◌∙◌, subst, arith, length-append}
-use Rattle.std.specs.Prelude.{not, is_some, max, ◌&&◌, ◌||◌, nat_lt, take}
-use Rattle.std.proofs.lemmas.Bool.Decides.{nat_tests}
-use Rattle.std.specs.FinMap.{find, is_sorted}
+use Rattle.std.proofs.Common.{◌≡◌, ℕ, ◌+◌, ◌≤◌, Bool, true, false, cond, T, List, [], ◌∷◌, ◌++◌, length, None, sym, refl, ap, ◌∙◌, subst, arith}
+use Rattle.std.specs.Prelude.{max, ◌&&◌, ◌||◌, nat_lt, take}
+use Rattle.std.specs.FinMap.{is_sorted}
 use Rattle.tree_spec.specs.Why as why
-use Rattle.tree_spec.specs.Trees.{Tree, File, Dir, Entries, Nil, Entry, rows, by_bytes, walk, Walk, Found, NotFound, NotDir, at, with_entry, without, without_entry, parent, last_name, needs_dir, parent_walk, height, height_in, total, is_ordered, all_ordered}
+use Rattle.tree_spec.specs.Trees.{Tree, File, Dir, Entries, Nil, rows, by_bytes, walk, Walk, Found, NotFound, NotDir, at, with_entry, without, without_entry, parent, last_name, height, total, is_ordered, all_ordered}
 use Rattle.tree_spec.specs.Costs.{Form}
 use Rattle.tree_spec.specs.Routes.{is_prefix, is_same_name, is_same_path}
 use Rattle.tree_spec.specs.Operations.{Operation, Mkdir, Make, Write, Read, Trunc, Remove, Rename, ListDir, Stat}
-use Rattle.tree_spec.specs.Answers.{refusal, next, moved, deepest, is_root, is_found, is_not_found, is_not_dir, tree_found, bytes_of, written, tree_after}
+use Rattle.tree_spec.specs.Answers.{refusal, next, moved, deepest, is_root, is_found, tree_found, bytes_of, written}
 use Rattle.tree_spec.proofs.Trees.{parent-last, outline, outline-without}
 use Rattle.tree_spec.proofs.Sums.{height-walk, height-at, height-with, height-without, total-at, total-with_at, total-without_at, length-without}
 use Rattle.tree_spec.proofs.Orders.{ordered-walk}
@@ -38,7 +37,7 @@ height-removed p t v h =
 
 -- the sum gains what came, and the directory's own part moves by one entry
 pub total-placed : (file : List ℕ → ℕ) (dir : ℕ → ℕ) (p : Names) (s t : Tree) (h : HasPlace p t)
-  → total file dir (placed p s t) + dir (length (rows h.entries)) ≡ total file dir t + total file dir s + dir (length (rows h.entries) + 1)
+    → total file dir (placed p s t) + dir (length (rows h.entries)) ≡ total file dir t + total file dir s + dir (length (rows h.entries) + 1)
 total-placed file dir p s t h = total-with_at file dir (parent p) (last_name p) s t h.entries h.there h.free
 
 dir_sorted : (p : Names) (t : Tree) (es : Entries) → T (is_ordered t) → walk p t ≡ Found (Dir es) → T (is_sorted by_bytes (rows es))
@@ -54,7 +53,7 @@ length-removed p t v o h = length-without (last_name p) v h.entries (dir_sorted 
 
 -- the sum loses what went, and the directory's own part moves by one entry
 pub total-removed : (file : List ℕ → ℕ) (dir : ℕ → ℕ) (p : Names) (t v : Tree) → T (is_ordered t) → (h : HasEntry p t v)
-  → total file dir (removed p t) + total file dir v + dir (length (rows h.entries)) ≡ total file dir t + dir (length (rows (without (last_name p) h.entries)))
+    → total file dir (removed p t) + total file dir v + dir (length (rows h.entries)) ≡ total file dir t + dir (length (rows (without (last_name p) h.entries)))
 total-removed file dir p t v o h = total-without_at file dir (parent p) (last_name p) v t h.entries h.there (dir_sorted (parent p) t h.entries o h.there) h.found
 
 -- ---- a file that gets other bytes
@@ -64,7 +63,7 @@ height-file p g t s h = omega (arith, height-at p (λ u. File (g u)) t s h, heig
 
 -- the sum moves as the file's part moves
 pub total-file : (file : List ℕ → ℕ) (dir : ℕ → ℕ) (p : Names) (g : Tree → List ℕ) (t : Tree) (bytes : List ℕ) → walk p t ≡ Found (File bytes)
-  → total file dir (at p (λ u. File (g u)) t) + file bytes ≡ total file dir t + file (g (File bytes))
+    → total file dir (at p (λ u. File (g u)) t) + file bytes ≡ total file dir t + file (g (File bytes))
 total-file file dir p g t bytes h = omega (arith, total-at file dir p (λ u. File (g u)) t (File bytes) h)
 
 -- ---- renames
@@ -138,9 +137,9 @@ module _ (t : Tree) (done n : ℕ) (f : Form) (p q : Names) (h : refusal t done 
       let apart : is_prefix p q ≡ false = not_and _ _ (refusal-none t done n f op why.IntoItself h) differ in
       let free : is_found (walk q t) ≡ false = not_and _ _ (refusal-none t done n f op why.Exists h) differ in
       let at_parent : outline (walk (parent q) (removed p t)) ≡ outline (walk (parent q) t) =
-          outline-without (parent p) (last_name p) (parent q) t (ap (λ x. is_prefix x (parent q)) (whole p p_below) ∙ not_prefix_of_parent p q q_below apart) in
+      outline-without (parent p) (last_name p) (parent q) t (ap (λ x. is_prefix x (parent q)) (whole p p_below) ∙ not_prefix_of_parent p q q_below apart) in
       let at_end : outline (walk q (removed p t)) ≡ outline (walk q t) =
-          outline-without (parent p) (last_name p) q t (ap (λ x. is_prefix x q) (whole p p_below) ∙ apart) in
+      outline-without (parent p) (last_name p) q t (ap (λ x. is_prefix x q) (whole p p_below) ∙ apart) in
       let e = dir_outline (walk (parent q) (removed p t)) (at_parent ∙ ap outline d.1) in
       let deep : nat_lt deepest (length q + height (tree_found (walk p t))) ≡ false = and_given _ _ (second_false _ _ (refusal-none t done n f op why.TooDeep h)) (ap is_found w.1) in
       record {
@@ -166,7 +165,7 @@ height-rename t done n f p q false e h low =
     let m = accepted-rename t done n f p q h e in
     let is : tree_found (walk p t) ≡ m.tree = ap tree_found (entry_walk p t m.tree m.entry) in
     subst (λ x. height (placed q x (removed p t)) ≤ deepest) (sym is)
-      (omega (arith, height-placed q m.tree (removed p t) m.place, height-removed p t m.tree m.entry, m.low))
+    (omega (arith, height-placed q m.tree (removed p t) m.place, height-removed p t m.tree m.entry, m.low))
 
 pub height-next : (op : Operation) (t : Tree) (done n : ℕ) (f : Form) → refusal t done n f op ≡ None → height t ≤ deepest → height (next op t) ≤ deepest
 height-next (Mkdir p) t done n f h low = omega (arith, height-placed p (Dir Nil) t (accepted-mkdir t done n f p h), path_short p _ (refusal-none t done n f (Mkdir p) why.TooDeep h))

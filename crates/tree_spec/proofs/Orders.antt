@@ -1,16 +1,15 @@
 -- Each operation keeps the names of each directory in order.
-use Rattle.std.proofs.Common.{◌≡◌, ℕ, suc, ◌+◌, Bool, true, false, cond, T, List, [], ◌∷◌, Some, None, Option, sym, refl, ap, ◌∙◌, subst}
+use Rattle.std.proofs.Common.{◌≡◌, ℕ, Bool, true, false, cond, T, List, [], ◌∷◌, Some, None, sym, refl, ap, subst}
 use Rattle.std.specs.Prelude.{not, ◌&&◌, filter, is_some}
-use Rattle.std.specs.Ordering.{is_eq, is_lt}
+use Rattle.std.specs.Ordering.{is_lt}
 use Rattle.std.specs.Cmp.Lexicographic.{nat_list_cmp_total}
 use Rattle.std.specs.FinMap.{find, put, is_sorted}
-use Rattle.std.specs.declared.cmp.Ordering.{Ordering}
 use Rattle.std.specs.declared.cmp.Ordering.TheVariants.{Less, Equal, Greater}
 use Rattle.std.specs.FinMap.Entries.{by_order, below_all, is_sorted-put, is_sorted-where_key}
-use Rattle.tree_spec.specs.Trees.{Tree, File, Dir, Entries, Nil, Entry, rows, from_rows, by_bytes, found_or_not, walk, and_on, Walk, Found, NotFound, NotDir, at, over_entry, with_entry, without, without_entry, parent, last_name, is_ordered, all_ordered}
+use Rattle.tree_spec.specs.Trees.{Tree, File, Dir, Entries, Nil, Entry, rows, from_rows, by_bytes, found_or_not, walk, and_on, at, over_entry, with_entry, without, without_entry, parent, last_name, is_ordered, all_ordered}
 use Rattle.tree_spec.specs.Routes.{is_same_name, is_same_path}
 use Rattle.tree_spec.specs.Operations.{Operation, Mkdir, Make, Write, Read, Trunc, Remove, Rename, ListDir, Stat}
-use Rattle.tree_spec.specs.Answers.{next, moved, tree_found, written, bytes_of, tree_after}
+use Rattle.tree_spec.specs.Answers.{next, moved, tree_found, tree_after}
 use Rattle.tree_spec.proofs.Trees.{from_rows-rows, rows-from_rows}
 
 both : (a b : Bool) → T a → T b → T (a && b)
@@ -84,13 +83,13 @@ pub is_ordered-with : (c : List ℕ) (s : Tree) → T (is_ordered s) → KeepsOr
 is_ordered-with c s k (File bytes) h = tt
 is_ordered-with c s k (Dir es) h =
     both _ _ (subst (λ y. T (is_sorted by_bytes y)) (sym (rows-from_rows (put by_bytes c s (rows es)))) (is_sorted-put by_bytes nat_list_cmp_total c s (rows es) (left _ _ h)))
-      (all_ordered-with c s es k (right _ _ h))
+    (all_ordered-with c s es k (right _ _ h))
 
 pub is_ordered-without : (c : List ℕ) → KeepsOrder (without_entry c)
 is_ordered-without c (File bytes) h = tt
 is_ordered-without c (Dir es) h =
     both _ _ (subst (λ y. T (is_sorted by_bytes y)) (sym (rows-from_rows (filter (λ e. not (is_same_name c e.0)) (rows es)))) (is_sorted-where_key by_bytes (λ x. not (is_same_name c x)) (rows es) (left _ _ h)))
-      (all_ordered-without c es (right _ _ h))
+    (all_ordered-without c es (right _ _ h))
 
 ordered-find : (c : List ℕ) (es : Entries) (u : Tree) → T (all_ordered es) → find by_bytes c (rows es) ≡ Some u → T (is_ordered u)
 ordered-find c Nil u h is = absurd (subst T (sym (ap is_some is)) tt)

@@ -1,11 +1,11 @@
 -- Worked examples: what a tree answers, one operation after another.
-use Rattle.std.proofs.Common.{◌≡◌, ℕ, zero, suc, ◌+◌, ◌-◌, ◌*◌, ◌^◌, ◌<◌, ◌≤◌, Bool, true, false, List, [], ◌∷◌, ◌++◌, length, refl, sym, ap, ◌∙◌, subst, arith}
+use Rattle.std.proofs.Common.{◌≡◌, ℕ, zero, suc, ◌+◌, ◌-◌, ◌^◌, true, false, List, [], ◌∷◌, length, refl, ap, arith}
 use Rattle.std.specs.Prelude.{Ok, Err, Option, None, Some, replicate, map, slice_get}
 use Rattle.tree_spec.specs.Replies.{Response, Because, Plain, Bytes, Listed}
 use Rattle.tree_spec.specs.Replies as value
 use Rattle.tree_spec.specs.Why as why
-use Rattle.tree_spec.specs.Trees.{Tree, File, Dir, Nil, Entry, height}
-use Rattle.tree_spec.specs.Costs.{Form, form_one, form_two, blocks, nodes, map_cost, file_blocks}
+use Rattle.tree_spec.specs.Trees.{Tree, File, Dir, Nil, Entry}
+use Rattle.tree_spec.specs.Costs.{form_one, form_two, blocks, nodes, map_cost, file_blocks}
 use Rattle.tree_spec.specs.Operations.{Operation, Mkdir, Make, Write, Read, Trunc, Remove, Rename, ListDir, Stat}
 use Rattle.tree_spec.specs.Answers.{answer, refusal}
 use Rattle.tree_spec.specs.Routes.{route}
@@ -53,7 +53,7 @@ empty = Dir Nil
 files : replies empty (
     Make (f ∷ []) ∷ Write (f ∷ []) 0 (0 ∷ 255 ∷ []) ∷ Write (f ∷ []) 2 [] ∷ Write (f ∷ []) 3 (0 ∷ []) ∷ Read (f ∷ []) 2 5 ∷ Read (f ∷ []) 1 9 ∷ Read (f ∷ []) 3 0 ∷
     Trunc (f ∷ []) 3 ∷ Trunc (f ∷ []) 1 ∷ Stat (f ∷ []) ∷ Stat [] ∷ Read [] 0 1 ∷ ListDir (f ∷ []) ∷ Make (f ∷ []) ∷ Make (f ∷ g ∷ []) ∷ [])
-  ≡ ok ∷ ok ∷ ok ∷ Err (Because why.BeyondEnd) ∷ Ok (Bytes []) ∷ Ok (Bytes (255 ∷ [])) ∷ Err (Because why.BeyondEnd) ∷
+    ≡ ok ∷ ok ∷ ok ∷ Err (Because why.BeyondEnd) ∷ Ok (Bytes []) ∷ Ok (Bytes (255 ∷ [])) ∷ Err (Because why.BeyondEnd) ∷
     Err (Because why.BeyondEnd) ∷ ok ∷ Ok (value.File 1) ∷ Ok (value.Dir 1) ∷ Err (Because why.IsDir) ∷ Err (Because why.NotDir) ∷ Err (Because why.Exists) ∷ Err (Because why.NotDir) ∷ []
 unfolding refusal
 files = refl
@@ -72,7 +72,7 @@ written_in_the_middle = refl
 
 renames : replies empty (
     Make (f ∷ []) ∷ Mkdir (d ∷ []) ∷ Rename (d ∷ []) (d ∷ e ∷ []) ∷ Rename (d ∷ []) (d ∷ []) ∷ Rename (f ∷ []) (d ∷ f ∷ []) ∷ Remove (d ∷ []) ∷ Rename (f ∷ []) (g ∷ []) ∷ [])
-  ≡ ok ∷ ok ∷ Err (Because why.IntoItself) ∷ ok ∷ ok ∷ Err (Because why.NotEmpty) ∷ Err (Because why.NotFound) ∷ []
+    ≡ ok ∷ ok ∷ Err (Because why.IntoItself) ∷ ok ∷ ok ∷ Err (Because why.NotEmpty) ∷ Err (Because why.NotFound) ∷ []
 unfolding refusal
 renames = refl
 
@@ -86,19 +86,19 @@ onto_itself = refl
 
 -- a directory moves with all that is below it
 whole_trees_move : ends empty (Mkdir (d ∷ []) ∷ Mkdir (d ∷ e ∷ []) ∷ Make (d ∷ e ∷ f ∷ []) ∷ Mkdir (a ∷ []) ∷ Rename (d ∷ e ∷ []) (a ∷ b ∷ []) ∷ [])
-  ≡ Dir (Entry a (Dir (Entry b (Dir (Entry f (File []) Nil)) Nil)) (Entry d (Dir Nil) Nil))
+    ≡ Dir (Entry a (Dir (Entry b (Dir (Entry f (File []) Nil)) Nil)) (Entry d (Dir Nil) Nil))
 unfolding refusal
 whole_trees_move = refl
 
 -- several refusals at once: the lowest number is answered
 lowest : replies empty (Make (f ∷ []) ∷ Mkdir (d ∷ []) ∷ Rename [] (f ∷ []) ∷ Rename [] [] ∷ Rename (d ∷ []) (g ∷ e ∷ []) ∷ Rename (f ∷ []) (f ∷ e ∷ []) ∷ Rename (d ∷ []) (f ∷ e ∷ []) ∷ Mkdir [] ∷ Remove [] ∷ Remove (g ∷ f ∷ []) ∷ Remove (f ∷ g ∷ []) ∷ [])
-  ≡ ok ∷ ok ∷ Err (Because why.IsRoot) ∷ Err (Because why.IsRoot) ∷ Err (Because why.NotFound) ∷ Err (Because why.NotDir) ∷ Err (Because why.NotDir) ∷ Err (Because why.IsRoot) ∷ Err (Because why.IsRoot) ∷ Err (Because why.NotFound) ∷ Err (Because why.NotDir) ∷ []
+    ≡ ok ∷ ok ∷ Err (Because why.IsRoot) ∷ Err (Because why.IsRoot) ∷ Err (Because why.NotFound) ∷ Err (Because why.NotDir) ∷ Err (Because why.NotDir) ∷ Err (Because why.IsRoot) ∷ Err (Because why.IsRoot) ∷ Err (Because why.NotFound) ∷ Err (Because why.NotDir) ∷ []
 unfolding refusal
 lowest = refl
 
 -- a listing is in the order of the names' bytes, a prefix first
 listing : replies empty (Mkdir (b ∷ []) ∷ Make ((97 ∷ 98 ∷ []) ∷ []) ∷ Mkdir (a ∷ []) ∷ ListDir [] ∷ [])
-  ≡ ok ∷ ok ∷ ok ∷ Ok (Listed (record { name = a; dir = true } ∷ record { name = 97 ∷ 98 ∷ []; dir = false } ∷ record { name = b; dir = true } ∷ []) []) ∷ []
+    ≡ ok ∷ ok ∷ ok ∷ Ok (Listed (record { name = a; dir = true } ∷ record { name = 97 ∷ 98 ∷ []; dir = false } ∷ record { name = b; dir = true } ∷ []) []) ∷ []
 unfolding refusal
 listing = refl
 
@@ -241,7 +241,7 @@ cubes s = slice_get ((a ∷ []) ∷ (a ∷ b ∷ []) ∷ (d ∷ []) ∷ []) s
 
 -- the longest prefix by whole names: /a/b/e, /a/e, /ab/e, /a, /a/b, the root, /d/a/b
 routes : map (route cubes 3) ((a ∷ b ∷ e ∷ []) ∷ (a ∷ e ∷ []) ∷ ((97 ∷ 98 ∷ []) ∷ e ∷ []) ∷ (a ∷ []) ∷ (a ∷ b ∷ []) ∷ [] ∷ (d ∷ a ∷ b ∷ []) ∷ [])
-  ≡ Some 1 ∷ Some 0 ∷ None ∷ Some 0 ∷ Some 1 ∷ None ∷ Some 2 ∷ []
+    ≡ Some 1 ∷ Some 0 ∷ None ∷ Some 0 ∷ Some 1 ∷ None ∷ Some 2 ∷ []
 unfolding route
 routes = refl
 

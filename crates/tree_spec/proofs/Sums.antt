@@ -1,15 +1,14 @@
 -- What a change at one place does to the height of a tree, to the sums over it, and to the order of its names.
-use Rattle.std.proofs.Common.{◌≡◌, ℕ, zero, suc, ◌+◌, ◌-◌, ◌≤◌, Bool, true, false, cond, T, List, [], ◌∷◌, ◌++◌, length, Some, None, Option, sym, refl, ap, ◌∙◌, subst, arith}
+use Rattle.std.proofs.Common.{◌≡◌, ℕ, suc, ◌+◌, ◌≤◌, Bool, true, false, cond, T, List, [], ◌∷◌, length, Some, None, Option, sym, refl, ap, ◌∙◌, subst, arith}
 use Rattle.std.specs.Prelude.{not, ◌&&◌, filter, is_some, max}
-use Rattle.std.specs.Ordering.{eq_by_cmp, is_eq, is_lt}
-use Rattle.std.specs.Cmp.Lexicographic.{nat_list_cmp_total}
+use Rattle.std.specs.Ordering.{is_eq, is_lt}
 use Rattle.std.specs.FinMap.{find, put, is_sorted}
 use Rattle.std.specs.declared.cmp.Ordering.{Ordering}
 use Rattle.std.specs.declared.cmp.Ordering.TheVariants.{Less, Equal, Greater}
-use Rattle.std.specs.FinMap.Entries.{by_order, below_all, is_sorted-put, is_sorted-where_key}
-use Rattle.tree_spec.specs.Trees.{Tree, File, Dir, Entries, Nil, Entry, rows, from_rows, by_bytes, child, found_or_not, walk, and_on, Walk, Found, NotFound, NotDir, at, over_child, over_entry, with_entry, without, without_entry, height, height_in, total, total_in, is_ordered, all_ordered}
+use Rattle.std.specs.FinMap.Entries.{by_order, below_all}
+use Rattle.tree_spec.specs.Trees.{Tree, File, Dir, Entries, Nil, Entry, rows, from_rows, by_bytes, found_or_not, walk, and_on, Found, NotFound, NotDir, at, over_entry, with_entry, without, without_entry, height, height_in, total, total_in}
 use Rattle.tree_spec.specs.Routes.{is_same_name}
-use Rattle.tree_spec.proofs.Trees.{from_rows-rows, rows-from_rows, same_name}
+use Rattle.tree_spec.proofs.Trees.{from_rows-rows, same_name}
 
 -- an entry of another name, at the head of the rows
 not_here : (b : Bool) (t u : Tree) (rest : Option Tree) → b ≡ false → cond b (Some t) rest ≡ Some u → rest ≡ Some u
@@ -136,7 +135,7 @@ module _ (file : List ℕ → ℕ) (dir : ℕ → ℕ) where
 
   -- a new entry adds its tree's sum, and the directory's own part moves by one entry
   pub total-with_at : (p : List (List ℕ)) (c : List ℕ) (s t : Tree) (es : Entries) → walk p t ≡ Found (Dir es) → find by_bytes c (rows es) ≡ None
-    → total file dir (at p (with_entry c s) t) + dir (length (rows es)) ≡ total file dir t + total file dir s + dir (length (rows es) + 1)
+      → total file dir (at p (with_entry c s) t) + dir (length (rows es)) ≡ total file dir t + total file dir s + dir (length (rows es) + 1)
   total-with_at p c s t es h free =
       omega (arith, total-at p (with_entry c s) t (Dir es) h, total_in-with_new c s es free, ap dir (length-with_new c s es free))
 
@@ -170,7 +169,7 @@ module _ (file : List ℕ → ℕ) (dir : ℕ → ℕ) where
   total_in-without c v Nil o h = absurd (subst T (sym (ap is_some h)) tt)
   total_in-without c v (Entry d t es) o h =
       elim (is_same_name c d) as (λ b. is_same_name c d ≡ b → cond b (Some t) (find by_bytes c (rows es)) ≡ Some v
-        → total_in file dir (from_rows (cond (not b) ((d, t) ∷ filter (λ e. not (is_same_name c e.0)) (rows es)) (filter (λ e. not (is_same_name c e.0)) (rows es)))) + total file dir v ≡ total file dir t + total_in file dir es) [
+      → total_in file dir (from_rows (cond (not b) ((d, t) ∷ filter (λ e. not (is_same_name c e.0)) (rows es)) (filter (λ e. not (is_same_name c e.0)) (rows es)))) + total file dir v ≡ total file dir t + total_in file dir es) [
         | true ↦ λ e is. omega (arith, ap (total_in file dir) (no_later c d es e (left _ _ o)), ap (total file dir) (some_same _ _ is))
         | false ↦ λ e is. omega (arith, total_in-without c v es (right _ _ o) is)
       ] refl h
@@ -180,13 +179,13 @@ pub length-without : (c : List ℕ) (v : Tree) (es : Entries) → T (is_sorted b
 length-without c v Nil o h = absurd (subst T (sym (ap is_some h)) tt)
 length-without c v (Entry d t es) o h =
     elim (is_same_name c d) as (λ b. is_same_name c d ≡ b → cond b (Some t) (find by_bytes c (rows es)) ≡ Some v
-      → length (rows (from_rows (cond (not b) ((d, t) ∷ filter (λ e. not (is_same_name c e.0)) (rows es)) (filter (λ e. not (is_same_name c e.0)) (rows es))))) + 1 ≡ suc (length (rows es))) [
+    → length (rows (from_rows (cond (not b) ((d, t) ∷ filter (λ e. not (is_same_name c e.0)) (rows es)) (filter (λ e. not (is_same_name c e.0)) (rows es))))) + 1 ≡ suc (length (rows es))) [
       | true ↦ λ e is. omega (arith, ap (λ y. length (rows y)) (no_later c d es e (left _ _ o)))
       | false ↦ λ e is. omega (arith, length-without c v es (right _ _ o) is)
     ] refl h
 
 -- the entry that goes takes its tree's sum, and the directory's own part moves by one entry
 pub total-without_at : (file : List ℕ → ℕ) (dir : ℕ → ℕ) (p : List (List ℕ)) (c : List ℕ) (v t : Tree) (es : Entries) → walk p t ≡ Found (Dir es) → T (is_sorted by_bytes (rows es)) → find by_bytes c (rows es) ≡ Some v
-  → total file dir (at p (without_entry c) t) + total file dir v + dir (length (rows es)) ≡ total file dir t + dir (length (rows (without c es)))
+    → total file dir (at p (without_entry c) t) + total file dir v + dir (length (rows es)) ≡ total file dir t + dir (length (rows (without c es)))
 total-without_at file dir p c v t es h o is =
     omega (arith, total-at file dir p (without_entry c) t (Dir es) h, total_in-without file dir c v es o is)
