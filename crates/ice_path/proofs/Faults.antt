@@ -22,8 +22,8 @@ after_slash slash alone text =
     cond slash (Some Slash) (by_tests (list_any is_empty_name names) (list_all is_path_byte text) (list_any is_dots names) (list_any is_long_name names) (nat_lt longest_text (length text)))
 
 pub fault_by_tests : (text : List ℕ) (empty bytes dots long : Bool) → begins_elsewhere text ≡ false → is_slash text ≡ false
-  → empty ≡ list_any is_empty_name (names_of text) → bytes ≡ list_all is_path_byte text → dots ≡ list_any is_dots (names_of text) → long ≡ list_any is_long_name (names_of text)
-  → path_fault text ≡ by_tests empty bytes dots long (nat_lt longest_text (length text))
+    → empty ≡ list_any is_empty_name (names_of text) → bytes ≡ list_all is_path_byte text → dots ≡ list_any is_dots (names_of text) → long ≡ list_any is_long_name (names_of text)
+    → path_fault text ≡ by_tests empty bytes dots long (nat_lt longest_text (length text))
 unfolding path_fault
 fault_by_tests text empty bytes dots long slash alone e b d l =
     (λ i. after_slash (slash i) (alone i) text) ∙ sym (λ i. by_tests (e i) (b i) (d i) (l i) (nat_lt longest_text (length text)))
@@ -64,12 +64,14 @@ is_name_by_tests c e l b d = join (nat_lt 0 (length c)) (nat_le (length c) longe
   where
     join : (a b c d : Bool) → a ≡ true → b ≡ true → c ≡ true → d ≡ false → (a && (b && (c && not d))) ≡ true
     join a b c d h i j k = λ z. h z && (i z && (j z && not (k z)))
+
     some : (c : List ℕ) → is_empty_name c ≡ false → nat_lt 0 (length c) ≡ true
     some [] e = absurd (subst T e tt)
     some (x ∷ c) e = more (length c)
       where
         more : (n : ℕ) → nat_lt 0 (suc n) ≡ true
         more n = grind (arith, nat_tests)
+
     short : (n m : ℕ) → nat_lt m n ≡ false → nat_le n m ≡ true
     short n m h = grind (arith, nat_tests)
 
@@ -109,6 +111,7 @@ parts_have (b ∷ text) h = on (nat_eq b 47) refl (parts_have text (second_and (
     byte true true slash h k = λ z. not (k z)
     byte true false slash h k = h
     byte false hi slash h k = h
+
     on : (x : Bool) → nat_eq b 47 ≡ x → PartsHave (parts text) → PartsHave (begin x b (parts text))
     on true e p = record { front = refl; names = λ z. p.front z && p.names z }
     on false e p = record { front = λ z. byte (nat_le 33 b) (nat_le b 126) (nat_eq b 47) (first_and (is_path_byte b) (list_all is_path_byte text) h) e z && p.front z; names = p.names }

@@ -26,7 +26,7 @@ behind_shorter text name behind begins later is =
 
 -- a test of some name, one name on
 pub any_step : (test : List ℕ → Bool) (all rest : List (List ℕ)) (name : List ℕ) (others : List (List ℕ)) (seen more : Bool) → rest ≡ name ∷ others → more ≡ (seen || test name)
-  → list_any test all ≡ (seen || list_any test rest) → list_any test all ≡ (more || list_any test others)
+    → list_any test all ≡ (seen || list_any test rest) → list_any test all ≡ (more || list_any test others)
 any_step test all rest name others seen more is e h = h ∙ ap (λ r. seen || list_any test r) is ∙ regroup seen (test name) (list_any test others) ∙ ap (λ b. b || list_any test others) (sym e)
   where
     regroup : (a b c : Bool) → (a || (b || c)) ≡ ((a || b) || c)
@@ -58,7 +58,7 @@ names_end path all (b ∷ rest) z h = absurd (omega arith)
 pub name_of_text : (path rest all : List (List ℕ)) (name : List ℕ) (others : List (List ℕ)) → rest ≡ name ∷ others → path ++ rest ≡ all → IsNameList all → is_name name ≡ true
 name_of_text path rest all name others is h names =
     let at : get_or all (length path) [] ≡ name =
-        ap (λ x. get_or x (length path) []) (sym h ∙ ap (λ x. path ++ x) is) ∙ get_or-append_right path (name ∷ others) (length path) [] (omega arith) ∙ ap (λ k. get_or (name ∷ others) k []) (nothing (length path)) in
+    ap (λ x. get_or x (length path) []) (sym h ∙ ap (λ x. path ++ x) is) ∙ get_or-append_right path (name ∷ others) (length path) [] (omega arith) ∙ ap (λ k. get_or (name ∷ others) k []) (nothing (length path)) in
     subst (λ x. is_name x ≡ true) at (names (length path) [] (omega (arith, ap length h, ap length is, length-append path rest)))
   where
     nothing : (n : ℕ) → n - n ≡ 0
@@ -70,7 +70,7 @@ length-with_slashes-append (c ∷ p) q = omega (arith, length-with_slashes-appen
 
 -- and it fits behind those before it
 pub name_fits : (path : List (List ℕ)) (rest text name : List ℕ) (others : List (List ℕ)) → names_of rest ≡ name ∷ others → path ++ names_of rest ≡ names_of text → BeginsAtSlash text → length text ≤ longest_text
-  → nat_le (length (text_of (path ++ name ∷ []))) longest_text ≡ true
+    → nat_le (length (text_of (path ++ name ∷ []))) longest_text ≡ true
 name_fits path rest text name others is h begins short =
     let all : (path ++ name ∷ []) ++ others ≡ names_of text = names_step path (names_of rest) (names_of text) name others is h in
     let long : length (text_of (path ++ name ∷ [])) ≡ length (with_slashes (path ++ name ∷ [])) = ap length (text_of-some (path ++ name ∷ []) (omega (arith, length-append path (name ∷ [])))) in

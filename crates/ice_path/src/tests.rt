@@ -9,11 +9,7 @@ fn long_text(into: &mut [u8; 3300], every: usize)
     requires { 0 < every }
 {
     for (i, b) in into.iter_mut().enumerate() {
-        *b = if i % every == 0 {
-            b'/'
-        } else {
-            b'n'
-        };
+        *b = if i % every == 0 { b'/' } else { b'n' };
     }
 }
 

@@ -135,7 +135,9 @@ impl PlainTree {
         }
         let there = self.walk(path);
         let found = there == End::Dir || there == End::File;
-        asked.kind == Kind::Rename && found && depth_of(to).saturating_add(self.height(path)) > DEEPEST
+        asked.kind == Kind::Rename
+            && found
+            && depth_of(to).saturating_add(self.height(path)) > DEEPEST
     }
 
     /// Whether something else stands where the command makes something.
@@ -157,7 +159,10 @@ impl PlainTree {
         let kind = asked.kind;
         let here = self.walk(path);
         let on_bytes = kind == Kind::Write || kind == Kind::Read || kind == Kind::Trunc;
-        let on_place = kind == Kind::Mkdir || kind == Kind::Make || kind == Kind::Remove || kind == Kind::Rename;
+        let on_place = kind == Kind::Mkdir
+            || kind == Kind::Make
+            || kind == Kind::Remove
+            || kind == Kind::Rename;
         if longest_name(path) > form.longest_name || longest_name(to) > form.longest_name {
             return Some(Refusal::NameLong);
         }
@@ -227,7 +232,12 @@ impl PlainTree {
     }
 
     /// The value of a command that is accepted and changes nothing.
-    fn value(&self, alloc: Global, asked: &Asked, into: &mut PlainReply) -> Result<Value, AllocError> {
+    fn value(
+        &self,
+        alloc: Global,
+        asked: &Asked,
+        into: &mut PlainReply,
+    ) -> Result<Value, AllocError> {
         let path = asked.path.as_slice();
         match asked.kind {
             Kind::Read => {
@@ -270,7 +280,15 @@ impl PlainTree {
 /// What a tree with `done` accepted commands in so many groups answers to a tree command, and what it is after it.
 ///
 /// The first `depth` names of each path are those of the cube's path. A command on no tree is answered Plain.
-pub fn answer(alloc: Global, tree: PlainTree, done: u64, groups: u32, form: PlainForm, command: &Command, depth: usize) -> Result<(PlainReply, PlainTree), AllocError> {
+pub fn answer(
+    alloc: Global,
+    tree: PlainTree,
+    done: u64,
+    groups: u32,
+    form: PlainForm,
+    command: &Command,
+    depth: usize,
+) -> Result<(PlainReply, PlainTree), AllocError> {
     let asked = read_command(alloc, command, depth)?;
     let mut reply = PlainReply {
         reply: Ok(Value::Plain),

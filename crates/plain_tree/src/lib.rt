@@ -7,9 +7,9 @@
 mod command;
 mod cost;
 mod next;
-mod text;
 #[cfg(test)]
 mod tests;
+mod text;
 mod tree;
 
 pub use command::{PlainEntry, PlainReply, answer};

@@ -4,7 +4,12 @@ use crate::tree::{Node, PlainTree};
 use std::alloc::{AllocError, Global};
 
 /// The bytes with others in their place from an offset on.
-pub(crate) fn written(alloc: Global, old: &[u8], off: usize, new: &[u8]) -> Result<Vec<u8>, AllocError> {
+pub(crate) fn written(
+    alloc: Global,
+    old: &[u8],
+    off: usize,
+    new: &[u8],
+) -> Result<Vec<u8>, AllocError> {
     let mut bytes = Vec::new(alloc);
     for (i, b) in old.iter().enumerate() {
         if i < off {
@@ -30,13 +35,16 @@ impl PlainTree {
                 bytes: copy_of(alloc, node.bytes.as_slice())?,
             })?;
         }
-        Ok(PlainTree {
-            nodes,
-        })
+        Ok(PlainTree { nodes })
     }
 
     /// The tree with an empty file or directory more.
-    pub(crate) fn with_node(&self, alloc: Global, text: &[u8], is_dir: bool) -> Result<PlainTree, AllocError> {
+    pub(crate) fn with_node(
+        &self,
+        alloc: Global,
+        text: &[u8],
+        is_dir: bool,
+    ) -> Result<PlainTree, AllocError> {
         let mut next = self.copy(alloc)?;
         next.nodes.push(Node {
             text: copy_of(alloc, text)?,
@@ -47,7 +55,12 @@ impl PlainTree {
     }
 
     /// The tree with other bytes in a file.
-    pub(crate) fn with_bytes(&self, alloc: Global, text: &[u8], bytes: &[u8]) -> Result<PlainTree, AllocError> {
+    pub(crate) fn with_bytes(
+        &self,
+        alloc: Global,
+        text: &[u8],
+        bytes: &[u8],
+    ) -> Result<PlainTree, AllocError> {
         let mut next = PlainTree::new(alloc);
         for node in &self.nodes {
             let kept = if node.text.as_slice() == text {
@@ -80,7 +93,12 @@ impl PlainTree {
     }
 
     /// The tree with what stands at one path at another.
-    pub(crate) fn moved(&self, alloc: Global, from: &[u8], to: &[u8]) -> Result<PlainTree, AllocError> {
+    pub(crate) fn moved(
+        &self,
+        alloc: Global,
+        from: &[u8],
+        to: &[u8],
+    ) -> Result<PlainTree, AllocError> {
         let mut next = PlainTree::new(alloc);
         for node in &self.nodes {
             next.nodes.push(Node {

@@ -50,13 +50,7 @@ impl PlainTree {
         }
         match self.find(text) {
             None => End::NotFound,
-            Some(node) => {
-                if node.is_dir {
-                    End::Dir
-                } else {
-                    End::File
-                }
-            }
+            Some(node) => { if node.is_dir { End::Dir } else { End::File } }
         }
     }
 
