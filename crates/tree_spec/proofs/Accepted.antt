@@ -1,17 +1,14 @@
 -- What an accepted operation found in the tree, and what it costs.
-use Rattle.std.proofs.Common.{◌≡◌, ◌≢◌, ℕ, suc, ◌+◌, ◌*◌, ◌<◌, ◌≤◌, Bool, true, false, cond, T, List, [], ◌∷◌, ◌++◌, length, Some, None, Option, sym, refl, ap, ◌∙◌, subst, arith, length-append}
-use Rattle.std.specs.Prelude.{not, is_some, max, ◌&&◌, ◌||◌, nat_lt}
+use Rattle.std.proofs.Common.{◌≡◌, ℕ, ◌+◌, ◌≤◌, Bool, true, false, T, List, [], ◌∷◌, length, Some, None, Option, sym, refl, ap, ◌∙◌, subst, arith, length-append}
+use Rattle.std.specs.Prelude.{not, ◌&&◌, ◌||◌, nat_lt}
 use Rattle.std.proofs.lemmas.Bool.Decides.{nat_tests}
-use Rattle.std.specs.FinMap.{find, is_sorted}
+use Rattle.std.specs.FinMap.{find}
 use Rattle.tree_spec.specs.Why as why
-use Rattle.tree_spec.specs.Trees.{Tree, File, Dir, Entries, Nil, Entry, rows, by_bytes, found_or_not, walk, and_on, Walk, Found, NotFound, NotDir, at, with_entry, without, without_entry, parent, last_name, needs_dir, parent_walk, height, height_in, total, is_ordered, all_ordered}
+use Rattle.tree_spec.specs.Trees.{Tree, File, Dir, Entries, rows, by_bytes, found_or_not, walk, and_on, Walk, Found, NotFound, NotDir, parent, last_name, needs_dir}
 use Rattle.tree_spec.specs.Costs.{Form}
-use Rattle.tree_spec.specs.Routes.{is_prefix, is_same_path}
-use Rattle.tree_spec.specs.Operations.{Operation, Mkdir, Make, Write, Read, Trunc, Remove, Rename, ListDir, Stat}
-use Rattle.tree_spec.specs.Answers.{refusal, next, moved, deepest, is_root, is_found, is_not_found, is_not_dir, is_dir_found, is_full_found, tree_found, bytes_found, bytes_of, written}
-use Rattle.tree_spec.proofs.Trees.{walk-append, parent-last, outline, outline-without}
-use Rattle.tree_spec.proofs.Sums.{height-walk, height-at, height-with, height-without, total-at, total-with_at, total-without_at, length-without}
-use Rattle.tree_spec.proofs.Orders.{ordered-walk}
+use Rattle.tree_spec.specs.Operations.{Mkdir, Make, Write, Trunc, Remove}
+use Rattle.tree_spec.specs.Answers.{refusal, is_root, is_found, is_not_found, is_not_dir, is_dir_found, is_full_found, bytes_found}
+use Rattle.tree_spec.proofs.Trees.{walk-append, parent-last}
 use Rattle.tree_spec.proofs.Refusals.{refusal-none}
 
 abbrev Names : Type 0

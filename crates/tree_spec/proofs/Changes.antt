@@ -1,14 +1,13 @@
 -- What an accepted change does to the height of the tree and to the sums over it.
-use Rattle.std.proofs.Common.{◌≡◌, ◌≢◌, ℕ, suc, ◌+◌, ◌*◌, ◌<◌, ◌≤◌, Bool, true, false, cond, T, List, [], ◌∷◌, ◌++◌, length, Some, None, Option, sym, refl, ap, ◌∙◌, subst, arith, length-append}
-use Rattle.std.specs.Prelude.{not, is_some, max, ◌&&◌, ◌||◌, nat_lt, take}
-use Rattle.std.proofs.lemmas.Bool.Decides.{nat_tests}
-use Rattle.std.specs.FinMap.{find, is_sorted}
+use Rattle.std.proofs.Common.{◌≡◌, ℕ, ◌+◌, ◌≤◌, Bool, true, false, cond, T, List, [], ◌∷◌, ◌++◌, length, None, sym, refl, ap, ◌∙◌, subst, arith}
+use Rattle.std.specs.Prelude.{max, ◌&&◌, ◌||◌, nat_lt, take}
+use Rattle.std.specs.FinMap.{is_sorted}
 use Rattle.tree_spec.specs.Why as why
-use Rattle.tree_spec.specs.Trees.{Tree, File, Dir, Entries, Nil, Entry, rows, by_bytes, walk, Walk, Found, NotFound, NotDir, at, with_entry, without, without_entry, parent, last_name, needs_dir, parent_walk, height, height_in, total, is_ordered, all_ordered}
+use Rattle.tree_spec.specs.Trees.{Tree, File, Dir, Entries, Nil, rows, by_bytes, walk, Walk, Found, NotFound, NotDir, at, with_entry, without, without_entry, parent, last_name, height, total, is_ordered, all_ordered}
 use Rattle.tree_spec.specs.Costs.{Form}
 use Rattle.tree_spec.specs.Routes.{is_prefix, is_same_name, is_same_path}
 use Rattle.tree_spec.specs.Operations.{Operation, Mkdir, Make, Write, Read, Trunc, Remove, Rename, ListDir, Stat}
-use Rattle.tree_spec.specs.Answers.{refusal, next, moved, deepest, is_root, is_found, is_not_found, is_not_dir, tree_found, bytes_of, written, tree_after}
+use Rattle.tree_spec.specs.Answers.{refusal, next, moved, deepest, is_root, is_found, tree_found, bytes_of, written}
 use Rattle.tree_spec.proofs.Trees.{parent-last, outline, outline-without}
 use Rattle.tree_spec.proofs.Sums.{height-walk, height-at, height-with, height-without, total-at, total-with_at, total-without_at, length-without}
 use Rattle.tree_spec.proofs.Orders.{ordered-walk}

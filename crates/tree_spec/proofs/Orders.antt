@@ -1,16 +1,15 @@
 -- Each operation keeps the names of each directory in order.
-use Rattle.std.proofs.Common.{◌≡◌, ℕ, suc, ◌+◌, Bool, true, false, cond, T, List, [], ◌∷◌, Some, None, Option, sym, refl, ap, ◌∙◌, subst}
+use Rattle.std.proofs.Common.{◌≡◌, ℕ, Bool, true, false, cond, T, List, [], ◌∷◌, Some, None, sym, refl, ap, subst}
 use Rattle.std.specs.Prelude.{not, ◌&&◌, filter, is_some}
-use Rattle.std.specs.Ordering.{is_eq, is_lt}
+use Rattle.std.specs.Ordering.{is_lt}
 use Rattle.std.specs.Cmp.Lexicographic.{nat_list_cmp_total}
 use Rattle.std.specs.FinMap.{find, put, is_sorted}
-use Rattle.std.specs.declared.cmp.Ordering.{Ordering}
 use Rattle.std.specs.declared.cmp.Ordering.TheVariants.{Less, Equal, Greater}
 use Rattle.std.specs.FinMap.Entries.{by_order, below_all, is_sorted-put, is_sorted-where_key}
-use Rattle.tree_spec.specs.Trees.{Tree, File, Dir, Entries, Nil, Entry, rows, from_rows, by_bytes, found_or_not, walk, and_on, Walk, Found, NotFound, NotDir, at, over_entry, with_entry, without, without_entry, parent, last_name, is_ordered, all_ordered}
+use Rattle.tree_spec.specs.Trees.{Tree, File, Dir, Entries, Nil, Entry, rows, from_rows, by_bytes, found_or_not, walk, and_on, at, over_entry, with_entry, without, without_entry, parent, last_name, is_ordered, all_ordered}
 use Rattle.tree_spec.specs.Routes.{is_same_name, is_same_path}
 use Rattle.tree_spec.specs.Operations.{Operation, Mkdir, Make, Write, Read, Trunc, Remove, Rename, ListDir, Stat}
-use Rattle.tree_spec.specs.Answers.{next, moved, tree_found, written, bytes_of, tree_after}
+use Rattle.tree_spec.specs.Answers.{next, moved, tree_found, tree_after}
 use Rattle.tree_spec.proofs.Trees.{from_rows-rows, rows-from_rows}
 
 both : (a b : Bool) → T a → T b → T (a && b)

@@ -1,9 +1,9 @@
 -- The route of a path is the slot of the longest prefix.
-use Rattle.std.proofs.Common.{◌≡◌, ◌≢◌, ℕ, zero, suc, ◌+◌, ◌<◌, ◌≤◌, Bool, true, false, cond, T, List, [], ◌∷◌, length, Some, None, Option, sym, refl, ap, ◌∙◌, subst, arith}
-use Rattle.std.specs.Prelude.{is_some, nat_lt, ◌&&◌}
+use Rattle.std.proofs.Common.{◌≡◌, ℕ, zero, suc, ◌+◌, ◌<◌, ◌≤◌, Bool, true, false, cond, T, List, [], ◌∷◌, length, Some, None, Option, sym, refl, ap, ◌∙◌, subst, arith}
+use Rattle.std.specs.Prelude.{nat_lt, ◌&&◌}
 use Rattle.std.proofs.lemmas.Bool.Decides.{nat_tests}
 use borrow.Author.Count.{below_more}
-use Rattle.tree_spec.specs.Routes.{is_prefix, is_same_name, caught, caught_by, route, IsRoute}
+use Rattle.tree_spec.specs.Routes.{is_prefix, caught, caught_by, route, IsRoute}
 use Rattle.tree_spec.proofs.Trees.{same_name}
 
 abbrev Paths : Type 0

@@ -1,11 +1,11 @@
 -- Worked examples: what a tree answers, one operation after another.
-use Rattle.std.proofs.Common.{◌≡◌, ℕ, zero, suc, ◌+◌, ◌-◌, ◌*◌, ◌^◌, ◌<◌, ◌≤◌, Bool, true, false, List, [], ◌∷◌, ◌++◌, length, refl, sym, ap, ◌∙◌, subst, arith}
+use Rattle.std.proofs.Common.{◌≡◌, ℕ, zero, suc, ◌+◌, ◌-◌, ◌^◌, true, false, List, [], ◌∷◌, length, refl, ap, arith}
 use Rattle.std.specs.Prelude.{Ok, Err, Option, None, Some, replicate, map, slice_get}
 use Rattle.tree_spec.specs.Replies.{Response, Because, Plain, Bytes, Listed}
 use Rattle.tree_spec.specs.Replies as value
 use Rattle.tree_spec.specs.Why as why
-use Rattle.tree_spec.specs.Trees.{Tree, File, Dir, Nil, Entry, height}
-use Rattle.tree_spec.specs.Costs.{Form, form_one, form_two, blocks, nodes, map_cost, file_blocks}
+use Rattle.tree_spec.specs.Trees.{Tree, File, Dir, Nil, Entry}
+use Rattle.tree_spec.specs.Costs.{form_one, form_two, blocks, nodes, map_cost, file_blocks}
 use Rattle.tree_spec.specs.Operations.{Operation, Mkdir, Make, Write, Read, Trunc, Remove, Rename, ListDir, Stat}
 use Rattle.tree_spec.specs.Answers.{answer, refusal}
 use Rattle.tree_spec.specs.Routes.{route}

@@ -1,15 +1,14 @@
 -- What a change at one place does to the height of a tree, to the sums over it, and to the order of its names.
-use Rattle.std.proofs.Common.{◌≡◌, ℕ, zero, suc, ◌+◌, ◌-◌, ◌≤◌, Bool, true, false, cond, T, List, [], ◌∷◌, ◌++◌, length, Some, None, Option, sym, refl, ap, ◌∙◌, subst, arith}
+use Rattle.std.proofs.Common.{◌≡◌, ℕ, suc, ◌+◌, ◌≤◌, Bool, true, false, cond, T, List, [], ◌∷◌, length, Some, None, Option, sym, refl, ap, ◌∙◌, subst, arith}
 use Rattle.std.specs.Prelude.{not, ◌&&◌, filter, is_some, max}
-use Rattle.std.specs.Ordering.{eq_by_cmp, is_eq, is_lt}
-use Rattle.std.specs.Cmp.Lexicographic.{nat_list_cmp_total}
+use Rattle.std.specs.Ordering.{is_eq, is_lt}
 use Rattle.std.specs.FinMap.{find, put, is_sorted}
 use Rattle.std.specs.declared.cmp.Ordering.{Ordering}
 use Rattle.std.specs.declared.cmp.Ordering.TheVariants.{Less, Equal, Greater}
-use Rattle.std.specs.FinMap.Entries.{by_order, below_all, is_sorted-put, is_sorted-where_key}
-use Rattle.tree_spec.specs.Trees.{Tree, File, Dir, Entries, Nil, Entry, rows, from_rows, by_bytes, child, found_or_not, walk, and_on, Walk, Found, NotFound, NotDir, at, over_child, over_entry, with_entry, without, without_entry, height, height_in, total, total_in, is_ordered, all_ordered}
+use Rattle.std.specs.FinMap.Entries.{by_order, below_all}
+use Rattle.tree_spec.specs.Trees.{Tree, File, Dir, Entries, Nil, Entry, rows, from_rows, by_bytes, found_or_not, walk, and_on, Found, NotFound, NotDir, at, over_entry, with_entry, without, without_entry, height, height_in, total, total_in}
 use Rattle.tree_spec.specs.Routes.{is_same_name}
-use Rattle.tree_spec.proofs.Trees.{from_rows-rows, rows-from_rows, same_name}
+use Rattle.tree_spec.proofs.Trees.{from_rows-rows, same_name}
 
 -- an entry of another name, at the head of the rows
 not_here : (b : Bool) (t u : Tree) (rest : Option Tree) → b ≡ false → cond b (Some t) rest ≡ Some u → rest ≡ Some u

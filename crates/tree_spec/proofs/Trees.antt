@@ -1,15 +1,15 @@
 -- Walks through trees that were changed at one place.
-use Rattle.std.proofs.Common.{◌≡◌, ℕ, suc, ◌+◌, ◌≤◌, ◌≢◌, Bool, true, false, cond, T, List, [], ◌∷◌, ◌++◌, length, Some, None, Option, sym, refl, ap, ◌∙◌, subst, arith}
-use Rattle.std.specs.Prelude.{not, ◌&&◌, filter, is_some, max}
-use Rattle.std.specs.Ordering.{nat_cmp, eq_by_cmp, is_lt, is_eq}
+use Rattle.std.proofs.Common.{◌≡◌, ℕ, Bool, true, false, cond, T, List, [], ◌∷◌, ◌++◌, Some, None, Option, sym, refl, ap, ◌∙◌, subst}
+use Rattle.std.specs.Prelude.{not, ◌&&◌, filter}
+use Rattle.std.specs.Ordering.{eq_by_cmp, is_eq}
 use Rattle.std.specs.Cmp.{alike_right, eq_by_cmp_equiv}
-use Rattle.std.specs.Cmp.Lexicographic.{slice_cmp, nat_list_cmp_total}
+use Rattle.std.specs.Cmp.Lexicographic.{nat_list_cmp_total}
 use Rattle.std.specs.FinMap.{find, put, is_sorted, slice_cmp-IsAntisymmetric, nat_cmp-IsAntisymmetric}
 use Rattle.std.specs.declared.cmp.Ordering.{Ordering}
 use Rattle.std.specs.declared.cmp.Ordering.TheVariants.{Less, Equal, Greater}
-use Rattle.std.specs.FinMap.Entries.{by_order, below_all, find-put, find-where_key, is_sorted-put, is_sorted-where_key, same_entries}
-use Rattle.tree_spec.specs.Trees.{Tree, File, Dir, Entries, Nil, Entry, rows, from_rows, by_bytes, child, found_or_not, walk, and_on, Walk, Found, NotFound, NotDir, at, over_child, over_entry, with_entry, without, without_entry, parent, last_name, is_ordered, all_ordered}
-use Rattle.tree_spec.specs.Routes.{is_prefix, is_same_name, is_same_path}
+use Rattle.std.specs.FinMap.Entries.{find-put, find-where_key, same_entries}
+use Rattle.tree_spec.specs.Trees.{Tree, File, Dir, Entries, Nil, Entry, rows, from_rows, by_bytes, child, found_or_not, walk, and_on, Walk, Found, NotFound, NotDir, at, over_entry, with_entry, without, without_entry, parent, last_name}
+use Rattle.tree_spec.specs.Routes.{is_prefix, is_same_name}
 
 -- ---- entries as lists
 

@@ -5,7 +5,7 @@ use Rattle.tree_spec.specs.Why.{Why}
 use Rattle.tree_spec.specs.Why as why
 use Rattle.tree_spec.specs.Replies.{Response, Accepted, Because, Plain, Bytes, Listed}
 use Rattle.tree_spec.specs.Replies as value
-use Rattle.tree_spec.specs.Trees.{Tree, File, Dir, Entries, Nil, Entry, rows, Walk, Found, NotFound, NotDir, walk, parent, last_name, parent_walk, height, at, with_entry, without_entry}
+use Rattle.tree_spec.specs.Trees.{Tree, File, Dir, Nil, Entry, rows, Walk, Found, NotFound, NotDir, walk, parent, last_name, parent_walk, height, at, with_entry, without_entry}
 use Rattle.tree_spec.specs.Costs.{Form, blocks, nodes, block_quota, node_quota}
 use Rattle.tree_spec.specs.Routes.{is_prefix, is_same_path}
 use Rattle.tree_spec.specs.Operations.{Operation, Mkdir, Make, Write, Read, Trunc, Remove, Rename, ListDir, Stat, paths, is_change}

@@ -1,5 +1,5 @@
 -- The forms of a cube, and what a tree costs.
-use Rattle.std.specs.Prelude.{ℕ, ◌+◌, ◌-◌, ◌*◌, ◌/◌, List, length, nat_le, nat_eq, if◌then◌else◌}
+use Rattle.std.specs.Prelude.{ℕ, ◌+◌, ◌-◌, ◌*◌, ◌/◌, length, nat_le, nat_eq, if◌then◌else◌}
 use Rattle.tree_spec.specs.Trees.{Tree, total}
 
 -- what a version of the cube's format fixes: the bytes of the longest file and of the longest name, and the entries of a block
