@@ -1,5 +1,7 @@
-//! What only a run shows of files: that the calls succeed, and the blocks that a worked file uses.
+//! What only a run shows of files and directories: that the calls succeed, and the blocks that worked ones use.
 #![tactic(auto)]
 
+#[cfg(test)]
+mod dirs;
 #[cfg(test)]
 mod tests;

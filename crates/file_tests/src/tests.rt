@@ -17,7 +17,7 @@ const SIZE: usize = 274_432;
 
 /// The lot of slot 0 with the groups 0 and 1, in an image of one slot and two groups.
 #[tactic(auto, unfolding(ice_base::specs::Lots::is_sited, ice_base::specs::Lots::lies_below))]
-fn lot() -> Lot
+pub(crate) fn lot() -> Lot
     ensures sited { is_sited result 800 ≡ true }
     ensures groups { length result.groups ≡ 2 }
 {
@@ -33,7 +33,7 @@ fn put_block<D: Disk>(rt: &impl Abort, disk: &mut D, at: u32, block: &Block) {
 }
 
 /// Makes a disk fresh, with an empty file as inode 1.
-fn make_fresh<D: Disk>(rt: &impl Abort, disk: &mut D) {
+pub(crate) fn make_fresh<D: Disk>(rt: &impl Abort, disk: &mut D) {
     let mut block = [0; 1024];
     write_u32(&mut block, 28, 2);
     put_block(rt, disk, 32, &block);
