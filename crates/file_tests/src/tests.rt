@@ -165,12 +165,9 @@ fn the_longest_file_is_written_read_and_cut(rt: HostRuntime) -> Result<(), Fail>
     assert_eq!(rt; shape(&rt, &mut disk), (494, 0, 0, 0, 0, 0));
     write_all(&rt, &mut disk, &bytes);
     assert_eq!(rt; shape(&rt, &mut disk), (225, 274_432, 9, 10, 20, 22));
-    for piece in [1023, 1024, 1025, 16384] {
+    for piece in [1, 1023, 1024, 1025, 16384] {
         read_pieces(&rt, &mut disk, &mut room, &bytes, 0, piece);
     }
-    assert!(rt; bytes.len() == SIZE);
-    read_pieces(&rt, &mut disk, &mut room, &bytes[12_280..12_300], 12_280, 1);
-    read_pieces(&rt, &mut disk, &mut room, &bytes[274_420..], 274_420, 1);
     for (len, want) in [
         (12_289, (480, 12_289, 9, 10, 20, 22)),
         (12_288, (482, 12_288, 9, 10, 20, 0)),
