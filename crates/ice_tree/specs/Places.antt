@@ -1,0 +1,46 @@
+-- Where walks end.
+use Rattle.std.specs.Prelude.{◌≡◌, ◌≤◌, ◌<◌, ◌⊎◌, ℕ, ◌*◌, List, length, ⊤}
+use Rattle.ice_base.specs.Lots.{LotView}
+use Rattle.ice_base.specs.declared.fault.OpFault.{OpFault}
+use Rattle.ice_base.specs.declared.fault.OpFault.TheVariants.{Disk, Damaged}
+use Rattle.ice_base.specs.declared.fault.Rule.TheVariants.{Kind, Pointer, InodeTwice}
+use Rattle.ice_map.specs.declared.codec.Inode.{Inode}
+use Rattle.ice_file.specs.Files.{longest_file}
+use Rattle.ice_dir.specs.Rows.{IsDirectory}
+use Rattle.tree_spec.specs.Trees.{Tree, Walk, Found, NotFound, NotDir, walk, rows}
+use Rattle.tree_spec.specs.Trees as tree
+use Rattle.tree_spec.specs.Costs.{Form}
+use Rattle.ice_reads.specs.Tables.{Table}
+use Rattle.ice_reads.specs.Reads.{inode_on}
+use Rattle.ice_tree.specs.declared.place.Place.{Place}
+use Rattle.ice_tree.specs.declared.place.Place.TheVariants.{File, Dir, Missing, Blocked}
+
+-- the place of a walk's end, where the walk came to inode i
+abbrev pub place_by : ℕ → Walk → Place
+place_by i (Found (tree.File bytes)) = File i (length bytes)
+place_by i (Found (tree.Dir es)) = Dir i (length (rows es))
+place_by i NotFound = Missing
+place_by i NotDir = Blocked
+
+-- the place where a walk of these names ends, in a tree that inode 0 stands for
+abbrev pub place_at : Form → Table → List (List ℕ) → Tree → Place
+place_at f o names t = place_by (inode_on f o 0 names) (walk names t)
+
+-- an inode that a lot can have: a file or a directory of a size that it may have
+abbrev pub IsNode : LotView → Inode → Type 0
+IsNode lot inode = ((inode.kind ≡ 1) × (inode.size ≤ longest_file)) ⊎ IsDirectory lot inode
+
+-- a place's numbers are those of an inode that the lot can have
+abbrev pub PlaceFits : LotView → Place → Type 0
+PlaceFits lot (File number size) = (number < 64 * length lot.groups) × (size ≤ longest_file)
+PlaceFits lot (Dir number size) = (number < 64 * length lot.groups) × (size < 64 * length lot.groups)
+PlaceFits lot Missing = ⊤
+PlaceFits lot Blocked = ⊤
+
+-- the faults of a walk
+abbrev pub IsWalkFault : OpFault → Type 0
+IsWalkFault Disk = Unit {0}
+IsWalkFault (Damaged Kind) = Unit {0}
+IsWalkFault (Damaged Pointer) = Unit {0}
+IsWalkFault (Damaged InodeTwice) = Unit {0}
+IsWalkFault _ = ⊥

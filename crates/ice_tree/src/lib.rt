@@ -1,0 +1,10 @@
+//! The commands of one tree, over any view, keep, pool and form.
+#![tactic(auto)]
+
+mod fault;
+mod looks;
+mod paths;
+mod place;
+
+pub use looks::read;
+pub use place::Place;
