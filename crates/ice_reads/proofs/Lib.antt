@@ -1,3 +1,4 @@
 pub mod Frames
 pub mod Focus
 pub mod Steps
+pub mod LookUps
