@@ -2,3 +2,4 @@ pub mod Frames
 pub mod Focus
 pub mod Steps
 pub mod LookUps
+pub mod Losses
