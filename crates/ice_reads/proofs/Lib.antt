@@ -3,3 +3,4 @@ pub mod Focus
 pub mod Steps
 pub mod LookUps
 pub mod Losses
+pub mod Moves
