@@ -4,3 +4,4 @@ pub mod Steps
 pub mod LookUps
 pub mod Losses
 pub mod Moves
+pub mod Numbers
