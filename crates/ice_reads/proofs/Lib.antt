@@ -5,3 +5,6 @@ pub mod LookUps
 pub mod Losses
 pub mod Moves
 pub mod Numbers
+pub mod Sorted
+pub mod Unique
+pub mod Walks
