@@ -9,3 +9,4 @@ pub mod Sorted
 pub mod Unique
 pub mod Walks
 pub mod Rests
+pub mod Recovering
