@@ -76,3 +76,15 @@ IsTreeRefusal _ = ⊥
 abbrev pub ShownBy : {A : Type 0} → Option Why → Result A Refusal → Type 0
 ShownBy None result = ⊤
 ShownBy (Some r) result = meant_plain result ≡ Err (Because r)
+
+-- the faults of a look at the sub-super block
+abbrev pub IsSubFault : OpFault → Type 0
+IsSubFault op.Disk = ⊤
+IsSubFault (op.Damaged r) = ⊤
+IsSubFault _ = ⊥
+
+-- those of one more accepted operation
+abbrev pub IsCountFault : OpFault → Type 0
+IsCountFault op.Disk = ⊤
+IsCountFault (op.Damaged rule.Done) = ⊤
+IsCountFault _ = ⊥

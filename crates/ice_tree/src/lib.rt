@@ -1,10 +1,13 @@
 //! The commands of one tree, over any view, keep, pool and form.
 #![tactic(auto)]
 
+mod counts;
+mod ends;
 mod fault;
 mod looks;
 mod paths;
 mod place;
+mod quota;
 
 pub use looks::read;
 pub use place::Place;

@@ -82,7 +82,7 @@ fn enter<D: Disk, V: View<D>, F: Form>(
 }
 
 /// The place of a walk's next name.
-fn step<D: Disk, V: View<D>, F: Form>(
+pub(crate) fn step<D: Disk, V: View<D>, F: Form>(
     view: &mut V,
     disk: &mut D,
     lot: &Lot,

@@ -1,0 +1,60 @@
+-- What the changing commands find before they change anything.
+use Rattle.std.specs.Prelude.{◌≡◌, ◌<◌, ◌+◌, ◌*◌, ℕ, Bool, true, false, List, length, nat_lt, nat_eq, Option, Some, None, if◌then◌else◌}
+use Rattle.ice_base.specs.Lots.{LotView}
+use Rattle.tree_spec.specs.Why.{Why}
+use Rattle.tree_spec.specs.Why as why
+use Rattle.tree_spec.specs.Trees.{Tree, Entries, Found, walk, parent, rows}
+use Rattle.tree_spec.specs.Trees as tree
+use Rattle.tree_spec.specs.Costs.{Form, nodes, blocks, node_quota, block_quota}
+use Rattle.tree_spec.specs.Operations.{Operation, Mkdir, Make}
+use Rattle.tree_spec.specs.Answers.{most_done}
+use Rattle.ice_reads.specs.Tables.{Table}
+use Rattle.ice_reads.specs.Reads.{inode_on}
+use Rattle.ice_tree.specs.declared.quota.Need.{Need}
+use Rattle.ice_tree.specs.declared.ends.Ends.{Ends}
+use Rattle.ice_tree.specs.declared.ends.Spot.{Spot}
+use Rattle.ice_tree.specs.Places.{place_at, PlaceFits}
+
+-- the tree that would be made has so many nodes and blocks more, and so many fewer
+pub record Needs (f : Form) (t next : Tree) (need : Need) : Type 0 where
+  pub nodes_move : nodes next + need.lost ≡ nodes t + need.nodes
+  pub blocks_move : blocks f next + need.freed ≡ blocks f t + need.blocks
+
+-- the places where the walks to a path's directory and to the path itself end
+pub record IsEnds (f : Form) (o : Table) (names : List (List ℕ)) (t : Tree) (ends : Ends) : Type 0 where
+  pub at_parent : ends.parent ≡ place_at f o (parent names) t
+  pub at_end : ends.end ≡ place_at f o names t
+
+-- both fit the lot
+pub record EndsFit (lot : LotView) (ends : Ends) : Type 0 where
+  pub at_parent : PlaceFits lot ends.parent
+  pub at_end : PlaceFits lot ends.end
+
+-- a directory of the tree: its inode and the number of its entries
+pub record IsSpot (f : Form) (o : Table) (names : List (List ℕ)) (t : Tree) (spot : Spot) : Type 0 where
+  pub inside : Entries
+  pub there : walk names t ≡ Found (tree.Dir inside)
+  pub number : spot.number ≡ inode_on f o 0 names
+  pub count : spot.entries ≡ length (rows inside)
+
+-- its numbers fit the lot
+pub record SpotFits (lot : LotView) (spot : Spot) : Type 0 where
+  pub number : spot.number < 64 * length lot.groups
+  pub count : spot.entries < 64 * length lot.groups
+
+-- what is made: an empty directory, or an empty file
+abbrev pub new_operation : Bool → List (List ℕ) → Operation
+new_operation true p = Mkdir p
+new_operation false p = Make p
+
+-- the refusal by the number of nodes of the tree that would be made
+abbrev pub nodes_refusal : ℕ → Tree → Option Why
+nodes_refusal n t = if nat_lt (node_quota n) (nodes t) then Some why.NoNodes else None
+
+-- by its blocks
+abbrev pub blocks_refusal : ℕ → Form → Tree → Option Why
+blocks_refusal n f t = if nat_lt (block_quota n) (blocks f t) then Some why.NoSpace else None
+
+-- by the number of operations that were accepted
+abbrev pub done_refusal : ℕ → Option Why
+done_refusal done = if nat_eq done most_done then Some why.Spent else None

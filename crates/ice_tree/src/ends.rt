@@ -1,0 +1,63 @@
+//! Where a path and its directory end.
+ghost use Rattle.std.specs.Prelude.{◌≡◌, ◌≤◌, ℕ, true, IfOk, IfErr, IsErrOf, length, drop};
+ghost use Rattle.ice_base.specs.Disk.{Rose};
+ghost use Rattle.ice_base.specs.Lots.{is_sited};
+ghost use Rattle.ice_base.specs.Views.{Looked};
+ghost use Rattle.ice_base.specs.declared.fault.OpFault.TheVariants.{Disk as FaultDisk};
+ghost use Rattle.tree_spec.specs.Costs.{form_of};
+ghost use Rattle.tree_spec.specs.Trees.{Tree};
+ghost use Rattle.ice_reads.specs.Recovers.{MapRecovers};
+ghost use Rattle.ice_reads.specs.Tables.{own_in};
+ghost use Rattle.ice_tree.specs.Changes.{IsEnds, EndsFit};
+ghost use Rattle.ice_tree.specs.Places.{IsWalkFault};
+
+use crate::place::{Place, step, walk};
+use ice_base::{Disk, Form, Lot, OpFault, View};
+use tree_spec::Path;
+
+/// The places where the walks to a path's directory and to the path itself end. Those of the root are the root.
+#[derive(Clone, Copy, Drop)]
+pub struct Ends {
+    pub parent: Place,
+    pub end: Place,
+}
+
+/// A directory in which an entry stands or is to stand: the number of its inode, and of its entries.
+#[derive(Clone, Copy, Drop)]
+pub struct Spot {
+    pub number: u32,
+    pub entries: u32,
+}
+
+/// The ends of the path from `depth` on, in one walk.
+pub(crate) fn find_ends<D: Disk, V: View<D>, F: Form>(
+    view: &mut V,
+    disk: &mut D,
+    lot: &Lot,
+    path: &Path,
+    depth: usize,
+) -> Result<Ends, OpFault>
+    requires sited { is_sited lot.now (D.state disk.old).size ≡ true }
+    requires some { 1 ≤ length lot.now.groups }
+    requires depth { depth ≤ length path.now }
+    ensures found { (mode k : ℕ) (t : Tree) → V.shows lot.now view.old disk.old → MapRecovers (form_of F.VERSION) mode lot.now (V.map view.old disk.old lot.now) t k
+        → IfOk result (IsEnds (form_of F.VERSION) (own_in (form_of F.VERSION) (V.map view.old disk.old lot.now)) (drop depth path.now) t) }
+    ensures sound { (mode k : ℕ) (t : Tree) → V.shows lot.now view.old disk.old → MapRecovers (form_of F.VERSION) mode lot.now (V.map view.old disk.old lot.now) t k → IfErr result (λ e. e ≡ FaultDisk) }
+    ensures fits { IfOk result (EndsFit lot.now) }
+    ensures looked { Looked D.Disk V.View lot.now view.old disk.old view.new disk.new }
+    ensures faults { IfErr result IsWalkFault }
+    ensures failed { IsErrOf result FaultDisk → Rose (D.state disk.old).faults (D.state disk.new).faults }
+{
+    if path.len() == depth {
+        let root = walk::<D, V, F>(view, disk, lot, path, depth, depth)?;
+        return Ok(Ends {
+            parent: root,
+            end: root,
+        });
+    }
+    let last = path.len() - 1;
+    let parent = walk::<D, V, F>(view, disk, lot, path, depth, last)?;
+    let name = path.name(last);
+    let end = step::<D, V, F>(view, disk, lot, parent, &name)?;
+    Ok(Ends { parent, end })
+}

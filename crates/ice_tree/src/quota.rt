@@ -1,0 +1,160 @@
+//! What a change needs: nodes, blocks, and one more accepted operation.
+ghost use Rattle.std.specs.Prelude.{◌≡◌, ◌≤◌, ℕ, true, None, IfErr, IsErrOf, MatchResult, length};
+ghost use Rattle.ice_base.specs.Disk.{Rose};
+ghost use Rattle.ice_base.specs.Lots.{is_sited};
+ghost use Rattle.ice_base.specs.Views.{Looked};
+ghost use Rattle.tree_spec.specs.Costs.{form_of, map_cost, file_blocks, dir_blocks};
+ghost use Rattle.tree_spec.specs.Replies.{refused_of};
+ghost use Rattle.tree_spec.specs.Trees.{Tree};
+ghost use Rattle.tree_spec.specs.declared.reply.Refusal.TheVariants.{Fault};
+ghost use Rattle.ice_file.specs.Files.{longest_file};
+ghost use Rattle.ice_reads.specs.Recovers.{MapRecovers};
+ghost use Rattle.ice_tree.specs.Changes.{Needs, nodes_refusal, blocks_refusal, done_refusal};
+ghost use Rattle.ice_tree.specs.Outcomes.{RefusedAs, IsTreeRefusal};
+ghost use Rattle.ice_tree.specs.Stages.{quota_refusal};
+
+use crate::counts::{MOST_DONE, done_of};
+use crate::fault::refusal_of;
+use ice_base::{Disk, Form, Keep, Lot, Pool};
+use tree_spec::Refusal;
+
+/// What a change adds to what a tree has, and what it takes from it.
+#[derive(Clone, Copy, Drop)]
+pub struct Need {
+    pub nodes: u32,
+    pub lost: u32,
+    pub blocks: u32,
+    pub freed: u32,
+}
+
+/// The blocks of a map of so many data blocks.
+fn whole_map(count: u32) -> u32
+    requires { count ≤ 268 }
+    ensures { result ≡ map_cost count }
+{
+    if count <= 12 { count } else { count + 1 }
+}
+
+/// The blocks of a file of so many bytes.
+pub(crate) fn file_cost(size: u32) -> u32
+    requires { size ≤ longest_file }
+    ensures { result ≡ map_cost (file_blocks size) }
+{
+    whole_map(size.div_ceil(1024))
+}
+
+/// The blocks of a directory of so many entries.
+pub(crate) fn dir_cost<F: Form>(entries: u32) -> u32
+    requires { entries ≤ 4096 }
+    ensures { result ≡ map_cost (dir_blocks (form_of F.VERSION) entries) }
+{
+    whole_map((F::ENTRY * entries).div_ceil(1024))
+}
+
+/// NoNodes: fewer inodes are free than the change needs.
+fn check_nodes<D: Disk, K: Keep<D>, P: Pool<D, K>, F: Form>(
+    keep: &mut K,
+    pool: &mut P,
+    disk: &mut D,
+    lot: &Lot,
+    need: &Need,
+) -> Result<(), Refusal>
+    requires { is_sited lot.now (D.state disk.old).size ≡ true }
+    ensures nodes { (mode k : ℕ) (t next : Tree) → K.shows lot.now keep.old disk.old → MapRecovers (form_of F.VERSION) mode lot.now (K.map keep.old disk.old lot.now) t k → Needs (form_of F.VERSION) t next need.now
+        → MatchResult result (λ u. nodes_refusal (length lot.now.groups) next ≡ None) (λ r. RefusedAs (refused_of r) (nodes_refusal (length lot.now.groups) next)) }
+    ensures looked { Looked D.Disk K.View lot.now keep.old disk.old keep.new disk.new }
+    ensures set { IfErr result IsTreeRefusal }
+    ensures failed { IsErrOf result Fault → Rose (D.state disk.old).faults (D.state disk.new).faults }
+{
+    if need.nodes <= need.lost {
+        return Ok(());
+    }
+    match pool.free_inodes(keep, disk, lot) {
+        Err(fault) => Err(refusal_of(fault)),
+        Ok(free) => {
+            if free < need.nodes - need.lost {
+                return Err(Refusal::NoNodes);
+            }
+            Ok(())
+        }
+    }
+}
+
+/// NoSpace: fewer blocks are free than the change needs.
+fn check_blocks<D: Disk, K: Keep<D>, P: Pool<D, K>, F: Form>(
+    keep: &mut K,
+    pool: &mut P,
+    disk: &mut D,
+    lot: &Lot,
+    need: &Need,
+) -> Result<(), Refusal>
+    requires { is_sited lot.now (D.state disk.old).size ≡ true }
+    ensures blocks { (mode k : ℕ) (t next : Tree) → K.shows lot.now keep.old disk.old → MapRecovers (form_of F.VERSION) mode lot.now (K.map keep.old disk.old lot.now) t k → Needs (form_of F.VERSION) t next need.now
+        → MatchResult result (λ u. blocks_refusal (length lot.now.groups) (form_of F.VERSION) next ≡ None) (λ r. RefusedAs (refused_of r) (blocks_refusal (length lot.now.groups) (form_of F.VERSION) next)) }
+    ensures looked { Looked D.Disk K.View lot.now keep.old disk.old keep.new disk.new }
+    ensures set { IfErr result IsTreeRefusal }
+    ensures failed { IsErrOf result Fault → Rose (D.state disk.old).faults (D.state disk.new).faults }
+{
+    if need.blocks <= need.freed {
+        return Ok(());
+    }
+    match pool.free_blocks(keep, disk, lot) {
+        Err(fault) => Err(refusal_of(fault)),
+        Ok(free) => {
+            if free < need.blocks - need.freed {
+                return Err(Refusal::NoSpace);
+            }
+            Ok(())
+        }
+    }
+}
+
+/// Spent: no further operation may be accepted.
+fn check_done<D: Disk, K: Keep<D>, F: Form>(
+    keep: &mut K,
+    disk: &mut D,
+    lot: &Lot,
+) -> Result<(), Refusal>
+    requires { is_sited lot.now (D.state disk.old).size ≡ true }
+    ensures done { (mode k : ℕ) (t : Tree) → K.shows lot.now keep.old disk.old → MapRecovers (form_of F.VERSION) mode lot.now (K.map keep.old disk.old lot.now) t k
+        → MatchResult result (λ u. done_refusal k ≡ None) (λ r. RefusedAs (refused_of r) (done_refusal k)) }
+    ensures looked { Looked D.Disk K.View lot.now keep.old disk.old keep.new disk.new }
+    ensures set { IfErr result IsTreeRefusal }
+    ensures failed { IsErrOf result Fault → Rose (D.state disk.old).faults (D.state disk.new).faults }
+{
+    match done_of::<D, K, F>(keep, disk, lot) {
+        Err(fault) => Err(refusal_of(fault)),
+        Ok(done) => {
+            if done == MOST_DONE {
+                return Err(Refusal::Spent);
+            }
+            Ok(())
+        }
+    }
+}
+
+/// Refuses a change by what it needs: NoNodes, NoSpace, Spent. The bitmaps are read only where the change needs more than it gives back.
+pub(crate) fn check_quota<D: Disk, K: Keep<D>, P: Pool<D, K>, F: Form>(
+    keep: &mut K,
+    pool: &mut P,
+    disk: &mut D,
+    lot: &Lot,
+    need: &Need,
+) -> Result<(), Refusal>
+    requires { is_sited lot.now (D.state disk.old).size ≡ true }
+    ensures quota { (mode k : ℕ) (t next : Tree) → K.shows lot.now keep.old disk.old → MapRecovers (form_of F.VERSION) mode lot.now (K.map keep.old disk.old lot.now) t k → Needs (form_of F.VERSION) t next need.now
+        → MatchResult result (λ u. quota_refusal (length lot.now.groups) (form_of F.VERSION) k next ≡ None) (λ r. RefusedAs (refused_of r) (quota_refusal (length lot.now.groups) (form_of F.VERSION) k next)) }
+    ensures looked { Looked D.Disk K.View lot.now keep.old disk.old keep.new disk.new }
+    ensures set { IfErr result IsTreeRefusal }
+    ensures failed { IsErrOf result Fault → Rose (D.state disk.old).faults (D.state disk.new).faults }
+{
+    match check_nodes::<D, K, P, F>(keep, pool, disk, lot, need) {
+        Err(refusal) => return Err(refusal),
+        Ok(()) => {}
+    }
+    match check_blocks::<D, K, P, F>(keep, pool, disk, lot, need) {
+        Err(refusal) => return Err(refusal),
+        Ok(()) => {}
+    }
+    check_done::<D, K, F>(keep, disk, lot)
+}
