@@ -1,0 +1,10 @@
+pub mod Frames
+pub mod Focus
+pub mod Steps
+pub mod LookUps
+pub mod Losses
+pub mod Moves
+pub mod Numbers
+pub mod Sorted
+pub mod Unique
+pub mod Walks
