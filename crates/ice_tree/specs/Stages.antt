@@ -1,11 +1,11 @@
 -- The refusals of a tree, stage by stage.
-use Rattle.std.specs.Prelude.{ℕ, List, length, nat_lt, Option, Some, None, if◌then◌else◌}
+use Rattle.std.specs.Prelude.{ℕ, List, length, nat_lt, nat_eq, Option, Some, None, if◌then◌else◌}
 use Rattle.std.specs.List.{list_any}
 use Rattle.tree_spec.specs.Why.{Why}
 use Rattle.tree_spec.specs.Why as why
-use Rattle.tree_spec.specs.Trees.{Walk, Found, NotFound, NotDir, File, Dir}
-use Rattle.tree_spec.specs.Costs.{Form}
-use Rattle.tree_spec.specs.Answers.{deepest}
+use Rattle.tree_spec.specs.Trees.{Tree, Walk, Found, NotFound, NotDir, File, Dir}
+use Rattle.tree_spec.specs.Costs.{Form, nodes, blocks, node_quota, block_quota}
+use Rattle.tree_spec.specs.Answers.{deepest, most_done}
 
 -- the first refusal, and where there is none the second
 abbrev pub or_else : Option Why → Option Why → Option Why
@@ -30,3 +30,16 @@ file_refusal (Found (File bytes)) = None
 file_refusal (Found (Dir es)) = Some why.IsDir
 file_refusal NotFound = Some why.NotFound
 file_refusal NotDir = Some why.NotDir
+
+-- the refusal of a walk that has to end at a directory
+abbrev pub dir_refusal : Walk → Option Why
+dir_refusal (Found (File bytes)) = Some why.NotDir
+dir_refusal (Found (Dir es)) = None
+dir_refusal NotFound = Some why.NotFound
+dir_refusal NotDir = Some why.NotDir
+
+-- the refusal that a lot of n groups has for a tree of one operation more, after so many
+abbrev pub quota_refusal : ℕ → Form → ℕ → Tree → Option Why
+quota_refusal n f done t =
+    if nat_lt (node_quota n) (nodes t) then Some why.NoNodes
+    else (if nat_lt (block_quota n) (blocks f t) then Some why.NoSpace else (if nat_eq done most_done then Some why.Spent else None))
