@@ -31,6 +31,15 @@ file_refusal (Found (Dir es)) = Some why.IsDir
 file_refusal NotFound = Some why.NotFound
 file_refusal NotDir = Some why.NotDir
 
--- the refusal by what the tree that would be made needs
+-- the refusal of a walk that has to end at a directory
+abbrev pub dir_refusal : Walk → Option Why
+dir_refusal (Found (File bytes)) = Some why.NotDir
+dir_refusal (Found (Dir es)) = None
+dir_refusal NotFound = Some why.NotFound
+dir_refusal NotDir = Some why.NotDir
+
+-- the refusal that a lot of n groups has for a tree of one operation more, after so many
 abbrev pub quota_refusal : ℕ → Form → ℕ → Tree → Option Why
-quota_refusal n f k t = if nat_lt (node_quota n) (nodes t) then Some why.NoNodes else (if nat_lt (block_quota n) (blocks f t) then Some why.NoSpace else (if nat_eq k most_done then Some why.Spent else None))
+quota_refusal n f done t =
+    if nat_lt (node_quota n) (nodes t) then Some why.NoNodes
+    else (if nat_lt (block_quota n) (blocks f t) then Some why.NoSpace else (if nat_eq done most_done then Some why.Spent else None))

@@ -43,8 +43,8 @@ pub(crate) fn file_at<D: Disk, V: View<D>, F: Form>(
     requires depth { depth ≤ length path.now }
     ensures found { (mode k : ℕ) (t : Tree) → V.shows lot.now view.old disk.old → MapRecovers (form_of F.VERSION) mode lot.now (V.map view.old disk.old lot.now) t k
         → MatchResult result
-          (λ file. (bytes : List ℕ) × (walk (drop depth path.now) t ≡ Found (File bytes)) × (file.number ≡ inode_on (form_of F.VERSION) (own_in (form_of F.VERSION) (V.map view.old disk.old lot.now)) 0 (drop depth path.now)) × (file.size ≡ length bytes))
-          (λ r. RefusedAs (refused_of r) (file_refusal (walk (drop depth path.now) t))) }
+        (λ file. (bytes : List ℕ) × (walk (drop depth path.now) t ≡ Found (File bytes)) × (file.number ≡ inode_on (form_of F.VERSION) (own_in (form_of F.VERSION) (V.map view.old disk.old lot.now)) 0 (drop depth path.now)) × (file.size ≡ length bytes))
+        (λ r. RefusedAs (refused_of r) (file_refusal (walk (drop depth path.now) t))) }
     ensures fits { IfOk result (λ file. (file.number < 64 * length lot.now.groups) × (file.size ≤ longest_file)) }
     ensures looked { Looked D.Disk V.View lot.now view.old disk.old view.new disk.new }
     ensures set { IfErr result IsTreeRefusal }
