@@ -5,9 +5,11 @@ mod counts;
 mod ends;
 mod fault;
 mod looks;
+mod makes;
 mod paths;
 mod place;
 mod quota;
 
 pub use looks::read;
+pub use makes::mkdir;
 pub use place::Place;
