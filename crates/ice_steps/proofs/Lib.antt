@@ -4,3 +4,4 @@ pub mod Parts
 pub mod Lengths
 pub mod Quotas
 pub mod SubLaws
+pub mod Keeps
