@@ -19,7 +19,7 @@ some_same t u e = cc
 
 -- ---- the number of entries
 
-length-over : (c : List ℕ) (g : Tree → Tree) (es : Entries) → length (rows (over_entry c g es)) ≡ length (rows es)
+pub length-over : (c : List ℕ) (g : Tree → Tree) (es : Entries) → length (rows (over_entry c g es)) ≡ length (rows es)
 length-over c g Nil = refl
 length-over c g (Entry d t es) = elim (is_same_name c d) as (λ b. length (rows (cond b (Entry d (g t) es) (Entry d t (over_entry c g es)))) ≡ suc (length (rows es))) [ true ↦ refl | false ↦ ap suc (length-over c g es) ]
 
@@ -158,7 +158,7 @@ less_differs Greater p = absurd p
 other : (c d x : List ℕ) → is_same_name c d ≡ true → T (is_lt (by_bytes d x)) → is_same_name c x ≡ false
 other c d x e h = ap (λ y. is_same_name y x) (same_name c d e) ∙ less_differs (by_bytes d x) h
 
-no_later : (c d : List ℕ) (es : Entries) → is_same_name c d ≡ true → T (below_all by_bytes d (rows es)) → without c es ≡ es
+pub no_later : (c d : List ℕ) (es : Entries) → is_same_name c d ≡ true → T (below_all by_bytes d (rows es)) → without c es ≡ es
 no_later c d Nil e h = refl
 no_later c d (Entry x t es) e h =
     ap (λ b. from_rows (cond (not b) ((x, t) ∷ filter (λ e. not (is_same_name c e.0)) (rows es)) (filter (λ e. not (is_same_name c e.0)) (rows es)))) (other c d x e (left _ _ h))
