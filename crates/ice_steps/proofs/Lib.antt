@@ -5,3 +5,5 @@ pub mod Lengths
 pub mod Quotas
 pub mod SubLaws
 pub mod Keeps
+pub mod Still
+pub mod Takes
