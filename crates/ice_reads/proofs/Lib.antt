@@ -4,3 +4,7 @@ pub mod Steps
 pub mod LookUps
 pub mod Losses
 pub mod Moves
+pub mod Numbers
+pub mod Sorted
+pub mod Unique
+pub mod Walks
