@@ -16,9 +16,9 @@ use Rattle.tree_spec.specs.Costs.{form_one, blocks, nodes, block_quota, node_quo
 use Rattle.ice_reads.specs.Tables.{Map, own_in}
 use Rattle.ice_reads.specs.Reads.{used_blocks, used_inodes}
 use Rattle.ice_reads.specs.Recovers.{MapRecovers}
+use Rattle.ice_reads.proofs.Numbers.{Reads-number, Reads-data}
 use Rattle.ice_steps.proofs.Counts.{count-times, count-groups, mark-clear}
 use Rattle.ice_steps.proofs.Lengths.{length-inodes, length-blocks}
-use Rattle.ice_steps.proofs.Parts.{used-number, used-data}
 
 -- the marked data places
 abbrev data_used : LotView → Map → ℕ → Bool
@@ -68,11 +68,11 @@ module _ (mode : ℕ) (lot : LotView) (m : Map) (t : Tree) (k : ℕ) (r : MapRec
   pub free_nodes_are : free_count true lot m + nodes t ≡ node_quota (length lot.groups)
   free_nodes_are =
       let e = length-inodes form_one (own_in form_one m) 0 t in
-      let c = inodes-counted lot m (used_inodes form_one (own_in form_one m) 0 t) (λ i h. used-number form_one lot (own_in form_one m) i 0 0 t r.holds.reads (has-times _ i h)) r.holds.inodes in
+      let c = inodes-counted lot m (used_inodes form_one (own_in form_one m) 0 t) (λ i h. Reads-number form_one lot (own_in form_one m) i 0 0 t r.holds.reads (has-times _ i h)) r.holds.inodes in
       omega arith
 
   used_blocks_fill : free_count false lot m + length (used_blocks form_one (own_in form_one m) 0 t) ≡ 247 * length lot.groups
-  used_blocks_fill = blocks-counted lot m (used_blocks form_one (own_in form_one m) 0 t) r.holds.reserved (λ b h. used-data form_one lot (own_in form_one m) 0 0 t b r.holds.reads (has-times _ b h)) r.holds.blocks
+  used_blocks_fill = blocks-counted lot m (used_blocks form_one (own_in form_one m) 0 t) r.holds.reserved (λ b h. Reads-data form_one lot (own_in form_one m) b 0 0 t r.holds.reads (has-times _ b h)) r.holds.blocks
 
   pub free_blocks_are : length lot.groups ≤ 64 → free_count false lot m + blocks form_one t ≡ block_quota (length lot.groups)
   free_blocks_are few =

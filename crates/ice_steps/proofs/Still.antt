@@ -12,8 +12,8 @@ use Rattle.ice_reads.specs.Tables.{Map, own_in, IsInode}
 use Rattle.ice_reads.specs.Reads.{Reads, used_blocks, used_inodes}
 use Rattle.ice_reads.specs.Recovers.{SubSays}
 use Rattle.ice_reads.proofs.Frames.{SameAt, Reads-frame, uses-frame}
+use Rattle.ice_reads.proofs.Numbers.{Reads-inode}
 use Rattle.ice_steps.specs.Beside.{Beside}
-use Rattle.ice_steps.proofs.Parts.{used-each}
 
 -- the marks and counts follow what lies beside the tree
 pub record BesideMoves (lot : LotView) (m m' : Map) (xs ys is js : List ℕ) : Type 0 where
@@ -73,4 +73,4 @@ module _ (mode : ℕ) (lot : LotView) (m m' : Map) (t : Tree) (k k' : ℕ) (xs y
 
 -- the blocks that an inode of a tree uses are data places
 pub used-places : (lot : LotView) (m : Map) (i h : ℕ) (t : Tree) → Reads form_one lot (own_in form_one m) i h t → (x : ℕ) → 0 < times (used_inodes form_one (own_in form_one m) i t) x → (b : ℕ) → has (own 64 m x).uses b ≡ true → is_data lot b ≡ true
-used-places lot m i h t r x c = used-each form_one lot (own_in form_one m) (λ x. (b : ℕ) → has (own 64 m x).uses b ≡ true → is_data lot b ≡ true) (λ i h q. q.places) x i h t r c
+used-places lot m i h t r x c = (Reads-inode form_one lot (own_in form_one m) x i h t r c).1.places
