@@ -6,3 +6,4 @@ pub mod SubLaws
 pub mod Keeps
 pub mod Still
 pub mod Takes
+pub mod Made
