@@ -7,3 +7,4 @@ pub mod Keeps
 pub mod Still
 pub mod Takes
 pub mod Made
+pub mod Walks
