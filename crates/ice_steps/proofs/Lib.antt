@@ -8,3 +8,4 @@ pub mod Still
 pub mod Takes
 pub mod Made
 pub mod Walks
+pub mod Others
