@@ -9,3 +9,5 @@ pub mod Takes
 pub mod Made
 pub mod Walks
 pub mod Others
+pub mod Sets
+pub mod Files
