@@ -11,3 +11,5 @@ pub mod Walks
 pub mod Others
 pub mod Sets
 pub mod Files
+pub mod Rows
+pub mod Losses
