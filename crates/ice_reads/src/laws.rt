@@ -4,8 +4,9 @@ ghost use Rattle.ice_base.specs.Lots.{LotView, sub_address};
 ghost use Rattle.ice_base.specs.Spare.{has};
 ghost use Rattle.ice_map.specs.Maps.{times};
 ghost use Rattle.ice_file.specs.Own.{mark};
-ghost use Rattle.tree_spec.specs.Trees.{Tree};
-ghost use Rattle.tree_spec.specs.Costs.{Form};
+ghost use Rattle.tree_spec.specs.Trees.{Tree, Dir, Nil};
+ghost use Rattle.tree_spec.specs.Costs.{Form, form_one};
+ghost use Rattle.ice_reads.specs.Fresh.{IsFreshLot};
 ghost use Rattle.ice_reads.specs.Tables.{Map, own_in};
 ghost use Rattle.ice_reads.specs.Reads.{used_blocks};
 ghost use Rattle.ice_reads.specs.Recovers.{MapRecovers};
@@ -38,5 +39,12 @@ pub fn same_blocks()
 pub fn marks_as_sets()
     ensures sets { (xs : List ℕ) (a : ℕ) (b : Bool) → times xs a ≡ mark b → (times xs a ≤ 1) × (b ≡ true → has xs a ≡ true) × (has xs a ≡ true → b ≡ true) }
     ensures counts { (xs : List ℕ) (a : ℕ) (b : Bool) → times xs a ≤ 1 → (b ≡ true → has xs a ≡ true) → (has xs a ≡ true → b ≡ true) → times xs a ≡ mark b }
+{
+}
+
+/// A fresh lot recovers the empty directory, with no accepted operation.
+#[tactic(auto, using(crate::proofs::FreshLots::fresh_recovers))]
+pub fn fresh_lot()
+    ensures { (lot : LotView) (m : Map) → IsFreshLot lot m → MapRecovers form_one 0 lot m (Dir Nil) 0 }
 {
 }
