@@ -1,30 +1,29 @@
 -- A fresh lot recovers the empty directory.
-use Rattle.std.proofs.Common.{◌≡◌, ℕ, zero, suc, ◌+◌, ◌-◌, ◌*◌, ◌/◌, ◌%◌, ◌<◌, ◌≤◌, ◌==◌, Bool, true, false, cond, List, [], ◌∷◌, ◌++◌, map, length, slice_index, Some, None, sym, refl, ap, ◌∙◌, subst, arith}
+use Rattle.std.proofs.Common.{◌≡◌, ℕ, zero, suc, ◌+◌, ◌*◌, ◌/◌, ◌%◌, ◌<◌, ◌==◌, true, false, cond, List, [], ◌∷◌, ◌++◌, map, length, slice_index, sym, refl, ap, ◌∙◌, subst, arith}
 use Rattle.std.specs.Prelude.{All, is_some}
-use Rattle.std.specs.List.{range_with_len, IsDistinct}
+use Rattle.std.specs.List.{IsDistinct}
 use Rattle.std.specs.FinMap.{find}
 use Rattle.std.specs.Ordering.{eq_by_cmp}
 use Rattle.std.proofs.lemmas.Bool.Decides.{nat_tests}
 use Rattle.std.proofs.lemmas.List.Elements.{All-nil}
 use Rattle.std.proofs.lemmas.Nat.{div-add-mod', mod_below}
 use Rattle.ice_base.specs.Bits.{bit_of}
-use Rattle.ice_base.specs.Lots.{LotView, sub_address}
+use Rattle.ice_base.specs.Lots.{LotView}
 use Rattle.ice_base.specs.Spare.{has}
-use Rattle.ice_base.specs.Used.{used_block, used_inode, is_data, Reserved}
+use Rattle.ice_base.specs.Used.{used_block, used_inode, is_data}
 use Rattle.ice_base.proofs.UsedLaws.{used-bit, data_below, data_place}
 use Rattle.ice_layout.specs.Subs.{fresh_bitmap, fresh_inodes}
-use Rattle.ice_layout.specs.declared.sub.SubSuper.{SubSuper}
 use Rattle.ice_map.specs.declared.codec.Inode.{Inode}
 use Rattle.ice_map.specs.Inodes.{inode_of, inode_at}
 use Rattle.ice_map.specs.Maps.{times, uses}
 use Rattle.ice_map.proofs.ListLaws.{has-none}
-use Rattle.ice_file.specs.Own.{Own, own_of, map_length, blocks_for, mark}
+use Rattle.ice_file.specs.Own.{map_length, blocks_for, mark}
 use Rattle.ice_dir.specs.Rows.{Row}
-use Rattle.tree_spec.specs.Trees.{Tree, Dir, Nil, by_bytes}
-use Rattle.tree_spec.specs.Costs.{Form, form_one}
+use Rattle.tree_spec.specs.Trees.{Dir, Nil, by_bytes}
+use Rattle.tree_spec.specs.Costs.{form_one}
 use Rattle.ice_reads.specs.Tables.{Map, own_in, rows_in, RestIsZero, IsInode, IsNameOf, IsDirInode}
-use Rattle.ice_reads.specs.Reads.{Reads, used_blocks, used_inodes}
-use Rattle.ice_reads.specs.Recovers.{SubSays, Holds, MapRecovers}
+use Rattle.ice_reads.specs.Reads.{Reads, used_blocks}
+use Rattle.ice_reads.specs.Recovers.{MapRecovers}
 use Rattle.ice_reads.specs.Fresh.{IsFreshLot}
 use Rattle.ice_reads.proofs.Frames.{times-other}
 use Rattle.ice_reads.proofs.Losses.{length-rows_in}
