@@ -131,17 +131,17 @@ recovers_rests f mode lot m n t k sub fixed held r = record {
 -- ---- "as often as its bit says", as sets
 
 -- a number that stands in a list as often as its bit says stands there once at most, and just where its bit is set
-pub times_is-mark : (xs : List ℕ) (a : ℕ) (b : Bool) → times xs a ≡ mark b → (times xs a ≤ 1) × (b ≡ true → has xs a ≡ true) × (has xs a ≡ true → b ≡ true)
-times_is-mark xs a true e = (omega (arith, e), (λ t. times-has xs a (omega (arith, e))), (λ t. refl))
-times_is-mark xs a false e = (omega (arith, e), (λ t. absurd (no t)), (λ t. absurd (omega (arith, has-times xs a t, e))))
+pub times_is_mark : (xs : List ℕ) (a : ℕ) (b : Bool) → times xs a ≡ mark b → (times xs a ≤ 1) × (b ≡ true → has xs a ≡ true) × (has xs a ≡ true → b ≡ true)
+times_is_mark xs a true e = (omega (arith, e), (λ t. times-has xs a (omega (arith, e))), (λ t. refl))
+times_is_mark xs a false e = (omega (arith, e), (λ t. absurd (no t)), (λ t. absurd (omega (arith, has-times xs a t, e))))
   where
     no : false ≡ true → ⊥
     no h = cc
 
 -- and where that holds, it stands there so often
-pub mark-is_times : (xs : List ℕ) (a : ℕ) (b : Bool) → times xs a ≤ 1 → (b ≡ true → has xs a ≡ true) → (has xs a ≡ true → b ≡ true) → times xs a ≡ mark b
-mark-is_times xs a true once set stands = omega (arith, once, has-times xs a (set refl))
-mark-is_times xs a false once set stands =
+pub mark_is_times : (xs : List ℕ) (a : ℕ) (b : Bool) → times xs a ≤ 1 → (b ≡ true → has xs a ≡ true) → (has xs a ≡ true → b ≡ true) → times xs a ≡ mark b
+mark_is_times xs a true once set stands = omega (arith, once, has-times xs a (set refl))
+mark_is_times xs a false once set stands =
     elim (has xs a) as (λ h. has xs a ≡ h → times xs a ≡ 0) [
       | true ↦ λ h. absurd (no (stands h))
       | false ↦ λ h. omega (arith, (λ (some : 1 ≤ times xs a). no (sym h ∙ times-has xs a some)))
