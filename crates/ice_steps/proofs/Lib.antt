@@ -1,0 +1,13 @@
+pub mod Recovers
+pub mod Counts
+pub mod Lengths
+pub mod Quotas
+pub mod SubLaws
+pub mod Keeps
+pub mod Still
+pub mod Takes
+pub mod Made
+pub mod Walks
+pub mod Others
+pub mod Sets
+pub mod Files

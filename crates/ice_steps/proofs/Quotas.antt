@@ -1,0 +1,91 @@
+-- What is free in a lot, and how great its counts are.
+use Rattle.std.proofs.Common.{◌≡◌, ◌≤◌, ◌<◌, ◌+◌, ◌*◌, ◌%◌, ◌==◌, ℕ, suc, Bool, true, false, cond, not, ◌&&◌, List, [], ◌∷◌, ◌++◌, length, ◌⊎◌, inl, inr, ⊎_elim, ◌∙◌, sym, refl, ap, arith, ltb}
+use Rattle.std.proofs.lemmas.Bool.Decides.{nat_tests}
+use Rattle.ice_base.specs.Bits.{count_below}
+use Rattle.ice_base.specs.Lots.{LotView}
+use Rattle.ice_base.specs.Spare.{has}
+use Rattle.ice_base.specs.Used.{used_block, used_inode, is_data, counted, free_count, Reserved}
+use Rattle.ice_base.proofs.UsedLaws.{group_mod, data_of, data_place, data_below}
+use Rattle.ice_base.proofs.CountLaws.{count_below-not}
+use Rattle.ice_map.specs.Maps.{times}
+use Rattle.ice_map.proofs.ListLaws.{times-append, has-append, has-times}
+use Rattle.ice_file.specs.Own.{own, mark}
+use Rattle.ice_file.proofs.OwnLaws.{times-has}
+use Rattle.tree_spec.specs.Trees.{Tree, File, Dir, Entries, Nil, Entry}
+use Rattle.tree_spec.specs.Costs.{form_one, blocks, nodes, block_quota, node_quota}
+use Rattle.ice_reads.specs.Tables.{Map, own_in}
+use Rattle.ice_reads.specs.Reads.{used_blocks, used_inodes}
+use Rattle.ice_reads.specs.Recovers.{MapRecovers}
+use Rattle.ice_reads.proofs.Numbers.{Reads-number, Reads-data}
+use Rattle.ice_steps.proofs.Counts.{count-times, count-groups, mark-clear}
+use Rattle.ice_steps.proofs.Lengths.{length-inodes, length-blocks}
+
+-- the marked data places
+abbrev data_used : LotView → Map → ℕ → Bool
+data_used lot m a = is_data lot a && used_block m a
+
+not-data : (lot : LotView) (o j : ℕ) → j < 9 → is_data lot (256 * o + j) ≡ false
+not-data lot o j h =
+    let e = group_mod false o j (omega arith) in
+    elim (is_data lot (256 * o + j)) as (λ t. is_data lot (256 * o + j) ≡ t → t ≡ false) [
+      | true ↦ λ t. let p = data_place lot (256 * o + j) t in absurd (omega arith)
+      | false ↦ λ t. refl
+    ] refl
+
+module _ (lot : LotView) (m : Map) where
+  -- nine places of each group are marked, and beside them the data places of a list
+  pub blocks-counted : (xs : List ℕ) → Reserved lot m → ((b : ℕ) → has xs b ≡ true → is_data lot b ≡ true) → ((b : ℕ) → is_data lot b ≡ true → times xs b ≡ mark (used_block m b))
+      → free_count false lot m + length xs ≡ 247 * length lot.groups
+  blocks-counted xs reserved places marks =
+      let n : ℕ = length lot.groups in
+      let groups = count-groups (used_block m) (data_used lot m) (length lot.groups)
+          (λ o j h l. reserved.set (256 * o + j) (omega arith) (let e = group_mod false o j (omega arith) in omega arith))
+          (λ o j h l. ap (λ t. t && used_block m (256 * o + j)) (not-data lot o j l))
+          (λ o j h l k. ap (λ t. t && used_block m (256 * o + j)) (sym (data_of lot (256 * o + j) (omega arith) (let e = group_mod false o j k in omega arith)))) in
+      let listed = count-times (data_used lot m) (256 * length lot.groups) xs (λ a h. data_below lot a (places a h)) (λ a h. at a) in
+      let free = count_below-not (used_block m) (256 * length lot.groups) in
+      omega arith
+    where
+      at : (a : ℕ) → times xs a ≡ mark (data_used lot m a)
+      at a =
+          elim (is_data lot a) as (λ t. is_data lot a ≡ t → times xs a ≡ mark (t && used_block m a)) [
+            | true ↦ λ t. marks a t
+            | false ↦ λ t. elim (ltb 0 (times xs a)) as (λ u. ltb 0 (times xs a) ≡ u → times xs a ≡ 0) [
+              | true ↦ λ u. let one : 0 < times xs a = grind (arith, nat_tests) in let d = places a (times-has xs a (omega arith)) in absurd cc
+              | false ↦ λ u. let none : times xs a ≤ 0 = grind (arith, nat_tests) in omega arith
+            ] refl
+          ] refl
+
+  pub inodes-counted : (is : List ℕ) → ((i : ℕ) → has is i ≡ true → i < 64 * length lot.groups) → ((i : ℕ) → i < 64 * length lot.groups → times is i ≡ mark (used_inode m i))
+      → free_count true lot m + length is ≡ 64 * length lot.groups
+  inodes-counted is small marks =
+      let listed = count-times (used_inode m) (64 * length lot.groups) is small marks in
+      let free = count_below-not (used_inode m) (64 * length lot.groups) in
+      omega arith
+
+-- what is free, and what the tree costs
+module _ (mode : ℕ) (lot : LotView) (m : Map) (t : Tree) (k : ℕ) (r : MapRecovers form_one mode lot m t k) where
+  pub free_nodes_are : free_count true lot m + nodes t ≡ node_quota (length lot.groups)
+  free_nodes_are =
+      let e = length-inodes form_one (own_in form_one m) 0 t in
+      let c = inodes-counted lot m (used_inodes form_one (own_in form_one m) 0 t) (λ i h. Reads-number form_one lot (own_in form_one m) i 0 0 t r.holds.reads (has-times _ i h)) r.holds.inodes in
+      omega arith
+
+  used_blocks_fill : free_count false lot m + length (used_blocks form_one (own_in form_one m) 0 t) ≡ 247 * length lot.groups
+  used_blocks_fill = blocks-counted lot m (used_blocks form_one (own_in form_one m) 0 t) r.holds.reserved (λ b h. Reads-data form_one lot (own_in form_one m) b 0 0 t r.holds.reads (has-times _ b h)) r.holds.blocks
+
+  pub free_blocks_are : length lot.groups ≤ 64 → free_count false lot m + blocks form_one t ≡ block_quota (length lot.groups)
+  free_blocks_are few =
+      let e = length-blocks lot few m 0 0 t r.holds.reads in
+      let c = used_blocks_fill in
+      omega arith
+
+  pub block_count_small : counted false m ≤ 247 * length lot.groups
+  block_count_small = let c = used_blocks_fill in let e = r.holds.block_count in omega arith
+
+  pub inode_count_small : counted true m ≤ 64 * length lot.groups
+  inode_count_small =
+      let e = r.holds.inode_count in
+      let n = length-inodes form_one (own_in form_one m) 0 t in
+      let c = free_nodes_are in
+      omega arith
