@@ -10,3 +10,4 @@ pub mod Unique
 pub mod Walks
 pub mod Rests
 pub mod Recovering
+pub mod FreshBits
