@@ -13,3 +13,5 @@ pub mod Sets
 pub mod Files
 pub mod Rows
 pub mod Losses
+pub mod Fresh
+pub mod Cuts
