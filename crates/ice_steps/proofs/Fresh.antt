@@ -1,10 +1,11 @@
 -- A loose inode: one that was just made, and a file that was cut to nothing.
-use Rattle.std.proofs.Common.{◌≡◌, ◌≢◌, ◌≤◌, ◌<◌, ◌+◌, ◌*◌, ◌%◌, ◌==◌, ℕ, suc, T, Bool, cond, true, false, List, [], ◌∷◌, ◌++◌, map, length, length-append, slice_index, ◌∙◌, sym, refl, ap, subst, arith}
+use Rattle.std.proofs.Common.{◌≡◌, ◌≢◌, ◌≤◌, ◌<◌, ◌+◌, ◌*◌, ◌%◌, ◌==◌, ℕ, suc, T, Bool, cond, true, false, List, [], ◌∷◌, ◌++◌, map, length, length-append, slice_index, replicate, ◌∙◌, sym, refl, ap, subst, arith}
 use Rattle.std.specs.Prelude.{All, is_some}
 use Rattle.std.specs.List.{IsDistinct}
 use Rattle.std.specs.Ordering.{eq_by_cmp}
 use Rattle.std.specs.FinMap.{find}
 use Rattle.std.proofs.lemmas.Bool.Decides.{nat_tests}
+use Rattle.std.proofs.lemmas.List.{get_or-replicate}
 use Rattle.std.proofs.lemmas.List.Elements.{All-nil}
 use Rattle.ice_base.specs.Fields.{word_at}
 use Rattle.ice_base.specs.Inodes.{inode_address}
@@ -45,6 +46,15 @@ pub record IsFresh (kind : ℕ) (x : Inode) : Type 0 where
   pub direct : (n : ℕ) → n < 12 → slice_index x.direct n ≡ 0
   pub single : x.single ≡ 0
   pub double : x.double ≡ 0
+
+pub fresh_value : (kind : ℕ) (x : Inode) → x ≡ record { kind = kind; size = 0; direct = replicate 12 0; single = 0; double = 0 } → IsFresh kind x
+fresh_value kind x e = record {
+  is = ap (λ (i : Inode). i.kind) e;
+  none = ap (λ (i : Inode). i.size) e;
+  direct = λ n h. ap (λ (i : Inode). slice_index i.direct n) e ∙ get_or-replicate 12 n 0 0 h;
+  single = ap (λ (i : Inode). i.single) e;
+  double = ap (λ (i : Inode). i.double) e;
+}
 
 pub fresh-map : (kind : ℕ) (x : Inode) → IsFresh kind x → map_length 64 x ≡ 0
 fresh-map kind x f = ap blocks_for (none (x.kind == 2) x.size f.none)
