@@ -30,8 +30,8 @@ module _ (mode : ℕ) (lot : LotView) (m m' : Map) (t : Tree) (k j h : ℕ) (byt
   in-all : 0 < times (all mode lot m t k blocks (j ∷ []) b) j
   in-all = let e = times-append (used_inodes form_one (own_in form_one m) 0 t) (j ∷ []) j in let n = times-same j j [] refl in omega arith
 
-  same : SameAt (own_in form_one m) (own_in form_one m') (used_inodes form_one (own_in form_one m) 0 t)
-  same = record { at = λ x l. (beside_but mode lot m t k blocks (j ∷ []) b loose m' j set.set in-all).at x
+  pub cut_stays : SameAt (own_in form_one m) (own_in form_one m') (used_inodes form_one (own_in form_one m) 0 t)
+  cut_stays = record { at = λ x l. (beside_but mode lot m t k blocks (j ∷ []) b loose m' j set.set in-all).at x
       (λ e. let o = all-apart mode lot m t k blocks (j ∷ []) b x in let n = ap (λ y. times (y ∷ []) x) (sym e) in let s = times-same x x [] refl in absurd (omega arith))
       (let e = times-append (used_inodes form_one (own_in form_one m) 0 t) (j ∷ []) x in omega arith) }
 
@@ -41,15 +41,15 @@ module _ (mode : ℕ) (lot : LotView) (m m' : Map) (t : Tree) (k j h : ℕ) (byt
 
   pub loose_cut : Beside form_one mode lot m' t k [] (j ∷ [])
   loose_cut = beside-set mode lot m m' t t k blocks [] (j ∷ []) (j ∷ []) j b loose in-all set.set
-      b.dir (Reads-frame form_one lot (own_in form_one m) (own_in form_one m') 0 0 t same b.reads)
+      b.dir (Reads-frame form_one lot (own_in form_one m) (own_in form_one m') 0 0 t cut_stays b.reads)
       (λ measure sums.
-        let e = ap measure (uses-frame form_one (own_in form_one m) (own_in form_one m') (λ i. (own 64 m i).uses) (λ i. (own 64 m' i).uses) (λ x e. ap (λ o. o.uses) e) 0 t same) in
+        let e = ap measure (uses-frame form_one (own_in form_one m) (own_in form_one m') (λ i. (own 64 m i).uses) (λ i. (own 64 m' i).uses) (λ x e. ap (λ o. o.uses) e) 0 t cut_stays) in
         let c = sums (used_blocks form_one (own_in form_one m') 0 t) [] in
         let d = sums (used_blocks form_one (own_in form_one m) 0 t) blocks in
         let n = ap measure none in
         omega arith)
       (λ measure sums.
-        let e = ap measure (uses-frame form_one (own_in form_one m) (own_in form_one m') (λ i. i ∷ []) (λ i. i ∷ []) (λ x e. refl) 0 t same) in
+        let e = ap measure (uses-frame form_one (own_in form_one m) (own_in form_one m') (λ i. i ∷ []) (λ i. i ∷ []) (λ x e. refl) 0 t cut_stays) in
         let c = sums (used_inodes form_one (own_in form_one m') 0 t) (j ∷ []) in
         let d = sums (used_inodes form_one (own_in form_one m) 0 t) (j ∷ []) in
         omega arith)

@@ -130,7 +130,12 @@ fresh_made lot m j kind f =
       unused = record { direct = λ n l h. f.direct n h; single = λ l. f.single; double = f.double };
     }
 
--- an inode that stands loose is put
+-- an inode that stands loose is put: those of the tree say what they said
+pub put_stays : (mode : ℕ) (lot : LotView) (m m' : Map) (t : Tree) (k : ℕ) (xs : List ℕ) (j : ℕ) (inode : Inode) → Beside form_one mode lot m t k xs (j ∷ []) → InodeSet m m' j inode → OnlyAt (inode_address j ∷ []) m m' → SameAt (own 64 m) (own 64 m') (used_inodes form_one (own 64 m) 0 t)
+put_stays mode lot m m' t k xs j inode b set at = record { at = λ x h. put-own lot m m' j x (only-one (inode_address j) m m' at)
+    (set.others x (λ e. let o = all-apart mode lot m t k xs (j ∷ []) b x in let n = ap (λ y. times (y ∷ []) x) (sym e) in let s = times-same x x [] refl in absurd (omega arith)))
+    (used-places lot m 0 0 t b.reads x h) }
+
 pub put_loose : (mode : ℕ) (lot : LotView) (m m' : Map) (t : Tree) (k j : ℕ) (inode : Inode) → Beside form_one mode lot m t k [] (j ∷ []) → InodeSet m m' j inode → OnlyAt (inode_address j ∷ []) m m' → Beside form_one mode lot m' t k [] (j ∷ [])
 put_loose mode lot m m' t k j inode b set at =
     let only = only-one (inode_address j) m m' at in
@@ -138,9 +143,7 @@ put_loose mode lot m m' t k j inode b set at =
     let bitmaps = λ (o : ℕ). only (256 * o) (λ e. inode_not_bitmap j o (sym e)) in
     beside-still mode lot m m' t k k [] [] (j ∷ []) (j ∷ []) b
     (says-same form_one mode lot.slot (m sub_address) (m' sub_address) k (λ n h. ap (λ (x : List ℕ). slice_index x n) sub) b.sub)
-    (record { at = λ x h. put-own lot m m' j x only
-        (set.others x (λ e. let o = all-apart mode lot m t k [] (j ∷ []) b x in let n = ap (λ y. times (y ∷ []) x) (sym e) in let s = times-same x x [] refl in absurd (omega arith)))
-        (used-places lot m 0 0 t b.reads x h) })
+    (put_stays mode lot m m' t k [] j inode b set at)
     (λ a h l. used-same false m m' a bitmaps)
     (record {
       blocks = λ a h. ap (λ t. mark t + times [] a) (used-same false m m' a bitmaps);

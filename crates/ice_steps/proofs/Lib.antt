@@ -15,3 +15,4 @@ pub mod Rows
 pub mod Losses
 pub mod Fresh
 pub mod Cuts
+pub mod Stays
