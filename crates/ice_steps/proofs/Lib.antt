@@ -16,3 +16,5 @@ pub mod Losses
 pub mod Fresh
 pub mod Cuts
 pub mod Stays
+pub mod Needs
+pub mod Costs
