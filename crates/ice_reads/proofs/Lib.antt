@@ -8,3 +8,7 @@ pub mod Numbers
 pub mod Sorted
 pub mod Unique
 pub mod Walks
+pub mod Rests
+pub mod Recovering
+pub mod FreshBits
+pub mod FreshLots

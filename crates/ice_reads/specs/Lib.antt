@@ -1,3 +1,4 @@
 pub mod Tables
 pub mod Reads
 pub mod Recovers
+pub mod Fresh

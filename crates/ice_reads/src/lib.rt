@@ -1,5 +1,6 @@
 //! What the blocks of a lot stand for: the definitions of a tree that they hold, and their laws.
 #![tactic(auto)]
 
-/// Nothing yet.
-pub fn laws() {}
+mod laws;
+
+pub use laws::{fresh_lot, marks_as_sets, one_tree, same_blocks, small_count};
