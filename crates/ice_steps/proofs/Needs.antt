@@ -44,6 +44,10 @@ entries-nodes (Entry c t es) = let r = entries-nodes es in let s = nodes-some t 
 nodes-part : (q : List (List ℕ)) (t s : Tree) → walk q t ≡ Found s → nodes s ≤ nodes t
 nodes-part q t s found = let e = total-at (λ _. 1) (λ _. 1) q (λ _. File []) t s found in let n = nodes-some (at q (λ _. File []) t) in omega arith
 
+-- a loose tree has an inode at least
+pub loose_some : (m : Map) (j : ℕ) (v : Tree) → 1 ≤ length (used_inodes form_one (own 64 m) j v)
+loose_some m j v = let e = length-inodes form_one (own_in form_one m) j v in let n = nodes-some v in omega arith
+
 -- where inodes stand loose, each directory has room for one entry more
 pub beside_room : (mode : ℕ) (lot : LotView) (m : Map) (t : Tree) (k : ℕ) (xs is : List ℕ) → Beside form_one mode lot m t k xs is → 1 ≤ length is → (q : List (List ℕ)) (es : Entries) → walk q t ≡ Found (Dir es) → HasRoom lot (inode_of m (inode_on form_one (own 64 m) 0 q))
 beside_room mode lot m t k xs is b some q es found =
