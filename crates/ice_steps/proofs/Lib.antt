@@ -18,3 +18,4 @@ pub mod Cuts
 pub mod Stays
 pub mod Needs
 pub mod Costs
+pub mod Chains
