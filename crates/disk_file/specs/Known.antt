@@ -1,6 +1,6 @@
 -- What is known of a host over a file.
-use Rattle.std.specs.Prelude.{◌≡◌, ℕ, ◌<◌, ◌^◌, Bool, true, false, List, []}
-use Rattle.ice_base.specs.Disk.{DiskState}
+use Rattle.std.specs.Prelude.{ℕ, ◌<◌, ◌^◌, Bool, false, List, []}
+use Rattle.ice_base.specs.Disk.{Image, DiskState}
 
 -- The number of whole blocks, and how often each kind of call failed; the bytes given that are held back, and whether sending
 -- such bytes has ever failed.
@@ -27,12 +27,6 @@ silent_state c = record {
   writes = 0;
 }
 
--- What was held back has been sent, and nothing else has changed but that sending it may have failed: then it is known, now and
--- from then on.
-pub record Sent (old new : Known) : Type 0 where
-  pub all : new.lost ≡ false → new.held ≡ []
-  pub lost : old.lost ≡ true → new.lost ≡ true
-  pub blocks : new.blocks ≡ old.blocks
-  pub disk_faults : new.disk_faults ≡ old.disk_faults
-  pub source_faults : new.source_faults ≡ old.source_faults
-  pub sink_faults : new.sink_faults ≡ old.sink_faults
+-- of which no crash image is told
+abbrev pub silent_left : Known → ℕ → Image → List ℕ → Type 0
+silent_left c t image out = ⊥

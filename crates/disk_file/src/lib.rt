@@ -5,10 +5,11 @@ mod sink;
 mod streams;
 mod whole;
 
-ghost use Rattle.std.specs.Prelude.{◌≡◌, ◌≤◌, ◌<◌, ◌^◌, ◌↔◌, [], true, false, length, IfOk, IfSome, IsErr, OnErr, OnOk};
-ghost use Rattle.ice_base.specs.Disk.{Rose};
-ghost use Rattle.ice_base.specs.Host.{SameDisk, GaveOnly};
-ghost use Rattle.disk_file.specs.Known.{Sent, silent_state};
+ghost use Rattle.std.specs.Prelude.{◌≡◌, ◌≤◌, ◌<◌, ◌^◌, ◌↔◌, [], true, false, length, is_ok, IfOk, IfSome, IsErr, OnErr, OnOk};
+ghost use Rattle.ice_base.specs.Disk.{block, Rose, Nowhere, HasCause, WriteCounts, BarrierCounts};
+ghost use Rattle.ice_base.specs.Frames.{Within};
+ghost use Rattle.ice_base.specs.Host.{SameDisk, GaveOnly, Leaves, Takes, Gives, FirstOf, moved};
+ghost use Rattle.disk_file.specs.Known.{silent_state, silent_left};
 
 use crate::sink::Sink;
 use crate::streams::take_piece;
@@ -153,48 +154,12 @@ impl FileHost {
         self.sink_faults = self.sink_faults.saturating_add(1);
         SinkFault::Failed
     }
-
-    /// Sends, then takes.
-    fn send_and_take(&mut self, into: &mut [u8]) -> Option<usize>
-        ensures sent { Sent self.old self.new }
-        ensures count { IfSome result (λ n. n ≤ length into.new) }
-    {
-        self.output.send();
-        take_piece(&mut self.input, into)
-    }
-
-    /// Sends, then writes, but not where sending failed.
-    fn send_and_write(&mut self, at: u32, from: &Block) -> bool
-        ensures sent { Sent self.old self.new }
-        ensures lost { self.new.lost ≡ true → result ≡ false }
-    {
-        self.output.send();
-        match &self.file {
-            Some(file) if !self.output.lost => write_whole(file, at, from).is_ok(),
-            _ => false,
-        }
-    }
-
-    /// Sends, then settles the file, but not where sending failed.
-    fn send_and_settle(&mut self) -> bool
-        ensures sent { Sent self.old self.new }
-        ensures lost { self.new.lost ≡ true → result ≡ false }
-    {
-        self.output.send();
-        if self.output.lost {
-            return false;
-        }
-        match &self.file {
-            Some(file) => file.sync_all().is_ok(),
-            None => true,
-        }
-    }
 }
 
 impl Disk for FileHost {
-    ghost state = { λ h. silent_state h };
+    ghost state = { silent_state };
 
-    ghost left = { λ h t image out. ⊥ };
+    ghost left = { silent_left };
 
     ghost agrees_now = { λ h image out left. absurd left };
 
@@ -220,16 +185,43 @@ impl Disk for FileHost {
         Err(DiskFault::Failed)
     }
 
-    fn write(&mut self, at: u32, from: &Block) -> Result<(), DiskFault> {
-        if self.send_and_write(at, from) {
+    fn write(&mut self, at: u32, from: &Block) -> Result<(), DiskFault>
+        requires { at < (silent_state self.old).size }
+        ensures within { Within silent_state silent_left (λ k. k ≡ at) self.old self.new }
+        ensures cause { HasCause (silent_state self.old) (silent_state self.new) result }
+        ensures bytes { (silent_state self.old).tells ≡ true → OnOk result (block (silent_state self.new).now at ≡ from.now) }
+        ensures counts { (silent_state self.old).tells ≡ true → WriteCounts at (is_ok result) (silent_state self.old) (silent_state self.new) }
+        ensures sent { self.new.lost ≡ false → self.new.held ≡ [] }
+        ensures lost { OnOk result (self.new.lost ≡ false) }
+        ensures before { self.old.lost ≡ true → self.new.lost ≡ true }
+    {
+        self.output.send();
+        let done = match &self.file {
+            Some(file) if !self.output.lost => write_whole(file, at, from).is_ok(),
+            _ => false,
+        };
+        if done {
             return Ok(());
         }
         self.disk_faults = self.disk_faults.saturating_add(1);
         Err(DiskFault::Failed)
     }
 
-    fn barrier(&mut self) -> Result<(), DiskFault> {
-        if self.send_and_settle() {
+    fn barrier(&mut self) -> Result<(), DiskFault>
+        ensures within { Within silent_state silent_left Nowhere self.old self.new }
+        ensures cause { HasCause (silent_state self.old) (silent_state self.new) result }
+        ensures counts { (silent_state self.old).tells ≡ true → BarrierCounts (is_ok result) (silent_state self.old) (silent_state self.new) }
+        ensures sent { self.new.lost ≡ false → self.new.held ≡ [] }
+        ensures lost { OnOk result (self.new.lost ≡ false) }
+        ensures before { self.old.lost ≡ true → self.new.lost ≡ true }
+    {
+        self.output.send();
+        let done = match &self.file {
+            _ if self.output.lost => false,
+            Some(file) => file.sync_all().is_ok(),
+            None => true,
+        };
+        if done {
             return Ok(());
         }
         self.disk_faults = self.disk_faults.saturating_add(1);
@@ -238,8 +230,17 @@ impl Disk for FileHost {
 }
 
 impl Host for FileHost {
-    fn take(&mut self, into: &mut [u8]) -> Result<usize, SourceFault> {
-        match self.send_and_take(into) {
+    fn take(&mut self, into: &mut [u8]) -> Result<usize, SourceFault>
+        requires { 0 < length into.old }
+        ensures disk { SameDisk (silent_state self.old) (silent_state self.new) }
+        ensures ticks { (silent_state self.old).tells ≡ true → Rose (silent_state self.old).clock (silent_state self.new).clock }
+        ensures leaves { Leaves silent_state silent_left (λ out. out ≡ (silent_state self.old).streams.aside) self.old self.new }
+        ensures takes { Takes (silent_state self.old).tells (silent_state self.old).streams (silent_state self.new).streams into.new result }
+        ensures sent { self.new.lost ≡ false → self.new.held ≡ [] }
+        ensures before { self.old.lost ≡ true → self.new.lost ≡ true }
+    {
+        self.output.send();
+        match take_piece(&mut self.input, into) {
             Some(count) => Ok(count),
             None => {
                 self.source_faults = self.source_faults.saturating_add(1);
@@ -248,7 +249,15 @@ impl Host for FileHost {
         }
     }
 
-    fn give(&mut self, bytes: &[u8]) -> Result<usize, SinkFault> {
+    fn give(&mut self, bytes: &[u8]) -> Result<usize, SinkFault>
+        requires { 0 < length bytes.now }
+        ensures disk { SameDisk (silent_state self.old) (silent_state self.new) }
+        ensures ticks { (silent_state self.old).tells ≡ true → Rose (silent_state self.old).clock (silent_state self.new).clock }
+        ensures leaves { Leaves silent_state silent_left (FirstOf (silent_state self.old).streams.aside bytes.now (moved result)) self.old self.new }
+        ensures gives { Gives (silent_state self.old).tells (silent_state self.old).streams (silent_state self.new).streams bytes.now result }
+        ensures lost { IsErr result ↔ self.new.lost ≡ true }
+        ensures before { self.old.lost ≡ true → self.new.lost ≡ true }
+    {
         match self.output.give(bytes) {
             Some(count) => Ok(count),
             None => Err(self.count_sink_fault()),
