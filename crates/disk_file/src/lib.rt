@@ -1,12 +1,18 @@
 //! A host over a real file and the standard streams: the trusted edge. It tells nothing of its content.
 #![tactic(auto)]
 
+mod sink;
 mod streams;
 mod whole;
 
-ghost use Rattle.std.specs.Prelude.{◌≡◌, ◌≤◌, ◌<◌, ◌^◌, IfOk};
+ghost use Rattle.std.specs.Prelude.{◌≡◌, ◌≤◌, ◌<◌, ◌^◌, ◌↔◌, [], true, false, length, is_ok, IfOk, IfSome, IsErr, OnErr, OnOk};
+ghost use Rattle.ice_base.specs.Disk.{block, Rose, Nowhere, HasCause, WriteCounts, BarrierCounts};
+ghost use Rattle.ice_base.specs.Frames.{Within};
+ghost use Rattle.ice_base.specs.Host.{SameDisk, GaveOnly, Leaves, Takes, Gives, FirstOf, moved};
+ghost use Rattle.disk_file.specs.Known.{silent_state, silent_left};
 
-use crate::streams::{give_piece, take_piece};
+use crate::sink::Sink;
+use crate::streams::take_piece;
 use crate::whole::{BLOCK_BYTES, read_whole, write_whole};
 use ice_base::{Block, Disk, DiskFault, Host, SinkFault, SourceFault};
 use std::fs::{File, OpenOptions};
@@ -22,13 +28,21 @@ pub enum OpenFault {
     Failed,
 }
 
+/// How many given bytes are held back at most.
+const HELD: usize = 65536;
+
 /// A file of blocks of 1,024 bytes with standard input and standard output. It counts the faults of each kind.
+///
+/// Given bytes are held back until there is no more room, and sent before each take, write and barrier. So all that was given
+/// before a change of the disk has been sent by then, and an end of the machine or the process loses at most the bytes that
+/// were given since the disk last changed: what it leaves is what it would have left at an earlier moment. Where sending
+/// fails, each later give, write and barrier is refused, the disk untouched, so that it never runs ahead of what was sent.
 #[derive(Drop)]
 pub struct FileHost {
     file: Option<File>,
     blocks: u32,
     input: Stdin,
-    output: Stdout,
+    output: Sink<Stdout>,
     disk_faults: u64,
     source_faults: u64,
     sink_faults: u64,
@@ -36,11 +50,12 @@ pub struct FileHost {
 }
 
 impl Model for FileHost {
-    ghost use Rattle.disk_file.specs.Counts.{Counts};
+    ghost use Rattle.std.specs.Io.Buffered.{writer_buffer};
+    ghost use Rattle.disk_file.specs.Known.{Known};
 
-    ghost Value = { Counts };
+    ghost Value = { Known };
 
-    ghost view = { λ h. record { blocks = h.blocks; fits = h.fits; disk_faults = h.disk_faults; source_faults = h.source_faults; sink_faults = h.sink_faults } };
+    ghost view = { λ h. record { blocks = h.blocks; fits = h.fits; disk_faults = h.disk_faults; source_faults = h.source_faults; sink_faults = h.sink_faults; held = writer_buffer h.output.output; lost = h.output.lost } };
 }
 
 fn open_fault(error: io::Error) -> OpenFault {
@@ -73,17 +88,22 @@ fn open(rt: &HostRuntime, name: &str, least: u32) -> io::Result<(File, u32)>
 
 impl FileHost {
     /// Opens the file for reading and writing. Where `least` is above 0 it is made if it isn't there, and extended with zeros to `least` blocks.
-    /// Its blocks are the whole blocks of the file, at most 2^32 - 1. Why it refuses is the system's word.
+    /// Its blocks are the whole blocks of the file, at most 2^32 - 1. Why it refuses is the system's word, but that Memory also
+    /// comes, with the file as it was, where there is no memory for the bytes to be held back.
     pub fn attach(rt: &HostRuntime, name: &str, least: u32) -> Result<FileHost, OpenFault>
         ensures least { IfOk result (λ h. least ≤ h.blocks) }
         ensures counts { IfOk result (λ h. (h.disk_faults ≡ 0) × (h.source_faults ≡ 0) × (h.sink_faults ≡ 0)) }
+        ensures held { IfOk result (λ h. (h.held ≡ []) × (h.lost ≡ false)) }
     {
+        let Ok(output) = Sink::new(rt.alloc(), HELD, rt.stdout()) else {
+            return Err(OpenFault::Memory);
+        };
         match open(rt, name, least) {
             Ok((file, blocks)) => Ok(FileHost {
                 file: Some(file),
                 blocks,
                 input: rt.stdin(),
-                output: rt.stdout(),
+                output,
                 disk_faults: 0,
                 source_faults: 0,
                 sink_faults: 0,
@@ -92,29 +112,54 @@ impl FileHost {
         }
     }
 
-    /// A host of no blocks, for words that name no image.
+    /// A host of no blocks, for words that name no image. It holds nothing back.
     pub fn missing(rt: &HostRuntime) -> FileHost
         ensures blocks { result.blocks ≡ 0 }
         ensures counts { (result.disk_faults ≡ 0) × (result.source_faults ≡ 0) × (result.sink_faults ≡ 0) }
+        ensures held { (result.held ≡ []) × (result.lost ≡ false) }
     {
         FileHost {
             file: None,
             blocks: 0,
             input: rt.stdin(),
-            output: rt.stdout(),
+            output: Sink::new(rt.alloc(), 0, rt.stdout()).unwrap(),
             disk_faults: 0,
             source_faults: 0,
             sink_faults: 0,
         }
     }
+
+    /// Sends what is held back, at the end of a run. Err: that failed, now or before, so that not all that was given was sent.
+    pub fn finish(&mut self) -> Result<(), SinkFault>
+        ensures sent { OnOk result (self.new.held ≡ []) }
+        ensures cause { OnErr result (Rose self.old.sink_faults self.new.sink_faults) }
+        ensures lost { IsErr result ↔ self.new.lost ≡ true }
+        ensures before { self.old.lost ≡ true → self.new.lost ≡ true }
+        ensures disk { SameDisk (silent_state self.old) (silent_state self.new) }
+        ensures only { GaveOnly (silent_state self.old).streams (silent_state self.new).streams }
+    {
+        self.output.send();
+        if self.output.lost {
+            return Err(self.count_sink_fault());
+        }
+        Ok(())
+    }
+
+    fn count_sink_fault(&mut self) -> SinkFault
+        ensures rose { Rose self.old.sink_faults self.new.sink_faults }
+        ensures lost { self.new.lost ≡ self.old.lost }
+        ensures disk { SameDisk (silent_state self.old) (silent_state self.new) }
+        ensures only { GaveOnly (silent_state self.old).streams (silent_state self.new).streams }
+    {
+        self.sink_faults = self.sink_faults.saturating_add(1);
+        SinkFault::Failed
+    }
 }
 
 impl Disk for FileHost {
-    ghost use Rattle.disk_file.specs.Counts.{silent_state};
+    ghost state = { silent_state };
 
-    ghost state = { λ h. silent_state h };
-
-    ghost left = { λ h t image out. ⊥ };
+    ghost left = { silent_left };
 
     ghost agrees_now = { λ h image out left. absurd left };
 
@@ -140,10 +185,20 @@ impl Disk for FileHost {
         Err(DiskFault::Failed)
     }
 
-    fn write(&mut self, at: u32, from: &Block) -> Result<(), DiskFault> {
+    fn write(&mut self, at: u32, from: &Block) -> Result<(), DiskFault>
+        requires { at < (silent_state self.old).size }
+        ensures within { Within silent_state silent_left (λ k. k ≡ at) self.old self.new }
+        ensures cause { HasCause (silent_state self.old) (silent_state self.new) result }
+        ensures bytes { (silent_state self.old).tells ≡ true → OnOk result (block (silent_state self.new).now at ≡ from.now) }
+        ensures counts { (silent_state self.old).tells ≡ true → WriteCounts at (is_ok result) (silent_state self.old) (silent_state self.new) }
+        ensures sent { self.new.lost ≡ false → self.new.held ≡ [] }
+        ensures lost { OnOk result (self.new.lost ≡ false) }
+        ensures before { self.old.lost ≡ true → self.new.lost ≡ true }
+    {
+        self.output.send();
         let done = match &self.file {
-            Some(file) => write_whole(file, at, from).is_ok(),
-            None => false,
+            Some(file) if !self.output.lost => write_whole(file, at, from).is_ok(),
+            _ => false,
         };
         if done {
             return Ok(());
@@ -152,8 +207,17 @@ impl Disk for FileHost {
         Err(DiskFault::Failed)
     }
 
-    fn barrier(&mut self) -> Result<(), DiskFault> {
+    fn barrier(&mut self) -> Result<(), DiskFault>
+        ensures within { Within silent_state silent_left Nowhere self.old self.new }
+        ensures cause { HasCause (silent_state self.old) (silent_state self.new) result }
+        ensures counts { (silent_state self.old).tells ≡ true → BarrierCounts (is_ok result) (silent_state self.old) (silent_state self.new) }
+        ensures sent { self.new.lost ≡ false → self.new.held ≡ [] }
+        ensures lost { OnOk result (self.new.lost ≡ false) }
+        ensures before { self.old.lost ≡ true → self.new.lost ≡ true }
+    {
+        self.output.send();
         let done = match &self.file {
+            _ if self.output.lost => false,
             Some(file) => file.sync_all().is_ok(),
             None => true,
         };
@@ -166,7 +230,16 @@ impl Disk for FileHost {
 }
 
 impl Host for FileHost {
-    fn take(&mut self, into: &mut [u8]) -> Result<usize, SourceFault> {
+    fn take(&mut self, into: &mut [u8]) -> Result<usize, SourceFault>
+        requires { 0 < length into.old }
+        ensures disk { SameDisk (silent_state self.old) (silent_state self.new) }
+        ensures ticks { (silent_state self.old).tells ≡ true → Rose (silent_state self.old).clock (silent_state self.new).clock }
+        ensures leaves { Leaves silent_state silent_left (λ out. out ≡ (silent_state self.old).streams.aside) self.old self.new }
+        ensures takes { Takes (silent_state self.old).tells (silent_state self.old).streams (silent_state self.new).streams into.new result }
+        ensures sent { self.new.lost ≡ false → self.new.held ≡ [] }
+        ensures before { self.old.lost ≡ true → self.new.lost ≡ true }
+    {
+        self.output.send();
         match take_piece(&mut self.input, into) {
             Some(count) => Ok(count),
             None => {
@@ -176,13 +249,18 @@ impl Host for FileHost {
         }
     }
 
-    fn give(&mut self, bytes: &[u8]) -> Result<usize, SinkFault> {
-        match give_piece(&mut self.output, bytes) {
+    fn give(&mut self, bytes: &[u8]) -> Result<usize, SinkFault>
+        requires { 0 < length bytes.now }
+        ensures disk { SameDisk (silent_state self.old) (silent_state self.new) }
+        ensures ticks { (silent_state self.old).tells ≡ true → Rose (silent_state self.old).clock (silent_state self.new).clock }
+        ensures leaves { Leaves silent_state silent_left (FirstOf (silent_state self.old).streams.aside bytes.now (moved result)) self.old self.new }
+        ensures gives { Gives (silent_state self.old).tells (silent_state self.old).streams (silent_state self.new).streams bytes.now result }
+        ensures lost { IsErr result ↔ self.new.lost ≡ true }
+        ensures before { self.old.lost ≡ true → self.new.lost ≡ true }
+    {
+        match self.output.give(bytes) {
             Some(count) => Ok(count),
-            None => {
-                self.sink_faults = self.sink_faults.saturating_add(1);
-                Err(SinkFault::Failed)
-            }
+            None => Err(self.count_sink_fault()),
         }
     }
 }
@@ -204,6 +282,7 @@ mod tests {
         assert_eq!(rt; block[0], 7);
         host.read(1, &mut block)?;
         assert_eq!(rt; block[0], 0);
+        host.finish()?;
         Ok(())
     }
 
@@ -217,6 +296,7 @@ mod tests {
         let again = FileHost::attach(&rt, "some", 0)?;
         assert_eq!(rt; again.blocks(), 2);
         assert_eq!(rt; FileHost::missing(&rt).blocks(), 0);
+        assert!(rt; FileHost::missing(&rt).finish().is_ok());
         Ok(())
     }
 }

@@ -1,7 +1,8 @@
 //! One piece of the standard streams, again where a signal interrupts the call.
-ghost use Rattle.std.specs.Prelude.{◌≤◌, ◌<◌, length, IfSome};
+ghost use Rattle.std.specs.Prelude.{◌≤◌, ◌<◌, length, take, IfSome, MatchOption};
+ghost use Rattle.std.specs.Io.KnownBytes.{Keeps, Appends};
 
-use std::io::{ErrorKind, Read, Stdin, Stdout, Write};
+use std::io::{ErrorKind, Read, Stdin, Write};
 
 /// How often an interrupted call is made again before it counts as failed.
 const TRIES: u32 = 1000;
@@ -21,14 +22,16 @@ pub(crate) fn take_piece(input: &mut Stdin, into: &mut [u8]) -> Option<usize>
 }
 
 /// How many bytes went, at least one; none where writing failed.
-pub(crate) fn give_piece(output: &mut Stdout, bytes: &[u8]) -> Option<usize>
+#[tactic(auto, using(crate::proofs::Bytes::bytes_laws))]
+pub(crate) fn give_piece<W: Write>(output: &mut W, bytes: &[u8]) -> Option<usize>
     ensures some { IfSome result (λ n. 0 < n) }
     ensures count { IfSome result (λ n. n ≤ length bytes.now) }
+    ensures order { MatchOption result (Keeps (W.contents output.old) (W.contents output.new)) (λ n. Appends (W.contents output.old) (W.contents output.new) (take n bytes.now)) }
 {
     for _ in 0..TRIES {
         match output.write(bytes) {
             Ok(0) => return None,
-            Ok(count) => return Some(count),
+            Ok(gone) => return Some(gone),
             Err(error) if error.kind() == ErrorKind::Interrupted => {}
             Err(_) => return None,
         }

@@ -1,6 +1,8 @@
 //! A stored session on a real file: formats a new image as `icefs format` does, and answers standard input as `icefs run` does.
 #![tactic(auto)]
 
+ghost use Rattle.std.specs.Prelude.{◌≡◌, false, true};
+
 use disk_file::{FileHost, OpenFault};
 use ice_base::{Status, Words};
 use ice_run::{image_of, run};
@@ -21,9 +23,20 @@ fn work(rt: &HostRuntime, texts: &[&str]) -> Status {
         return Status::Usage;
     };
     match FileHost::attach(rt, image.name, image.least) {
-        Ok(mut host) => run(rt.alloc(), &words, &mut host),
+        Ok(mut host) => ended(run(rt.alloc(), &words, &mut host), &mut host),
         Err(OpenFault::Memory) => Status::Memory,
         Err(OpenFault::Failed) => Status::Disk,
+    }
+}
+
+/// The status once all replies that were held back are sent.
+fn ended(status: Status, host: &mut FileHost) -> Status
+    ensures sent { host.new.lost ≡ false → result ≡ status }
+    ensures lost { host.new.lost ≡ true → result ≡ Status.Sink }
+{
+    match host.finish() {
+        Ok(()) => status,
+        Err(_) => Status::Sink,
     }
 }
 

@@ -1,2 +1,2 @@
 pub mod ThroughLaws
-pub mod PairLaws
+pub mod ListLaws

@@ -1,8 +1,8 @@
 //! Keeps: what takes the changes of a lot's blocks.
 #![tactic(auto)]
 
-mod pair;
+mod list;
 mod through;
 
-pub use pair::PairKeep;
+pub use list::ListKeep;
 pub use through::ThroughKeep;

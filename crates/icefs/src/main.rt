@@ -1,6 +1,8 @@
 //! The program: its words, the file that they name, and the status of the run.
 #![tactic(auto)]
 
+ghost use Rattle.std.specs.Prelude.{◌≡◌, false, true};
+
 use disk_file::{FileHost, OpenFault};
 use ice_base::{ImageFault, Status, Words};
 use ice_run::{image_of, run};
@@ -77,8 +79,20 @@ fn work(rt: &HostRuntime) -> Status {
         return status;
     }
     match host_of(rt, &words) {
-        Ok(mut host) => run(rt.alloc(), &words, &mut host),
+        Ok(mut host) => ended(run(rt.alloc(), &words, &mut host), &mut host),
         Err(status) => status,
+    }
+}
+
+/// The status once all replies that were held back are sent. Where that fails the run ended by it: whatever else it met came
+/// after those replies.
+fn ended(status: Status, host: &mut FileHost) -> Status
+    ensures sent { host.new.lost ≡ false → result ≡ status }
+    ensures lost { host.new.lost ≡ true → result ≡ Status.Sink }
+{
+    match host.finish() {
+        Ok(()) => status,
+        Err(_) => Status::Sink,
     }
 }
 

@@ -8,7 +8,7 @@ use ice_base::{
     write_u32,
 };
 use ice_bits::{bit, clear, count, first_clear, set};
-use ice_keep::{PairKeep, ThroughKeep};
+use ice_keep::{ListKeep, ThroughKeep};
 use ice_pool::BitPool;
 use std::test::Fail;
 
@@ -189,16 +189,16 @@ fn broken_counts_and_bitmaps_are_named(rt: HostRuntime) -> Result<(), Fail> {
     Ok(())
 }
 
-#[tactic(auto, using(ice_base::proofs::SpareLaws::room_laws), unfolding(ice_keep::specs::Pairs::free))]
+#[tactic(auto, using(ice_base::proofs::SpareLaws::room_laws))]
 #[test]
 fn two_blocks_are_held_back(rt: HostRuntime) -> Result<(), Fail> {
     let lot = lot();
     let mut disk = disk(&rt)?;
-    let mut keep = PairKeep::new();
+    let mut keep = ListKeep::new(rt.alloc(), 2)?;
     let mut pool = BitPool::new();
-    assert_eq!(rt; <PairKeep as Keep<Ram>>::spare(&keep), 2);
+    assert_eq!(rt; <ListKeep as Keep<Ram>>::spare(&keep), 2);
     assert_eq!(rt; pool.take_block(&mut keep, &mut disk, &lot), Ok(9));
-    assert_eq!(rt; <PairKeep as Keep<Ram>>::spare(&keep), 0);
+    assert_eq!(rt; <ListKeep as Keep<Ram>>::spare(&keep), 0);
     let mut block = [0; 1024];
     assert_eq!(rt; keep.get(&mut disk, &lot, 0, &mut block), Ok(()));
     assert_eq!(rt; (block[0], block[1], block[32]), (0xff, 0x03, 0x01));

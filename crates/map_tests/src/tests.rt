@@ -4,9 +4,10 @@ ghost use Rattle.ice_base.specs.Lots.{is_sited};
 
 use disk_mem::{MemHost, MuteHost};
 use ice_base::{
-    Block, Disk, FormOne, Keep, Lot, OpFault, Pool, Rule, SUB, View, read_u32, write_u32,
+    Block, BlockFault, Disk, FormOne, Keep, Lot, OpFault, Pool, Rule, SUB, View, read_u32,
+    write_u32,
 };
-use ice_keep::{PairKeep, ThroughKeep};
+use ice_keep::{ListKeep, ThroughKeep};
 use ice_map::{Inode, cut, extend, get_inode, nth, put_inode, read_inode, write_inode};
 use ice_pool::BitPool;
 use std::process::Abort;
@@ -50,26 +51,23 @@ fn empty() -> Inode {
     }
 }
 
-fn grow<D: Disk>(
+fn grow<D: Disk, K: Keep<D>>(
     rt: &impl Abort,
+    keep: &mut K,
     disk: &mut D,
     inode: &mut Inode,
     count: u32,
 ) -> Result<u32, OpFault> {
     assert!(rt; disk.blocks() == 544);
     assert!(rt; count < 268);
-    extend::<D, ThroughKeep, BitPool, FormOne>(
-        &mut ThroughKeep::new(),
-        &mut BitPool::new(),
-        disk,
-        &lot(),
-        inode,
-        count,
-    )
+    assert!(rt; keep.spare() >= 6);
+    extend::<D, K, BitPool, FormOne>(keep, &mut BitPool::new(), disk, &lot(), inode, count)
 }
 
-fn shrink<D: Disk>(
+#[tactic(auto, using(std::proofs::lemmas::Bool::Decides::nat_tests))]
+fn shrink<D: Disk, K: Keep<D>>(
     rt: &impl Abort,
+    keep: &mut K,
     disk: &mut D,
     inode: &mut Inode,
     count: u32,
@@ -77,70 +75,170 @@ fn shrink<D: Disk>(
 ) -> Result<(), OpFault> {
     assert!(rt; disk.blocks() == 544);
     assert!(rt; rest <= count && count <= 268);
-    cut::<D, ThroughKeep, BitPool, FormOne>(
-        &mut ThroughKeep::new(),
-        &mut BitPool::new(),
-        disk,
-        &lot(),
-        inode,
-        count,
-        rest,
-    )
+    let room = if count <= rest + 1 { 6 } else { 66 };
+    assert!(rt; keep.spare() >= room);
+    cut::<D, K, BitPool, FormOne>(keep, &mut BitPool::new(), disk, &lot(), inode, count, rest)
 }
 
-fn block_of<D: Disk>(rt: &impl Abort, disk: &mut D, inode: &Inode, n: u32) -> Result<u32, OpFault> {
+fn block_of<D: Disk, K: Keep<D>>(
+    rt: &impl Abort,
+    keep: &mut K,
+    disk: &mut D,
+    inode: &Inode,
+    n: u32,
+) -> Result<u32, OpFault> {
     assert!(rt; disk.blocks() == 544);
     assert!(rt; n < 268);
-    nth::<D, ThroughKeep, FormOne>(&mut ThroughKeep::new(), disk, &lot(), inode, n)
+    nth::<D, K, FormOne>(keep, disk, &lot(), inode, n)
 }
 
-fn free<D: Disk>(rt: &impl Abort, disk: &mut D) -> Result<u32, OpFault> {
+fn free<D: Disk, K: Keep<D>>(rt: &impl Abort, keep: &mut K, disk: &mut D) -> Result<u32, OpFault> {
     assert!(rt; disk.blocks() == 544);
-    BitPool::new().free_blocks(&mut ThroughKeep::new(), disk, &lot())
+    BitPool::new().free_blocks(keep, disk, &lot())
+}
+
+/// The count of used blocks in the sub-super block.
+fn used<D: Disk, K: Keep<D>>(
+    rt: &impl Abort,
+    keep: &mut K,
+    disk: &mut D,
+) -> Result<u32, BlockFault> {
+    assert!(rt; disk.blocks() == 544);
+    let mut sub = [0; 1024];
+    keep.get(disk, &lot(), SUB, &mut sub)?;
+    Ok(read_u32(&sub, 24))
+}
+
+/// Gives the map the 246 blocks that there are beside its indirect block, and sees that there is no further one.
+fn fill_the_group<K: Keep<MemHost>>(
+    rt: &impl Abort,
+    keep: &mut K,
+    disk: &mut MemHost,
+    inode: &mut Inode,
+) {
+    for count in 0..246u32 {
+        let want = if count < 13 { 9 + count } else { 10 + count };
+        assert_eq!(rt; grow(rt, keep, disk, inode, count), Ok(want), "at {count}");
+    }
+    assert_eq!(rt;
+        (inode.direct[0], inode.direct[11], inode.single, inode.kind),
+        (9, 20, 22, 1)
+    );
+    assert_eq!(rt;
+        (used(rt, keep, disk), free(rt, keep, disk)),
+        (Ok(247), Ok(0))
+    );
+    assert_eq!(rt; grow(rt, keep, disk, inode, 246), Err(OpFault::NoSpace));
+    assert_eq!(rt;
+        (
+            block_of(rt, keep, disk, inode, 11),
+            block_of(rt, keep, disk, inode, 12),
+            block_of(rt, keep, disk, inode, 245)
+        ),
+        (Ok(20), Ok(21), Ok(255))
+    );
 }
 
 #[test]
 fn a_map_grows_to_a_full_group_and_is_cut_to_twelve(rt: HostRuntime) -> Result<(), Fail> {
     let mut disk = MemHost::new(rt.alloc(), 544)?;
     make_fresh(&rt, &mut disk);
+    let mut keep = ThroughKeep::new();
     let mut inode = empty();
-    for count in 0..246u32 {
-        let want = if count < 13 { 9 + count } else { 10 + count };
+    fill_the_group(&rt, &mut keep, &mut disk, &mut inode);
+    for (count, rest, left, single) in [(246, 13, 233, 22), (13, 12, 235, 0), (12, 1, 246, 0)] {
         assert_eq!(rt;
-            grow(&rt, &mut disk, &mut inode, count),
-            Ok(want),
-            "at {count}"
+            shrink(&rt, &mut keep, &mut disk, &mut inode, count, rest),
+            Ok(())
+        );
+        assert_eq!(rt;
+            (free(&rt, &mut keep, &mut disk), inode.single),
+            (Ok(left), single)
+        );
+        assert_eq!(rt; used(&rt, &mut keep, &mut disk), Ok(247 - left));
+        assert_eq!(rt; inode.direct[11], if rest < 12 { 0 } else { 20 });
+    }
+    assert_eq!(rt; (inode.direct[0], inode.direct[1]), (9, 0));
+    Ok(())
+}
+
+/// Puts the inode as number 9.
+fn put<D: Disk, K: Keep<D>>(
+    rt: &impl Abort,
+    keep: &mut K,
+    disk: &mut D,
+    inode: &Inode,
+) -> Result<(), OpFault> {
+    assert!(rt; disk.blocks() == 544);
+    assert!(rt; keep.spare() >= 1);
+    put_inode::<D, K, BitPool, FormOne>(keep, &mut BitPool::new(), disk, &lot(), 9, inode)
+}
+
+/// What a map cut to its direct blocks leaves: 12 used blocks in the keep, and a disk that is as it was.
+fn see_twelve_held_back(
+    rt: &impl Abort,
+    keep: &mut ListKeep,
+    disk: &mut MemHost,
+    inode: &Inode,
+    writes: u64,
+) {
+    assert_eq!(rt;
+        (used(rt, keep, disk), free(rt, keep, disk)),
+        (Ok(12), Ok(235))
+    );
+    assert_eq!(rt;
+        (inode.direct[0], inode.direct[11], inode.single),
+        (9, 20, 0)
+    );
+    assert_eq!(rt; block_of(rt, keep, disk, inode, 11), Ok(20));
+    assert_eq!(rt; disk.writes(), writes);
+    let mut through = ThroughKeep::new();
+    assert_eq!(rt;
+        (used(rt, &mut through, disk), free(rt, &mut through, disk)),
+        (Ok(0), Ok(247))
+    );
+}
+
+#[test]
+fn a_keep_of_ten_blocks_holds_the_map_and_its_234_cuts(rt: HostRuntime) -> Result<(), Fail> {
+    let mut disk = MemHost::new(rt.alloc(), 544)?;
+    make_fresh(&rt, &mut disk);
+    let writes = disk.writes();
+    let mut keep = ListKeep::new(rt.alloc(), 10)?;
+    let mut inode = empty();
+    fill_the_group(&rt, &mut keep, &mut disk, &mut inode);
+    assert_eq!(rt; <ListKeep as Keep<MemHost>>::spare(&keep), 7);
+    assert_eq!(rt; put(&rt, &mut keep, &mut disk, &inode), Ok(()));
+    assert_eq!(rt; <ListKeep as Keep<MemHost>>::spare(&keep), 6);
+    for rest in (12..246u32).rev() {
+        assert_eq!(rt;
+            shrink(&rt, &mut keep, &mut disk, &mut inode, rest + 1, rest),
+            Ok(()),
+            "at {rest}"
         );
     }
+    assert_eq!(rt; put(&rt, &mut keep, &mut disk, &inode), Ok(()));
+    assert_eq!(rt; <ListKeep as Keep<MemHost>>::spare(&keep), 6);
+    see_twelve_held_back(&rt, &mut keep, &mut disk, &inode, writes);
+    Ok(())
+}
+
+#[test]
+fn a_keep_of_eighty_blocks_holds_the_map_and_its_one_cut(rt: HostRuntime) -> Result<(), Fail> {
+    let mut disk = MemHost::new(rt.alloc(), 544)?;
+    make_fresh(&rt, &mut disk);
+    let writes = disk.writes();
+    let mut keep = ListKeep::new(rt.alloc(), 80)?;
+    let mut inode = empty();
+    fill_the_group(&rt, &mut keep, &mut disk, &mut inode);
+    assert_eq!(rt; put(&rt, &mut keep, &mut disk, &inode), Ok(()));
     assert_eq!(rt;
-        (inode.direct[0], inode.direct[11], inode.single, inode.kind),
-        (9, 20, 22, 1)
+        shrink(&rt, &mut keep, &mut disk, &mut inode, 246, 12),
+        Ok(())
     );
-    assert_eq!(rt; free(&rt, &mut disk), Ok(0));
-    assert_eq!(rt;
-        grow(&rt, &mut disk, &mut inode, 246),
-        Err(OpFault::NoSpace)
-    );
-    assert_eq!(rt;
-        (
-            block_of(&rt, &mut disk, &inode, 11),
-            block_of(&rt, &mut disk, &inode, 12),
-            block_of(&rt, &mut disk, &inode, 245)
-        ),
-        (Ok(20), Ok(21), Ok(255))
-    );
-    assert_eq!(rt; shrink(&rt, &mut disk, &mut inode, 246, 13), Ok(()));
-    assert_eq!(rt; (free(&rt, &mut disk), inode.single), (Ok(233), 22));
-    assert_eq!(rt; shrink(&rt, &mut disk, &mut inode, 13, 12), Ok(()));
-    assert_eq!(rt;
-        (free(&rt, &mut disk), inode.single, inode.direct[11]),
-        (Ok(235), 0, 20)
-    );
-    assert_eq!(rt; shrink(&rt, &mut disk, &mut inode, 12, 1), Ok(()));
-    assert_eq!(rt;
-        (free(&rt, &mut disk), inode.direct[0], inode.direct[1]),
-        (Ok(246), 9, 0)
-    );
+    assert_eq!(rt; put(&rt, &mut keep, &mut disk, &inode), Ok(()));
+    assert_eq!(rt; <ListKeep as Keep<MemHost>>::spare(&keep), 76);
+    see_twelve_held_back(&rt, &mut keep, &mut disk, &inode, writes);
     Ok(())
 }
 
@@ -148,24 +246,40 @@ fn a_map_grows_to_a_full_group_and_is_cut_to_twelve(rt: HostRuntime) -> Result<(
 fn the_thirteenth_block_needs_two(rt: HostRuntime) -> Result<(), Fail> {
     let mut disk = MemHost::new(rt.alloc(), 544)?;
     make_fresh(&rt, &mut disk);
+    let mut keep = ThroughKeep::new();
     let mut other = empty();
     let mut inode = empty();
     for count in 0..234u32 {
-        assert!(rt; grow(&rt, &mut disk, &mut other, count).is_ok());
+        assert!(rt; grow(&rt, &mut keep, &mut disk, &mut other, count).is_ok());
     }
     for count in 0..11u32 {
-        assert!(rt; grow(&rt, &mut disk, &mut inode, count).is_ok());
+        assert!(rt; grow(&rt, &mut keep, &mut disk, &mut inode, count).is_ok());
     }
     assert_eq!(rt;
-        (free(&rt, &mut disk), grow(&rt, &mut disk, &mut inode, 11)),
+        (
+            free(&rt, &mut keep, &mut disk),
+            grow(&rt, &mut keep, &mut disk, &mut inode, 11)
+        ),
         (Ok(1), Ok(255))
     );
-    assert_eq!(rt; shrink(&rt, &mut disk, &mut other, 234, 233), Ok(()));
-    assert_eq!(rt; grow(&rt, &mut disk, &mut inode, 12), Err(OpFault::NoSpace));
-    assert_eq!(rt; (free(&rt, &mut disk), inode.single), (Ok(1), 0));
-    assert_eq!(rt; shrink(&rt, &mut disk, &mut other, 233, 232), Ok(()));
-    assert_eq!(rt; grow(&rt, &mut disk, &mut inode, 12), Ok(242));
-    assert_eq!(rt; (free(&rt, &mut disk), inode.single), (Ok(0), 243));
+    assert_eq!(rt;
+        shrink(&rt, &mut keep, &mut disk, &mut other, 234, 233),
+        Ok(())
+    );
+    assert_eq!(rt;
+        grow(&rt, &mut keep, &mut disk, &mut inode, 12),
+        Err(OpFault::NoSpace)
+    );
+    assert_eq!(rt; (free(&rt, &mut keep, &mut disk), inode.single), (Ok(1), 0));
+    assert_eq!(rt;
+        shrink(&rt, &mut keep, &mut disk, &mut other, 233, 232),
+        Ok(())
+    );
+    assert_eq!(rt; grow(&rt, &mut keep, &mut disk, &mut inode, 12), Ok(242));
+    assert_eq!(rt;
+        (free(&rt, &mut keep, &mut disk), inode.single),
+        (Ok(0), 243)
+    );
     Ok(())
 }
 
@@ -195,23 +309,19 @@ fn an_inode_has_its_bytes(rt: HostRuntime) {
     );
 }
 
-#[tactic(auto, unfolding(ice_keep::specs::Pairs::free))]
 #[test]
 fn inodes_are_held_back_by_a_small_keep(rt: HostRuntime) -> Result<(), Fail> {
     let mut disk = MemHost::new(rt.alloc(), 544)?;
     make_fresh(&rt, &mut disk);
+    let writes = disk.writes();
     assert!(rt; disk.blocks() == 544);
     let lot = lot();
-    let mut keep = PairKeep::new();
-    let mut pool = BitPool::new();
+    let mut keep = ListKeep::new(rt.alloc(), 2)?;
     let mut inode = empty();
     inode.size = 7;
-    assert!(rt;
-        put_inode::<MemHost, PairKeep, BitPool, FormOne>(
-            &mut keep, &mut pool, &mut disk, &lot, 9, &inode
-        ).is_ok()
-    );
-    let held = get_inode::<MemHost, PairKeep, FormOne>(&mut keep, &mut disk, &lot, 9);
+    assert_eq!(rt; put(&rt, &mut keep, &mut disk, &inode), Ok(()));
+    assert!(rt; disk.blocks() == 544);
+    let held = get_inode::<MemHost, ListKeep, FormOne>(&mut keep, &mut disk, &lot, 9);
     let home = get_inode::<MemHost, ThroughKeep, FormOne>(
         &mut ThroughKeep::new(),
         &mut disk,
@@ -222,30 +332,29 @@ fn inodes_are_held_back_by_a_small_keep(rt: HostRuntime) -> Result<(), Fail> {
         (held.map(|i| i.size), home.map(|i| i.size)),
         (Ok(7), Ok(0))
     );
+    assert_eq!(rt; disk.writes(), writes);
     Ok(())
 }
 
-#[test]
-fn foreign_blocks_are_named(rt: HostRuntime) -> Result<(), Fail> {
-    let host = MemHost::new(rt.alloc(), 544)?;
-    let mut disk = MuteHost { host };
+/// Garbage first: zeros, of which block 0 is no data place. Then a fresh disk, and an inode with pointers at foreign blocks.
+fn see_foreign_blocks_named<K: Keep<MuteHost>>(rt: &impl Abort, keep: &mut K, disk: &mut MuteHost) {
     let mut inode = empty();
     assert_eq!(rt;
-        grow(&rt, &mut disk, &mut inode, 0),
+        grow(rt, keep, disk, &mut inode, 0),
         Err(OpFault::Damaged(Rule::Bitmap))
     );
-    make_fresh(&rt, &mut disk);
+    make_fresh(rt, disk);
     inode.direct[0] = 8;
     inode.direct[1] = 100;
     inode.single = 256;
     assert_eq!(rt;
-        grow(&rt, &mut disk, &mut inode, 13),
+        grow(rt, keep, disk, &mut inode, 13),
         Err(OpFault::Damaged(Rule::Pointer))
     );
     assert_eq!(rt;
         (
-            block_of(&rt, &mut disk, &inode, 0),
-            block_of(&rt, &mut disk, &inode, 12)
+            block_of(rt, keep, disk, &inode, 0),
+            block_of(rt, keep, disk, &inode, 12)
         ),
         (
             Err(OpFault::Damaged(Rule::Pointer)),
@@ -253,9 +362,23 @@ fn foreign_blocks_are_named(rt: HostRuntime) -> Result<(), Fail> {
         )
     );
     assert_eq!(rt;
-        shrink(&rt, &mut disk, &mut inode, 2, 1),
+        shrink(rt, keep, disk, &mut inode, 2, 1),
         Err(OpFault::Damaged(Rule::Bitmap))
     );
     assert_eq!(rt; inode.direct[1], 100);
+}
+
+#[test]
+fn foreign_blocks_are_named(rt: HostRuntime) -> Result<(), Fail> {
+    let mut disk = MuteHost {
+        host: MemHost::new(rt.alloc(), 544)?,
+    };
+    see_foreign_blocks_named(&rt, &mut ThroughKeep::new(), &mut disk);
+    let mut disk = MuteHost {
+        host: MemHost::new(rt.alloc(), 544)?,
+    };
+    let mut keep = ListKeep::new(rt.alloc(), 10)?;
+    see_foreign_blocks_named(&rt, &mut keep, &mut disk);
+    assert_eq!(rt; <ListKeep as Keep<MuteHost>>::spare(&keep), 10);
     Ok(())
 }

@@ -1,0 +1,32 @@
+-- What is known of a host over a file.
+use Rattle.std.specs.Prelude.{ℕ, ◌<◌, ◌^◌, Bool, false, List, []}
+use Rattle.ice_base.specs.Disk.{Image, DiskState}
+
+-- The number of whole blocks, and how often each kind of call failed; the bytes given that are held back, and whether sending
+-- such bytes has ever failed.
+pub record Known : Type 0 where
+  pub blocks : ℕ
+  pub fits : blocks < 2 ^ 32
+  pub disk_faults : ℕ
+  pub source_faults : ℕ
+  pub sink_faults : ℕ
+  pub held : List ℕ
+  pub lost : Bool
+
+-- a disk that tells nothing of its content
+abbrev pub silent_state : Known → DiskState
+silent_state c = record {
+  size = c.blocks;
+  faults = c.disk_faults;
+  streams = record { aside = []; intake = []; source_faults = c.source_faults; sink_faults = c.sink_faults };
+  tells = false;
+  now = [];
+  loose = λ k. false;
+  clock = 0;
+  barriers = 0;
+  writes = 0;
+}
+
+-- of which no crash image is told
+abbrev pub silent_left : Known → ℕ → Image → List ℕ → Type 0
+silent_left c t image out = ⊥
