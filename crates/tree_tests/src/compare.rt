@@ -21,6 +21,7 @@ const SIZES: [u32; 12] = [
 static BYTES: [u8; 16384] = [5; 16384];
 
 /// A small generator: the higher bits of a linear congruence.
+#[derive(Drop)]
 struct Random {
     state: u32,
 }

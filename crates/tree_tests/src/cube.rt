@@ -77,8 +77,8 @@ pub(crate) fn path(text: &[u8]) -> Path {
     path
 }
 
-fn plain(result: Result<(), Refusal>) -> Reply {
-    match result {
+fn plain(answer: Result<(), Refusal>) -> Reply {
+    match answer {
         Ok(()) => Ok(Value::Plain),
         Err(refusal) => Err(refusal),
     }
