@@ -1,24 +1,33 @@
 //! The commands of a tree beside a plain slow tree: 6,000 generated commands, boundary sizes among them.
-ghost use Rattle.std.specs.Prelude.{◌≡◌, ◌≤◌, ◌<◌, true, length};
-ghost use Rattle.ice_base.specs.Lots.{is_sited};
+ghost use Rattle.std.specs.Prelude.{◌≡◌, ◌≤◌, ◌<◌, ◌+◌, true, length};
 
 use crate::cube::{BLOCKS, fresh, one_group, path, reply};
 use disk_mem::MemHost;
 use ice_base::Disk;
 use ice_keep::ThroughKeep;
 use plain_tree::{PlainReply, PlainTree, answer, form_one};
+use std::alloc::Global;
 use std::process::Abort;
 use std::test::Fail;
-use tree_spec::{Command, Reply, Room, Value};
+use tree_spec::{Command, Path, Reply, Room, Value};
 
-const COMMANDS: u32 = 6000;
+/// Fresh lots, and commands for each.
+const ROUNDS: u32 = 4;
 
-/// Sizes and offsets about the ends of blocks, of the direct blocks and of what one command may write.
+const COMMANDS: u32 = 1500;
+
+/// Sizes about the ends of blocks, of the direct blocks and of what one command may write.
 const SIZES: [u32; 12] = [
     0, 1, 2, 1023, 1024, 1025, 12287, 12288, 12289, 16383, 16384, 250_880,
 ];
 
 static BYTES: [u8; 16384] = [5; 16384];
+
+/// 25 names below the cube's own.
+static DEEP: [u8; 52] = *b"/a/d/d/d/d/d/d/d/d/d/d/d/d/d/d/d/d/d/d/d/d/d/d/d/d/d";
+
+/// A name of 60 bytes below the cube's own.
+static LONG: [u8; 63] = *b"/a/nnnnnnnnnnnnnnnnnnnnnnnnnnnnnnnnnnnnnnnnnnnnnnnnnnnnnnnnnnnn";
 
 /// A small generator: the higher bits of a linear congruence.
 #[derive(Drop)]
@@ -36,17 +45,24 @@ impl Random {
     }
 }
 
-/// A path of up to three names of three letters below the cube's own.
-fn some_path(random: &mut Random) -> tree_spec::Path {
+/// A path of up to three names of one letter each below the cube's own, and seldom one that is too deep or has a long name.
+fn some_path(random: &mut Random, letters: u32) -> Path
+    requires some { 0 < letters }
+    requires few { letters ≤ 8 }
+{
+    match random.next(200) {
+        0 => return path(&DEEP),
+        1 => return path(&LONG),
+        _ => {}
+    }
     let mut text = *b"/a/x/x/x";
     for k in 0..3usize {
-        text[3 + 2 * k] = b"pqr"[random.next(3) as usize];
+        text[3 + 2 * k] = b'p' + random.next(letters) as u8;
     }
-    let names = random.next(13) as usize;
-    let end = match names {
+    let end = match random.next(16) {
         0 => 2,
-        1 | 2 | 3 | 4 => 4,
-        5 | 6 | 7 | 8 | 9 => 6,
+        1 | 2 | 3 | 4 | 5 => 4,
+        6 | 7 | 8 | 9 | 10 | 11 => 6,
         _ => 8,
     };
     path(&text[..end])
@@ -58,30 +74,31 @@ fn some_size(random: &mut Random, most: u32) -> u32
     SIZES[random.next(12) as usize].min(most)
 }
 
-fn some_command(random: &mut Random) -> Command<'static> {
-    let path = some_path(random);
-    match random.next(16) {
-        0 | 1 | 2 => Command::Mkdir { path },
-        3 | 4 | 5 => Command::Make { path },
-        6 | 7 | 8 => Command::Write {
+/// A command; `end` is the size of the file that was looked at last, at which every other write begins.
+fn some_command(random: &mut Random, letters: u32, path: Path, end: u32) -> Command<'static>
+    requires some { 0 < letters }
+    requires few { letters ≤ 8 }
+{
+    match random.next(24) {
+        0 | 1 | 2 | 3 => Command::Mkdir { path },
+        4 | 5 | 6 => Command::Make { path },
+        7 | 8 | 9 | 10 => Command::Write {
             path,
-            at: some_size(random, 250_880),
+            at: if random.next(4) > 0 { end } else { some_size(random, 250_880) },
             bytes: &BYTES[..some_size(random, 16384) as usize],
         },
-        9 => Command::Trunc {
+        11 => Command::Trunc {
             path,
-            len: some_size(random, 250_880),
+            len: some_size(random, 250_880).min(end),
         },
-        10 => Command::Remove { path },
-        11 | 12 => Command::Rename {
-            path,
-            to: some_path(random),
-        },
-        13 => Command::List { path },
-        14 => Command::Stat { path },
+        12 => Command::Trunc { path, len: some_size(random, 250_880) },
+        13 => Command::Remove { path },
+        14 | 15 | 16 => Command::Rename { path, to: some_path(random, letters) },
+        17 | 18 => Command::List { path },
+        19 | 20 => Command::Stat { path },
         _ => Command::Read {
             path,
-            at: some_size(random, 250_880),
+            at: some_size(random, 250_880).min(end),
             len: some_size(random, 16384),
         },
     }
@@ -109,40 +126,94 @@ fn agree(rt: &impl Abort, i: u32, got: &Reply, room: &Room, plain: &PlainReply) 
     }
 }
 
-/// The host with its blocks and no record of the calls so far.
-fn settled(rt: &impl Abort, host: MemHost, alloc: std::alloc::Global) -> Result<MemHost, Fail> {
-    let moment = host.calls();
-    let after = host.crashed(alloc, moment, 1)?;
-    assert!(rt; after.blocks() == BLOCKS);
-    Ok(after)
+/// The number of the reply's refusal, and 0 for none.
+fn number(reply: &Reply) -> usize {
+    match reply {
+        Ok(_) => 0,
+        Err(refusal) => usize::from(refusal.number()),
+    }
+}
+
+/// The first commands: fourteen pieces of a file and 40 empty files, so that few blocks and nodes are left.
+fn fill_up(i: u32) -> Command<'static> {
+    let (tens, ones) = (b'A' + (i / 8 % 8) as u8, b'a' + (i % 8) as u8);
+    match i {
+        0 => Command::Make { path: path(b"/a/z") },
+        1..=14 => Command::Write {
+            path: path(b"/a/z"),
+            at: 16384 * (i - 1),
+            bytes: &BYTES,
+        },
+        _ => Command::Make {
+            path: path(&[b'/', b'a', b'/', tens, ones]),
+        },
+    }
+}
+
+/// What is compared: a lot with its host, and the plain tree.
+#[derive(Drop)]
+struct Pair {
+    host: MemHost,
+    room: Room,
+    tree: PlainTree,
+    done: u64,
+    /// The size of the file that was looked at last.
+    end: u32,
+}
+
+fn new_pair(rt: &impl Abort, alloc: Global) -> Result<Pair, Fail> {
+    Ok(Pair {
+        host: fresh(rt, alloc)?,
+        room: Room::new(alloc)?,
+        tree: PlainTree::new(alloc),
+        done: 0,
+        end: 0,
+    })
+}
+
+/// Asks both, and answers the pair after it with the reply.
+fn ask(rt: &impl Abort, alloc: Global, pair: Pair, i: u32, command: &Command) -> Result<(Pair, Reply), Fail> {
+    let Pair { mut host, mut room, tree, mut done, mut end } = pair;
+    assert!(rt; host.blocks() == BLOCKS);
+    let mut keep = ThroughKeep::new();
+    let got = reply(rt, &mut keep, &mut host, &one_group(), command, &mut room);
+    let (plain, tree) = answer(alloc, tree, done, 1, form_one(), command, 1)?;
+    agree(rt, i, &got, &room, &plain);
+    if got == Ok(Value::Plain) {
+        done = done.saturating_add(1);
+    }
+    if let Ok(Value::File(size)) = got {
+        end = size;
+    }
+    Ok((Pair { host, room, tree, done, end }, got))
 }
 
 #[test]
 fn a_lot_answers_as_the_plain_tree_does(rt: HostRuntime) -> Result<(), Fail> {
     let mut random = Random { state: 20 };
-    let mut host = fresh(&rt, rt.alloc())?;
-    let mut room = Room::new(rt.alloc())?;
-    let mut keep = ThroughKeep::new();
-    let mut tree = PlainTree::new(rt.alloc());
-    let mut accepted = 0u64;
+    let mut times = [0u32; 34];
     let mut done = 0u64;
-    for i in 0..COMMANDS {
-        let command = some_command(&mut random);
-        assert!(rt; host.blocks() == BLOCKS);
-        let got = reply(&rt, &mut keep, &mut host, &one_group(), &command, &mut room);
-        let (plain, next) = answer(rt.alloc(), tree, done, 1, form_one(), &command, 1)?;
-        tree = next;
-        agree(&rt, i, &got, &room, &plain);
-        if got == Ok(Value::Plain) {
-            done += 1;
+    for _ in 0..ROUNDS {
+        let mut pair = new_pair(&rt, rt.alloc())?;
+        for i in 0..COMMANDS {
+            let letters = if i < COMMANDS / 3 { 2 } else { 5 };
+            let path = some_path(&mut random, letters);
+            let command = match i {
+                0..=54 => fill_up(i),
+                _ => some_command(&mut random, letters, path, pair.end),
+            };
+            let (after, got) = ask(&rt, rt.alloc(), pair, i, &command)?;
+            pair = after;
+            let which = number(&got);
+            assert!(rt; which < 34);
+            times[which] = times[which].saturating_add(1);
         }
-        if got.is_ok() {
-            accepted += 1;
-        }
-        if i % 500 == 499 {
-            host = settled(&rt, host, rt.alloc())?;
-        }
+        done = done.saturating_add(pair.done);
     }
-    assert!(rt; accepted > 1000 && done > 500, "{accepted} accepted, {done} changes");
+    // Every refusal but FileBig, which a lot of one group has no blocks for, and Spent.
+    for which in [0, 1, 2, 3, 4, 5, 6, 7, 8, 9, 10, 12, 13usize] {
+        assert!(rt; times[which] > 0, "no answer {which}");
+    }
+    assert!(rt; times[0] > 900 && done > 500, "{done} changes of {times:?}");
     Ok(())
 }
