@@ -9,6 +9,7 @@ ghost use Rattle.tree_spec.specs.Costs.{form_of};
 ghost use Rattle.tree_spec.specs.Operations.{Read, Stat, ListDir};
 ghost use Rattle.tree_spec.specs.Replies.{meant, refused_of, Tallies};
 ghost use Rattle.tree_spec.specs.Trees.{Tree, Found, File, walk};
+ghost use Rattle.tree_spec.specs.Why.{Why};
 ghost use Rattle.tree_spec.specs.declared.reply.Refusal.TheVariants.{Fault};
 ghost use Rattle.ice_reads.specs.Reads.{inode_on};
 ghost use Rattle.ice_reads.specs.Recovers.{MapRecovers};
@@ -81,6 +82,7 @@ pub fn read<D: Disk, V: View<D>, F: Form>(
     ensures answers { (mode k : ℕ) (t : Tree) → V.shows lot.now view.old disk.old → MapRecovers (form_of F.VERSION) mode lot.now (V.map view.old disk.old lot.now) t k
         → AsModel (meant result room.new) (answer t k (length lot.now.groups) (form_of F.VERSION) (Read (drop depth path.now) at len)).0 }
     ensures paths { ShownBy (paths_refusal (form_of F.VERSION) (drop depth path.now ∷ [])) result }
+    ensures untouched { (r : Why) → paths_refusal (form_of F.VERSION) (drop depth path.now ∷ []) ≡ Some r → (disk.new ≡ disk.old) × (view.new ≡ view.old) }
     ensures tallies { Tallies result room.new }
     ensures looked { Looked D.Disk V.View lot.now view.old disk.old view.new disk.new }
     ensures set { IfErr result IsTreeRefusal }
