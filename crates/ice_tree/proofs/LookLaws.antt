@@ -14,21 +14,21 @@ use Rattle.std.proofs.lemmas.Bool.Decides.{nat_tests}
 use Rattle.std.proofs.lemmas.Nat.{div-add-mod', mod_below}
 use Rattle.tree_spec.specs.Why.{Why}
 use Rattle.tree_spec.specs.Why as why
-use Rattle.tree_spec.specs.Replies.{Response, Refused, Bytes, Because, Fault, Memory, refused_of}
+use Rattle.tree_spec.specs.Replies.{Response, Accepted, Refused, Bytes, Because, Fault, Memory, refused_of}
 use Rattle.tree_spec.specs.declared.reply.Refusal.{Refusal}
-use Rattle.tree_spec.specs.Operations.{Operation, Read}
+use Rattle.tree_spec.specs.Operations.{Operation, Read, Stat}
 use Rattle.tree_spec.specs.Costs.{Form, form_one}
 use Rattle.tree_spec.specs.Trees.{Tree, Entries, rows, Walk, Found, NotFound, NotDir, walk}
 use Rattle.tree_spec.specs.Trees as tree
-use Rattle.tree_spec.specs.Answers.{refusal, answer, answer_by, accepted_value, bytes_found}
+use Rattle.tree_spec.specs.Answers.{refusal, answer, answer_by, accepted_value, bytes_found, tree_found, stat_value}
 use Rattle.ice_tree.specs.Outcomes.{AsModel, RefusedAs, ShownBy, refusal_by}
 use Rattle.ice_reads.specs.Tables.{Table, Map, own_in}
 use Rattle.ice_reads.specs.Reads.{Reads}
 use Rattle.ice_tree.specs.Places.{place_by, place_at}
 use Rattle.ice_tree.proofs.Names.{names-all}
-use Rattle.ice_tree.proofs.Chains.{refusal_read}
+use Rattle.ice_tree.proofs.Chains.{refusal_read, refusal_stat}
 use Rattle.ice_tree.proofs.PlaceLaws.{inode-own, length-file_bytes, places-lead, places-own, true_false}
-use Rattle.ice_tree.specs.Stages.{or_else, paths_refusal, file_refusal}
+use Rattle.ice_tree.specs.Stages.{or_else, paths_refusal, walk_refusal, file_refusal}
 use Rattle.ice_tree.specs.declared.place.Place.{Place}
 use Rattle.ice_tree.specs.declared.place.Place.TheVariants.{File, Dir, Missing, Blocked}
 
@@ -212,3 +212,19 @@ module _ (t : Tree) (k n : ℕ) (f : Form) (p : List (List ℕ)) (at len : ℕ) 
       read-value h room is =
           let test : nat_lt (length bytes) at ≡ false = grind (arith, nat_tests) in
           ap (λ x. Ok (Bytes x)) (is ∙ ap (λ w. take len (drop at (bytes_found w))) (sym found)) ∙ as_accepted t k n f op (past ∙ ap (λ b. if b then Some why.BeyondEnd else None) test)
+
+-- ---- stats
+
+module _ (t : Tree) (k n : ℕ) (f : Form) (p : List (List ℕ)) where
+  pub stat-paths : (r : Refused) → RefusedAs r (paths_refusal f (p ∷ [])) → AsModel (Err r) (answer t k n f (Stat p)).0
+  stat-paths r is = as_model t k n f (Stat p) r (paths_refusal f (p ∷ [])) is (λ w h. refusal_stat t k n f p ∙ first_stage (paths_refusal f (p ∷ [])) (walk_refusal (walk p t)) w h)
+
+  module _ (names : paths_refusal f (p ∷ []) ≡ None) (w : Walk) (ends : walk p t ≡ w) where
+    stat-stage : refusal t k n f (Stat p) ≡ walk_refusal w
+    stat-stage = refusal_stat t k n f p ∙ later_stage (paths_refusal f (p ∷ [])) (walk_refusal (walk p t)) names ∙ ap walk_refusal ends
+
+    pub stat-none : (r : Why) → walk_refusal w ≡ Some r → Err (Because r) ≡ (answer t k n f (Stat p)).0
+    stat-none r is = as_model t k n f (Stat p) (Because r) (walk_refusal w) is (λ v h. stat-stage ∙ h)
+
+    pub stat-value : (u : Tree) → w ≡ Found u → (value : Accepted) → value ≡ stat_value u → Ok value ≡ (answer t k n f (Stat p)).0
+    stat-value u is value same = ap (λ x. Ok x) (same ∙ ap (λ v. stat_value (tree_found v)) (sym (ends ∙ is))) ∙ as_accepted t k n f (Stat p) (stat-stage ∙ ap walk_refusal is)

@@ -6,5 +6,5 @@ mod looks;
 mod paths;
 mod place;
 
-pub use looks::read;
+pub use looks::{read, stat};
 pub use place::Place;
