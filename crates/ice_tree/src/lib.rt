@@ -2,9 +2,11 @@
 #![tactic(auto)]
 
 mod fault;
+mod lists;
 mod looks;
 mod paths;
 mod place;
 
+pub use lists::list;
 pub use looks::{read, stat};
 pub use place::Place;
