@@ -1,1 +1,5 @@
 pub mod Chains
+pub mod Names
+pub mod PlaceLaws
+pub mod LookLaws
+pub mod ListLaws

@@ -1,15 +1,12 @@
 //! The commands of one tree, over any view, keep, pool and form.
 #![tactic(auto)]
 
-mod counts;
-mod ends;
 mod fault;
+mod lists;
 mod looks;
-mod makes;
 mod paths;
 mod place;
-mod quota;
 
-pub use looks::read;
-pub use makes::mkdir;
+pub use lists::list;
+pub use looks::{read, stat};
 pub use place::Place;
