@@ -49,7 +49,7 @@ module _ (f : Form) (o : Table) (mine : ℕ → List ℕ) (k : ℕ) where
         | false ↦ λ e is. omega (arith, times-append (tree_uses f o mine (inode_named d rs) t) (entries_use f o mine rs es) k, uses-entry rs c es u is)
       ] refl h
 
-  -- what a part tree_uses, the whole tree_uses
+  -- what a part uses, the whole uses
   pub uses-part : (q : List (List ℕ)) (i : ℕ) (t s : Tree) → walk q t ≡ Found s → times (tree_uses f o mine (inode_on f o i q) s) k ≤ times (tree_uses f o mine i t) k
   uses-part [] i t s h = subst (λ x. times (tree_uses f o mine i x) k ≤ times (tree_uses f o mine i t) k) (same_Found _ _ h) (omega arith)
   uses-part (c ∷ q) i (File bytes) s h = absurd (Found≢NotDir _ (sym h))
@@ -95,7 +95,7 @@ module _ (f : Form) (lot : LotView) (o : Table) where
             subst (λ x. Reads f lot o (inode_on f o i (c ∷ q)) x s) deeper (Reads-part q (inode_named c (rows_in f (o i))) (h + 1) u s is (entry_reads (rows_in f (o i)) (h + 1) c es u e r.2))
       ] refl is
 
--- the tables agree at each inode that the whole tree_uses oftener than the part
+-- the tables agree at each inode that the whole uses oftener than the part
 pub record SameOutside (o p : Table) (part whole : List ℕ) : Type 0 where
   pub at : (k : ℕ) → times part k < times whole k → p k ≡ o k
 

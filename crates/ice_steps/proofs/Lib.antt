@@ -13,3 +13,9 @@ pub mod Sets
 pub mod Files
 pub mod Rows
 pub mod Losses
+pub mod Fresh
+pub mod Cuts
+pub mod Stays
+pub mod Needs
+pub mod Costs
+pub mod Chains
