@@ -12,7 +12,9 @@ ghost use Rattle.ice_reads.specs.Recovers.{MapRecovers};
 ghost use Rattle.ice_steps.specs.Beside.{DoneSet};
 ghost use Rattle.ice_tree.specs.Outcomes.{IsSubFault, IsCountFault};
 
-use ice_base::{Disk, Form, Keep, Lot, OpFault, Rule, SUB, View, fetch, read_u64, store, write_u64};
+use ice_base::{
+    Disk, Form, Keep, Lot, OpFault, Rule, SUB, View, fetch, read_u64, store, write_u64,
+};
 use ice_layout::read_sub;
 
 /// The most operations that a cube may accept: 2^63 - 1.
