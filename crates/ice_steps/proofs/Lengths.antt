@@ -34,7 +34,7 @@ module _ (f : Form) (o : Table) where
         omega arith
 
 -- what a map of at most 268 blocks costs
-uses-cost : (c : ℕ) → c ≤ 268 → uses_of c ≡ map_cost c
+pub uses-cost : (c : ℕ) → c ≤ 268 → uses_of c ≡ map_cost c
 uses-cost c h = grind (arith, nat_tests)
 
 pub file-size : (m : Map) (i : ℕ) (bytes : List ℕ) → IsFileInode form_one (own 64 m i) bytes → (inode_of m i).size ≡ length bytes

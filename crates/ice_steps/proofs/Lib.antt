@@ -11,3 +11,8 @@ pub mod Walks
 pub mod Others
 pub mod Sets
 pub mod Files
+pub mod Rows
+pub mod Losses
+pub mod Fresh
+pub mod Cuts
+pub mod Stays

@@ -1,5 +1,5 @@
 -- What is free in a lot, and how great its counts are.
-use Rattle.std.proofs.Common.{◌≡◌, ◌≤◌, ◌<◌, ◌+◌, ◌*◌, ◌%◌, ◌==◌, ℕ, suc, Bool, true, false, cond, not, ◌&&◌, List, [], ◌∷◌, ◌++◌, length, ◌⊎◌, inl, inr, ⊎_elim, ◌∙◌, sym, refl, ap, arith, ltb}
+use Rattle.std.proofs.Common.{◌≡◌, ◌≤◌, ◌<◌, ◌+◌, ◌*◌, ◌%◌, ◌==◌, ℕ, suc, Bool, true, false, cond, not, ◌&&◌, List, [], ◌∷◌, ◌++◌, length, length-append, ◌⊎◌, inl, inr, ⊎_elim, ◌∙◌, sym, refl, ap, arith, ltb}
 use Rattle.std.proofs.lemmas.Bool.Decides.{nat_tests}
 use Rattle.ice_base.specs.Bits.{count_below}
 use Rattle.ice_base.specs.Lots.{LotView}
@@ -16,7 +16,10 @@ use Rattle.tree_spec.specs.Costs.{form_one, blocks, nodes, block_quota, node_quo
 use Rattle.ice_reads.specs.Tables.{Map, own_in}
 use Rattle.ice_reads.specs.Reads.{used_blocks, used_inodes}
 use Rattle.ice_reads.specs.Recovers.{MapRecovers}
-use Rattle.ice_reads.proofs.Numbers.{Reads-number, Reads-data}
+use Rattle.ice_reads.proofs.Numbers.{Reads-data}
+use Rattle.ice_steps.specs.Beside.{Beside}
+use Rattle.ice_steps.proofs.Recovers.{recovers_beside}
+use Rattle.ice_steps.proofs.Others.{all-small}
 use Rattle.ice_steps.proofs.Counts.{count-times, count-groups, mark-clear}
 use Rattle.ice_steps.proofs.Lengths.{length-inodes, length-blocks}
 
@@ -63,29 +66,51 @@ module _ (lot : LotView) (m : Map) where
       let free = count_below-not (used_inode m) (64 * length lot.groups) in
       omega arith
 
--- what is free, and what the tree costs
-module _ (mode : ℕ) (lot : LotView) (m : Map) (t : Tree) (k : ℕ) (r : MapRecovers form_one mode lot m t k) where
-  pub free_nodes_are : free_count true lot m + nodes t ≡ node_quota (length lot.groups)
-  free_nodes_are =
+-- what is free beside the tree and the loose things
+module _ (mode : ℕ) (lot : LotView) (m : Map) (t : Tree) (k : ℕ) (xs is : List ℕ) (b : Beside form_one mode lot m t k xs is) where
+  pub beside_free_nodes : free_count true lot m + (nodes t + length is) ≡ node_quota (length lot.groups)
+  beside_free_nodes =
       let e = length-inodes form_one (own_in form_one m) 0 t in
-      let c = inodes-counted lot m (used_inodes form_one (own_in form_one m) 0 t) (λ i h. Reads-number form_one lot (own_in form_one m) i 0 0 t r.holds.reads (has-times _ i h)) r.holds.inodes in
+      let a = length-append (used_inodes form_one (own_in form_one m) 0 t) is in
+      let c = inodes-counted lot m (used_inodes form_one (own_in form_one m) 0 t ++ is) (λ i h. all-small mode lot m t k xs is b i (has-times _ i h)) b.inodes in
       omega arith
 
-  used_blocks_fill : free_count false lot m + length (used_blocks form_one (own_in form_one m) 0 t) ≡ 247 * length lot.groups
-  used_blocks_fill = blocks-counted lot m (used_blocks form_one (own_in form_one m) 0 t) r.holds.reserved (λ b h. Reads-data form_one lot (own_in form_one m) b 0 0 t r.holds.reads (has-times _ b h)) r.holds.blocks
+  places : (a : ℕ) → has (used_blocks form_one (own_in form_one m) 0 t ++ xs) a ≡ true → is_data lot a ≡ true
+  places a h =
+      let e = has-append (used_blocks form_one (own_in form_one m) 0 t) xs a in
+      elim (has xs a) as (λ u. has xs a ≡ u → is_data lot a ≡ true) [
+        | true ↦ λ u. b.more_data a u
+        | false ↦ λ u. Reads-data form_one lot (own_in form_one m) a 0 0 t b.reads (has-times (used_blocks form_one (own_in form_one m) 0 t) a (grind arith))
+      ] refl
 
-  pub free_blocks_are : length lot.groups ≤ 64 → free_count false lot m + blocks form_one t ≡ block_quota (length lot.groups)
-  free_blocks_are few =
-      let e = length-blocks lot few m 0 0 t r.holds.reads in
+  used_blocks_fill : free_count false lot m + length (used_blocks form_one (own_in form_one m) 0 t ++ xs) ≡ 247 * length lot.groups
+  used_blocks_fill = blocks-counted lot m (used_blocks form_one (own_in form_one m) 0 t ++ xs) b.reserved places b.blocks
+
+  pub beside_free_blocks : length lot.groups ≤ 64 → free_count false lot m + (blocks form_one t + length xs) ≡ block_quota (length lot.groups)
+  beside_free_blocks few =
+      let e = length-blocks lot few m 0 0 t b.reads in
+      let a = length-append (used_blocks form_one (own_in form_one m) 0 t) xs in
       let c = used_blocks_fill in
       omega arith
 
-  pub block_count_small : counted false m ≤ 247 * length lot.groups
-  block_count_small = let c = used_blocks_fill in let e = r.holds.block_count in omega arith
+  -- the counts are small
+  pub beside_counts : (counted false m ≤ 247 * length lot.groups) × (counted true m ≤ 64 * length lot.groups)
+  beside_counts = (
+    (let c = used_blocks_fill in let e = b.block_count in omega arith),
+    (let e = b.inode_count in
+    let a = length-append (used_inodes form_one (own_in form_one m) 0 t) is in
+    let n = length-inodes form_one (own_in form_one m) 0 t in
+    let c = beside_free_nodes in
+    omega arith),
+  )
 
-  pub inode_count_small : counted true m ≤ 64 * length lot.groups
-  inode_count_small =
-      let e = r.holds.inode_count in
-      let n = length-inodes form_one (own_in form_one m) 0 t in
-      let c = free_nodes_are in
-      omega arith
+-- what is free beside the tree
+module _ (mode : ℕ) (lot : LotView) (m : Map) (t : Tree) (k : ℕ) (r : MapRecovers form_one mode lot m t k) where
+  pub free_nodes_are : free_count true lot m + nodes t ≡ node_quota (length lot.groups)
+  free_nodes_are = let e = beside_free_nodes mode lot m t k [] [] (recovers_beside form_one mode lot m t k r) in omega arith
+
+  pub free_blocks_are : length lot.groups ≤ 64 → free_count false lot m + blocks form_one t ≡ block_quota (length lot.groups)
+  free_blocks_are few = let e = beside_free_blocks mode lot m t k [] [] (recovers_beside form_one mode lot m t k r) few in omega arith
+
+  pub counts_small : (counted false m ≤ 247 * length lot.groups) × (counted true m ≤ 64 * length lot.groups)
+  counts_small = beside_counts mode lot m t k [] [] (recovers_beside form_one mode lot m t k r)

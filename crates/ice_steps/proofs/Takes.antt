@@ -17,9 +17,12 @@ use Rattle.tree_spec.specs.Trees.{Tree}
 use Rattle.tree_spec.specs.Costs.{form_one}
 use Rattle.ice_reads.specs.Tables.{Map, own_in}
 use Rattle.ice_reads.specs.Reads.{used_blocks, used_inodes}
+use Rattle.ice_reads.specs.Recovers.{MapRecovers}
+use Rattle.ice_reads.proofs.Frames.{SameAt}
 use Rattle.ice_steps.specs.Beside.{Beside, OnlyAt, DoneSet}
 use Rattle.ice_steps.proofs.Counts.{times-same, times-other}
 use Rattle.ice_steps.proofs.Keeps.{only-one, only-two, marks-own, sub-own, put-own}
+use Rattle.ice_steps.proofs.Recovers.{beside_recovers, recovers_beside}
 use Rattle.ice_steps.proofs.Still.{beside-still, used-places}
 use Rattle.ice_steps.proofs.SubLaws.{says-counted, says-done, counted-other, counted-done, says-same}
 
@@ -30,12 +33,19 @@ mark-alone j i e = times-same j i [] (sym e)
 mark-absent : (j i : ℕ) → i ≢ j → times (j ∷ []) i ≡ 0
 mark-absent j i e = times-other j i [] (λ q. e (sym q))
 
+-- the inodes of the tree say what they said
+pub took_stays : (mode : ℕ) (lot : LotView) (m m' : Map) (t : Tree) (k : ℕ) (xs is : List ℕ) (j : ℕ) → length lot.groups ≤ 64 → Beside form_one mode lot m t k xs is → OnlyAt (sub_address ∷ bitmap_of true j ∷ []) m m' → SameAt (own 64 m) (own 64 m') (used_inodes form_one (own 64 m) 0 t)
+took_stays mode lot m m' t k xs is j few b only = record { at = λ x h. marks-own lot few m m' (j / 64) (only-two sub_address (bitmap_of true j) m m' only) x (used-places lot m 0 0 t b.reads x h) }
+
+pub done_stays : (mode : ℕ) (lot : LotView) (m m' : Map) (t : Tree) (k done : ℕ) (xs is : List ℕ) → length lot.groups ≤ 64 → Beside form_one mode lot m t k xs is → DoneSet m m' done → SameAt (own 64 m) (own 64 m') (used_inodes form_one (own 64 m) 0 t)
+done_stays mode lot m m' t k done xs is few b set = record { at = λ x h. sub-own lot few m m' (only-one sub_address m m' set.others) x (used-places lot m 0 0 t b.reads x h) }
+
 pub took_inode : (mode : ℕ) (lot : LotView) (m m' : Map) (t : Tree) (k : ℕ) (xs : List ℕ) (j : ℕ) → length lot.groups ≤ 64 → Beside form_one mode lot m t k xs [] → TookInode m m' j → j < 64 * length lot.groups
     → OnlyAt (sub_address ∷ bitmap_of true j ∷ []) m m' → Beside form_one mode lot m' t k xs (j ∷ [])
 took_inode mode lot m m' t k xs j few b took small only =
     beside-still mode lot m m' t k k xs xs [] (j ∷ []) b
     (says-counted form_one mode lot true m m' (counted true m + 1) k took.counts b.sub)
-    (record { at = λ x h. marks-own lot few m m' (j / 64) (only-two sub_address (bitmap_of true j) m m' only) x (used-places lot m 0 0 t b.reads x h) })
+    (took_stays mode lot m m' t k xs [] j few b only)
     (λ a h l. took.others a)
     (record {
       blocks = λ a h. ap (λ t. mark t + times xs a) (took.others a);
@@ -65,7 +75,7 @@ pub gave_inode : (mode : ℕ) (lot : LotView) (m m' : Map) (t : Tree) (k j : ℕ
 gave_inode mode lot m m' t k j few b gave only =
     beside-still mode lot m m' t k k [] [] (j ∷ []) [] b
     (says-counted form_one mode lot true m m' (counted true m - 1) k gave.counts b.sub)
-    (record { at = λ x h. marks-own lot few m m' (j / 64) (only-two sub_address (bitmap_of true j) m m' only) x (used-places lot m 0 0 t b.reads x h) })
+    (took_stays mode lot m m' t k [] (j ∷ []) j few b only)
     (λ a h l. gave.others a)
     (record {
       blocks = λ a h. ap (λ t. mark t + times [] a) (gave.others a);
@@ -94,14 +104,14 @@ gave_inode mode lot m m' t k j few b gave only =
       others_small = λ i h. let n = has-none i in absurd cc;
     })
 
--- the block of the sub-super block alone changed
-beside_done : (mode : ℕ) (lot : LotView) (m m' : Map) (t : Tree) (k done : ℕ) (xs is : List ℕ) → length lot.groups ≤ 64 → Beside form_one mode lot m t k xs is → DoneSet m m' done → Beside form_one mode lot m' t done xs is
+-- the number of accepted operations was set
+pub beside_done : (mode : ℕ) (lot : LotView) (m m' : Map) (t : Tree) (k done : ℕ) (xs is : List ℕ) → length lot.groups ≤ 64 → Beside form_one mode lot m t k xs is → DoneSet m m' done → Beside form_one mode lot m' t done xs is
 beside_done mode lot m m' t k done xs is few b set =
     let only = only-one sub_address m m' set.others in
     let bitmaps = λ (o : ℕ). only (256 * o) (λ e. omega arith) in
     beside-still mode lot m m' t k done xs xs is is b
     (says-done form_one mode lot.slot (m sub_address) (m' sub_address) k done set.value set.small b.sub)
-    (record { at = λ x h. sub-own lot few m m' only x (used-places lot m 0 0 t b.reads x h) })
+    (done_stays mode lot m m' t k done xs is few b set)
     (λ a h l. used-same false m m' a bitmaps)
     (record {
       blocks = λ a h. ap (λ t. mark t + times xs a) (used-same false m m' a bitmaps);
@@ -111,3 +121,6 @@ beside_done mode lot m m' t k done xs is few b set =
       more_data = b.more_data;
       others_small = b.others_small;
     })
+
+pub done_set : (mode : ℕ) (lot : LotView) (m m' : Map) (t : Tree) (k done : ℕ) → length lot.groups ≤ 64 → MapRecovers form_one mode lot m t k → DoneSet m m' done → MapRecovers form_one mode lot m' t done
+done_set mode lot m m' t k done few r set = beside_recovers form_one mode lot m' t done (beside_done mode lot m m' t k done [] [] few (recovers_beside form_one mode lot m t k r) set)
