@@ -94,8 +94,8 @@ pub(crate) fn step<D: Disk, V: View<D>, F: Form>(
     ensures place { (i h : ℕ) (t : Tree) → V.shows lot.now view.old disk.old → Reads (form_of F.VERSION) lot.now (own_in (form_of F.VERSION) (V.map view.old disk.old lot.now)) i h t → from ≡ place_by i (Found t)
         → IfOk result (λ p. p ≡ place_by (inode_named name.now (rows_in (form_of F.VERSION) (own_in (form_of F.VERSION) (V.map view.old disk.old lot.now) i))) (child name.now t)) }
     ensures sound { (i h : ℕ) (t : Tree) → V.shows lot.now view.old disk.old → Reads (form_of F.VERSION) lot.now (own_in (form_of F.VERSION) (V.map view.old disk.old lot.now)) i h t → from ≡ place_by i (Found t) → IfErr result (λ e. e ≡ FaultDisk) }
-    ensures missing { from ≡ Missing → IfOk result (λ p. p ≡ Missing) }
-    ensures blocked { from ≡ Blocked → IfOk result (λ p. p ≡ Blocked) }
+    ensures missing { from ≡ Missing → result ≡ Ok Missing }
+    ensures blocked { from ≡ Blocked → result ≡ Ok Blocked }
     ensures fits { IfOk result (PlaceFits lot.now) }
     ensures looked { Looked D.Disk V.View lot.now view.old disk.old view.new disk.new }
     ensures faults { IfErr result IsWalkFault }

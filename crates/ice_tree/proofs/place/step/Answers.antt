@@ -1,0 +1,38 @@
+use Rattle.std.proofs.Common.{IfOk, Err, ℕ, ◌+◌, ◌≡◌, ap, sym, ◌∙◌, arith, subst}
+use Rattle.std.proofs.lemmas.Result.{err_from_is_err_and, IfOk-equal}
+use Rattle.tree_spec.specs.Costs.{form_of}
+use Rattle.ice_base.specs.declared.fault.OpFault.TheVariants.{Disk as FaultDisk}
+use Rattle.ice_reads.specs.Tables.{own_in}
+use Rattle.ice_reads.specs.Reads.{Reads}
+use Rattle.ice_tree.proofs.PlaceLaws.{step-none, step-some, step-fails}
+use Rattle.ice_tree.proofs.place.step.Goals as goal
+
+pub returns-in_err-find-in-Dir-clause-sound : goal.returns-in_err-find-in-Dir-clause-sound
+returns-in_err-find-in-Dir-clause-sound g c = λ i h t s r is.
+    let p = err_from_is_err_and c.from_residual.result c.from_residual.ensures.1 in
+    let e = c.in_err-find-in-Dir.ensures in
+    rw (p.1, p.2)
+    (step-fails (form_of g.F.Form.VERSION) (ap form_of g.F.Form.is_one.0) c.args.lot.now (g.V.View.map c.args.view.now c.args.disk.now c.args.lot.now) i h t r
+    _ _ g.F.Form.ENTRY (sym c.in-Dir.is ∙ is) g.F.Form.is_one.1 _ e.faults (λ k. e.kind (ap (λ y. Err y) k) s) (λ k. e.pointer (ap (λ y. Err y) k) s))
+
+pub returns-in-None-clause-place : goal.returns-in-None-clause-place
+returns-in-None-clause-place g c = λ i h t s r is.
+    step-none (form_of g.F.Form.VERSION) (ap form_of g.F.Form.is_one.0) c.args.lot.now (g.V.View.map c.args.view.now c.args.disk.now c.args.lot.now) i h t r
+    _ _ g.F.Form.ENTRY c.args.name.now (sym c.in-Dir.is ∙ is) g.F.Form.is_one.1 (sym (c.in_ok-find-in-Dir.ensures.found s) ∙ c.in-None.is)
+
+pub returns-in-Some-clause-place : goal.returns-in-Some-clause-place
+returns-in-Some-clause-place g c = λ i h t s r is.
+    let f = form_of g.F.Form.VERSION in
+    let x = step-some f (ap form_of g.F.Form.is_one.0) c.args.lot.now (g.V.View.map c.args.view.now c.args.disk.now c.args.lot.now) i h t r
+    _ _ g.F.Form.ENTRY _ c.args.name.now (sym c.in-Dir.is ∙ is) g.F.Form.is_one.1 (sym (c.in_ok-find-in-Dir.ensures.found s) ∙ c.in-Some.is) in
+    let looked = c.find.ensures.looked in
+    subst (λ y. IfOk c.enter.result (λ p. p ≡ y)) x.place
+    (c.enter.ensures.place (h + 1) x.there (looked.shows s) (subst (λ m. Reads f c.args.lot.now (own_in f m) c.in-Some.next (h + 1) x.there) (sym looked.map) x.reads))
+
+pub returns-in-Some-clause-sound : goal.returns-in-Some-clause-sound
+returns-in-Some-clause-sound g c = λ i h t s r is.
+    let f = form_of g.F.Form.VERSION in
+    let x = step-some f (ap form_of g.F.Form.is_one.0) c.args.lot.now (g.V.View.map c.args.view.now c.args.disk.now c.args.lot.now) i h t r
+    _ _ g.F.Form.ENTRY _ c.args.name.now (sym c.in-Dir.is ∙ is) g.F.Form.is_one.1 (sym (c.in_ok-find-in-Dir.ensures.found s) ∙ c.in-Some.is) in
+    let looked = c.find.ensures.looked in
+    c.enter.ensures.sound (h + 1) x.there (looked.shows s) (subst (λ m. Reads f c.args.lot.now (own_in f m) c.in-Some.next (h + 1) x.there) (sym looked.map) x.reads)
