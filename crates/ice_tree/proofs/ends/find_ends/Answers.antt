@@ -21,7 +21,31 @@ returns-in_err-parent-clause-sound g c = λ mode k t s r.
     rw (p.1, p.2) (c.in_err-parent.ensures.sound mode k t s r)
 
 pub returns-in_err-end-clause-sound : goal.returns-in_err-end-clause-sound
-returns-in_err-end-clause-sound g c = λ mode k t s r. ?
+returns-in_err-end-clause-sound g c = λ mode k t s r.
+    let p = err_from_is_err_and c.from_residual-in_err-end.result c.from_residual-in_err-end.ensures.1 in
+    let f = form_of g.F.Form.VERSION in
+    let e = c.in_err-end.ensures in
+    let looked = c.walk-2.ensures.looked in
+    rw (p.1, p.2)
+    (next-fault f c.args.lot.now (own_in f (g.V.View.map c.args.view.now c.args.disk.now c.args.lot.now)) (take (c.len-last.result - 1 - c.args.depth) (drop c.args.depth c.args.path.now)) t c.in_ok-parent.parent _
+    r.holds.reads (c.in_ok-parent.ensures.place mode k t s r)
+    (subst (λ (m : Map). (i h : ℕ) (u : Tree) → Reads f c.args.lot.now (own_in f m) i h u → c.in_ok-parent.parent ≡ place_by i (Found u) → c.in_err-end.field-0.0 ≡ FaultDisk) looked.map
+    (λ i h u q is. e.sound i h u (looked.shows s) q is))
+    e.missing e.blocked)
 
 pub returns-clause-found : goal.returns-clause-found
-returns-clause-found g c = λ mode k t s r. ?
+returns-clause-found g c = λ mode k t s r.
+    let f = form_of g.F.Form.VERSION in
+    let e = c.in_ok-end.ensures in
+    let looked = c.walk-2.ensures.looked in
+    let o = own_in f (g.V.View.map c.args.view.now c.args.disk.now c.args.lot.now) in
+    let last = c.len-last.result - 1 in
+    let names = take (last - c.args.depth) (drop c.args.depth c.args.path.now) in
+    let at = c.in_ok-parent.ensures.place mode k t s r in
+    ends-more f o t names (drop c.args.depth c.args.path.now) c.name-name.result c.in_ok-parent.parent c.in_ok-end.end
+    (names-last c.args.path.now c.args.depth last c.name-name.result (omega arith) (omega arith) (c.name-name.ensures []))
+    at
+    (next-place f c.args.lot.now o names c.name-name.result t c.in_ok-parent.parent c.in_ok-end.end r.holds.reads at
+    (subst (λ (m : Map). (i h : ℕ) (u : Tree) → Reads f c.args.lot.now (own_in f m) i h u → c.in_ok-parent.parent ≡ place_by i (Found u) → c.in_ok-end.end ≡ place_by (inode_named c.name-name.result (rows_in f (own_in f m i))) (child c.name-name.result u)) looked.map
+    (λ i h u q is. e.place i h u (looked.shows s) q is))
+    e.missing e.blocked)
