@@ -1,3 +1,6 @@
 pub mod Chains
 pub mod Names
 pub mod PlaceLaws
+pub mod QuotaLaws
+pub mod StageLaws
+pub mod EndLaws
