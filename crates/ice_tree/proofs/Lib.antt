@@ -4,3 +4,4 @@ pub mod PlaceLaws
 pub mod QuotaLaws
 pub mod StageLaws
 pub mod EndLaws
+pub mod HeightLaws

@@ -4,6 +4,7 @@
 mod counts;
 mod ends;
 mod fault;
+mod heights;
 mod looks;
 mod makes;
 mod paths;
