@@ -1,19 +1,19 @@
 -- A change at one place of a tree: what stands for the whole follows from what stands for the place.
-use Rattle.std.proofs.Common.{◌≡◌, ℕ, suc, ◌+◌, ◌-◌, ◌<◌, ◌≤◌, Bool, true, false, cond, T, List, [], ◌∷◌, ◌++◌, length, Some, None, Option, sym, refl, ap, ◌∙◌, subst, arith}
+use Rattle.std.proofs.Common.{◌≡◌, ℕ, ◌+◌, ◌<◌, ◌≤◌, Bool, true, false, cond, T, List, [], ◌∷◌, ◌++◌, length, Some, None, Option, sym, refl, ap, ◌∙◌, subst, arith}
 use Rattle.std.specs.Prelude.{is_some}
 use Rattle.std.specs.Ordering.{eq_by_cmp}
-use Rattle.std.specs.FinMap.{find, is_sorted}
+use Rattle.std.specs.FinMap.{find}
 use Rattle.ice_base.specs.Lots.{LotView}
 use Rattle.ice_map.specs.Maps.{times}
 use Rattle.ice_map.proofs.ListLaws.{times-append}
 use Rattle.ice_file.specs.Own.{Own}
 use Rattle.ice_dir.specs.Rows.{Row}
-use Rattle.tree_spec.specs.Trees.{Tree, File, Dir, Entries, Nil, Entry, rows, by_bytes, walk, and_on, found_or_not, child, Walk, Found, NotFound, NotDir, at, over_child, over_entry}
+use Rattle.tree_spec.specs.Trees.{Tree, File, Dir, Entries, Nil, Entry, rows, by_bytes, walk, and_on, found_or_not, Found, NotFound, NotDir, at, over_entry}
 use Rattle.tree_spec.specs.Costs.{Form}
 use Rattle.tree_spec.proofs.Trees.{same_name, find-over, on_some}
 use Rattle.tree_spec.proofs.Sums.{length-over}
 use Rattle.tree_spec.proofs.Orders.{is_sorted-over}
-use Rattle.ice_reads.specs.Tables.{Table, rows_in, IsInode, IsFileInode, IsDirInode, inode_named}
+use Rattle.ice_reads.specs.Tables.{Table, rows_in, IsInode, IsDirInode, inode_named}
 use Rattle.ice_reads.specs.Reads.{Reads, ReadsEach, tree_uses, entries_use, used_inodes, inode_on}
 use Rattle.ice_reads.proofs.Frames.{SameAt, inodes_in, Reads-frame, ReadsEach-frame, uses-frame, uses_in-frame, times-here, times-there}
 
@@ -49,7 +49,7 @@ module _ (f : Form) (o : Table) (mine : ℕ → List ℕ) (k : ℕ) where
         | false ↦ λ e is. omega (arith, times-append (tree_uses f o mine (inode_named d rs) t) (entries_use f o mine rs es) k, uses-entry rs c es u is)
       ] refl h
 
-  -- what a part tree_uses, the whole tree_uses
+  -- what a part uses, the whole uses
   pub uses-part : (q : List (List ℕ)) (i : ℕ) (t s : Tree) → walk q t ≡ Found s → times (tree_uses f o mine (inode_on f o i q) s) k ≤ times (tree_uses f o mine i t) k
   uses-part [] i t s h = subst (λ x. times (tree_uses f o mine i x) k ≤ times (tree_uses f o mine i t) k) (same_Found _ _ h) (omega arith)
   uses-part (c ∷ q) i (File bytes) s h = absurd (Found≢NotDir _ (sym h))
@@ -95,7 +95,7 @@ module _ (f : Form) (lot : LotView) (o : Table) where
             subst (λ x. Reads f lot o (inode_on f o i (c ∷ q)) x s) deeper (Reads-part q (inode_named c (rows_in f (o i))) (h + 1) u s is (entry_reads (rows_in f (o i)) (h + 1) c es u e r.2))
       ] refl is
 
--- the tables agree at each inode that the whole tree_uses oftener than the part
+-- the tables agree at each inode that the whole uses oftener than the part
 pub record SameOutside (o p : Table) (part whole : List ℕ) : Type 0 where
   pub at : (k : ℕ) → times part k < times whole k → p k ≡ o k
 
@@ -122,18 +122,20 @@ module _ (f : Form) (o p : Table) (i : ℕ) (c : List ℕ) (q : List (List ℕ))
 
 module _ (f : Form) (lot : LotView) (o p : Table) where
   ReadsEach-over : (rs : List Row) (h : ℕ) (c : List ℕ) (g : Tree → Tree) (es : Entries) (u : Tree) → find by_bytes c (rows es) ≡ Some u → ReadsEach f lot o rs h es → Reads f lot p (inode_named c rs) h (g u)
-    → SameOutside o p (used_inodes f o (inode_named c rs) u) (inodes_in f o rs es) → ReadsEach f lot p rs h (over_entry c g es)
+      → SameOutside o p (used_inodes f o (inode_named c rs) u) (inodes_in f o rs es) → ReadsEach f lot p rs h (over_entry c g es)
   ReadsEach-over rs h c g Nil u is r new same = tt
   ReadsEach-over rs h c g (Entry d t es) u is r new same =
       elim (eq_by_cmp by_bytes c d) as (λ b. eq_by_cmp by_bytes c d ≡ b → cond b (Some t) (find by_bytes c (rows es)) ≡ Some u → ReadsEach f lot p rs h (cond b (Entry d (g t) es) (Entry d t (over_entry c g es)))) [
-        | true ↦ λ e is. (subst (λ x. Reads f lot p (inode_named d rs) h (g x)) (sym (same_Some _ _ is)) (subst (λ x. Reads f lot p (inode_named x rs) h (g u)) (same_name c d e) new),
-            ReadsEach-frame f lot o p rs h es (rest-outside f o p rs c d t u es (same_name c d e) (same_Some _ _ is) same) r.1)
+        | true ↦ λ e is. (
+          subst (λ x. Reads f lot p (inode_named d rs) h (g x)) (sym (same_Some _ _ is)) (subst (λ x. Reads f lot p (inode_named x rs) h (g u)) (same_name c d e) new),
+          ReadsEach-frame f lot o p rs h es (rest-outside f o p rs c d t u es (same_name c d e) (same_Some _ _ is) same) r.1,
+        )
         | false ↦ λ e is. (Reads-frame f lot o p (inode_named d rs) h t (first-outside f o p rs c d t u es is same) r.0, ReadsEach-over rs h c g es u is r.1 new (later-outside f o p rs c d t u es same))
       ] refl is
 
   -- what a changed part stands for gives what the whole stands for, where nothing outside the part moved
   pub Reads-at : (q : List (List ℕ)) (i h : ℕ) (g : Tree → Tree) (t s : Tree) → walk q t ≡ Found s → Reads f lot o i h t → Reads f lot p (inode_on f o i q) (h + length q) (g s)
-    → SameOutside o p (used_inodes f o (inode_on f o i q) s) (used_inodes f o i t) → Reads f lot p i h (at q g t)
+      → SameOutside o p (used_inodes f o (inode_on f o i q) s) (used_inodes f o i t) → Reads f lot p i h (at q g t)
   Reads-at [] i h g t s is r new same = subst (λ x. Reads f lot p i x (g t)) (zero_more h) (subst (λ x. Reads f lot p i (h + 0) (g x)) (sym (same_Found _ _ is)) new)
     where
       zero_more : (h : ℕ) → h + 0 ≡ h
@@ -146,46 +148,63 @@ module _ (f : Form) (lot : LotView) (o p : Table) where
             let top : o i ≡ p i = sym (top-outside f o p i c q es u s e is same) in
             let deeper : h + length (c ∷ q) ≡ (h + 1) + length q = omega arith in
             let part : Reads f lot p (inode_named c (rows_in f (o i))) (h + 1) (at q g u) =
-                Reads-at q (inode_named c (rows_in f (o i))) (h + 1) g u s is (entry_reads f lot o (rows_in f (o i)) (h + 1) c es u e r.2) (subst (λ x. Reads f lot p (inode_on f o (inode_named c (rows_in f (o i))) q) x (g s)) deeper new) (below-outside f o p i c q es u s e same) in
-            (subst (λ x. IsInode f lot x i h) top r.0, IsDirInode-over f lot (p i) c (λ u. at q g u) es (subst (λ x. IsDirInode f lot x es) top r.1),
+            Reads-at q (inode_named c (rows_in f (o i))) (h + 1) g u s is (entry_reads f lot o (rows_in f (o i)) (h + 1) c es u e r.2) (subst (λ x. Reads f lot p (inode_on f o (inode_named c (rows_in f (o i))) q) x (g s)) deeper new) (below-outside f o p i c q es u s e same) in (
+              subst (λ x. IsInode f lot x i h) top r.0,
+              IsDirInode-over f lot (p i) c (λ u. at q g u) es (subst (λ x. IsDirInode f lot x es) top r.1),
               subst (λ x. ReadsEach f lot p (rows_in f x) (h + 1) (over_entry c (λ u. at q g u) es)) top
-                (ReadsEach-over (rows_in f (o i)) (h + 1) c (λ u. at q g u) es u e r.2 part (each-outside f o p i c q es u s is same)))
+                  (ReadsEach-over (rows_in f (o i)) (h + 1) c (λ u. at q g u) es u e r.2 part (each-outside f o p i c q es u s is same)),
+            )
       ] refl is
 
 -- how a sum over the used lists moves. `size` is a length, or how often a number stands in a list
 module _ (f : Form) (o p : Table) (mine yours : ℕ → List ℕ) (alike : (k : ℕ) → p k ≡ o k → yours k ≡ mine k) (measure : List ℕ → ℕ) (adds : (xs ys : List ℕ) → measure (xs ++ ys) ≡ measure xs + measure ys) where
   uses_in-over : (rs : List Row) (c : List ℕ) (g : Tree → Tree) (es : Entries) (u : Tree) → find by_bytes c (rows es) ≡ Some u
-    → SameOutside o p (used_inodes f o (inode_named c rs) u) (inodes_in f o rs es)
-    → measure (entries_use f p yours rs (over_entry c g es)) + measure (tree_uses f o mine (inode_named c rs) u) ≡ measure (tree_uses f p yours (inode_named c rs) (g u)) + measure (entries_use f o mine rs es)
+      → SameOutside o p (used_inodes f o (inode_named c rs) u) (inodes_in f o rs es)
+      → measure (entries_use f p yours rs (over_entry c g es)) + measure (tree_uses f o mine (inode_named c rs) u) ≡ measure (tree_uses f p yours (inode_named c rs) (g u)) + measure (entries_use f o mine rs es)
   uses_in-over rs c g Nil u is same = absurd (None≢Some u is)
   uses_in-over rs c g (Entry d t es) u is same =
       elim (eq_by_cmp by_bytes c d) as (λ b. eq_by_cmp by_bytes c d ≡ b → cond b (Some t) (find by_bytes c (rows es)) ≡ Some u
-        → measure (entries_use f p yours rs (cond b (Entry d (g t) es) (Entry d t (over_entry c g es)))) + measure (tree_uses f o mine (inode_named c rs) u) ≡ measure (tree_uses f p yours (inode_named c rs) (g u)) + measure (tree_uses f o mine (inode_named d rs) t ++ entries_use f o mine rs es)) [
+      → measure (entries_use f p yours rs (cond b (Entry d (g t) es) (Entry d t (over_entry c g es)))) + measure (tree_uses f o mine (inode_named c rs) u) ≡ measure (tree_uses f p yours (inode_named c rs) (g u)) + measure (tree_uses f o mine (inode_named d rs) t ++ entries_use f o mine rs es)) [
         | true ↦ λ e is.
             let k = same_name c d e in
             let v = same_Some _ _ is in
-            omega (arith, adds (tree_uses f p yours (inode_named d rs) (g t)) (entries_use f p yours rs es), adds (tree_uses f o mine (inode_named d rs) t) (entries_use f o mine rs es),
+            omega (
+              arith,
+              adds (tree_uses f p yours (inode_named d rs) (g t)) (entries_use f p yours rs es),
+              adds (tree_uses f o mine (inode_named d rs) t) (entries_use f o mine rs es),
               ap measure (uses_in-frame f o p mine yours alike rs es (rest-outside f o p rs c d t u es k v same)),
-              ap (λ x. measure (tree_uses f p yours (inode_named d rs) (g x))) v, ap (λ x. measure (tree_uses f p yours (inode_named x rs) (g u))) k,
-              ap (λ x. measure (tree_uses f o mine (inode_named d rs) x)) v, ap (λ x. measure (tree_uses f o mine (inode_named x rs) u)) k)
+              ap (λ x. measure (tree_uses f p yours (inode_named d rs) (g x))) v,
+              ap (λ x. measure (tree_uses f p yours (inode_named x rs) (g u))) k,
+              ap (λ x. measure (tree_uses f o mine (inode_named d rs) x)) v,
+              ap (λ x. measure (tree_uses f o mine (inode_named x rs) u)) k,
+            )
         | false ↦ λ e is.
-            omega (arith, adds (tree_uses f p yours (inode_named d rs) t) (entries_use f p yours rs (over_entry c g es)), adds (tree_uses f o mine (inode_named d rs) t) (entries_use f o mine rs es),
+            omega (
+              arith,
+              adds (tree_uses f p yours (inode_named d rs) t) (entries_use f p yours rs (over_entry c g es)),
+              adds (tree_uses f o mine (inode_named d rs) t) (entries_use f o mine rs es),
               ap measure (uses-frame f o p mine yours alike (inode_named d rs) t (first-outside f o p rs c d t u es is same)),
-              uses_in-over rs c g es u is (later-outside f o p rs c d t u es same))
+              uses_in-over rs c g es u is (later-outside f o p rs c d t u es same),
+            )
       ] refl is
 
   pub uses-at : (q : List (List ℕ)) (i : ℕ) (g : Tree → Tree) (t s : Tree) → walk q t ≡ Found s → SameOutside o p (used_inodes f o (inode_on f o i q) s) (used_inodes f o i t)
-    → measure (tree_uses f p yours i (at q g t)) + measure (tree_uses f o mine (inode_on f o i q) s) ≡ measure (tree_uses f p yours (inode_on f o i q) (g s)) + measure (tree_uses f o mine i t)
+      → measure (tree_uses f p yours i (at q g t)) + measure (tree_uses f o mine (inode_on f o i q) s) ≡ measure (tree_uses f p yours (inode_on f o i q) (g s)) + measure (tree_uses f o mine i t)
   uses-at [] i g t s is same = subst (λ x. measure (tree_uses f p yours i (g t)) + measure (tree_uses f o mine i x) ≡ measure (tree_uses f p yours i (g x)) + measure (tree_uses f o mine i t)) (same_Found _ _ is) refl
   uses-at (c ∷ q) i g (File bytes) s is same = absurd (Found≢NotDir _ (sym is))
   uses-at (c ∷ q) i g (Dir es) s is same =
       elim (find by_bytes c (rows es)) as (λ x. find by_bytes c (rows es) ≡ x → and_on (found_or_not x) (λ u. walk q u) ≡ Found s
-        → measure (yours i ++ entries_use f p yours (rows_in f (p i)) (over_entry c (λ u. at q g u) es)) + measure (tree_uses f o mine (inode_on f o i (c ∷ q)) s) ≡ measure (tree_uses f p yours (inode_on f o i (c ∷ q)) (g s)) + measure (mine i ++ entries_use f o mine (rows_in f (o i)) es)) [
+      → measure (yours i ++ entries_use f p yours (rows_in f (p i)) (over_entry c (λ u. at q g u) es)) + measure (tree_uses f o mine (inode_on f o i (c ∷ q)) s) ≡ measure (tree_uses f p yours (inode_on f o i (c ∷ q)) (g s)) + measure (mine i ++ entries_use f o mine (rows_in f (o i)) es)) [
         | None ↦ λ e is. absurd (Found≢NotFound _ (sym is))
         | Some u ↦ λ e is.
             let top : p i ≡ o i = top-outside f o p i c q es u s e is same in
-            omega (arith, adds (yours i) (entries_use f p yours (rows_in f (p i)) (over_entry c (λ u. at q g u) es)), adds (mine i) (entries_use f o mine (rows_in f (o i)) es),
-              ap measure (alike i top), ap (λ x. measure (entries_use f p yours (rows_in f x) (over_entry c (λ u. at q g u) es))) top,
+            omega (
+              arith,
+              adds (yours i) (entries_use f p yours (rows_in f (p i)) (over_entry c (λ u. at q g u) es)),
+              adds (mine i) (entries_use f o mine (rows_in f (o i)) es),
+              ap measure (alike i top),
+              ap (λ x. measure (entries_use f p yours (rows_in f x) (over_entry c (λ u. at q g u) es))) top,
               uses_in-over (rows_in f (o i)) c (λ u. at q g u) es u e (each-outside f o p i c q es u s is same),
-              uses-at q (inode_named c (rows_in f (o i))) g u s is (below-outside f o p i c q es u s e same))
+              uses-at q (inode_named c (rows_in f (o i))) g u s is (below-outside f o p i c q es u s e same),
+            )
       ] refl is

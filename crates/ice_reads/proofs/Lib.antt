@@ -11,3 +11,4 @@ pub mod Walks
 pub mod Rests
 pub mod Recovering
 pub mod FreshBits
+pub mod FreshLots

@@ -1,19 +1,19 @@
 -- Look-ups of names in the rows of a directory, and the rows after one came or went.
-use Rattle.std.proofs.Common.{◌≡◌, ◌≤◌, ◌<◌, ◌+◌, ◌-◌, ℕ, suc, Bool, true, false, cond, T, List, [], ◌∷◌, ◌++◌, map, length, take, slice_index_or, slice_set, get_or, Option, None, Some, ◌∙◌, sym, refl, ap, subst, arith, length-append}
+use Rattle.std.proofs.Common.{◌≡◌, ◌≤◌, ◌<◌, ◌+◌, ◌-◌, ℕ, suc, Bool, true, false, cond, T, List, [], ◌∷◌, ◌++◌, map, length, take, slice_set, get_or, Option, None, Some, ◌∙◌, sym, refl, ap, subst, arith, length-append}
 use Rattle.std.proofs.lemmas.List.{get_or_default}
-use Rattle.std.proofs.lemmas.List.Elements.{All-append, All-cons, All-nil, All-tail, recursion_from_All, All-from_recursion}
+use Rattle.std.proofs.lemmas.List.Elements.{All-append, All-cons, All-nil, All-tail}
 use Rattle.std.proofs.lemmas.List.Folds.{find_at}
 use Rattle.std.proofs.lemmas.List.Sorted.{IsPermutation-swap_remove, IsPermutation-map, IsPermutation-sym, All-permutation, Contains-permutation, length_permutation}
 use Rattle.std.proofs.lemmas.List.Sums.{prefix_len-le-length, passes_at_first}
 use Rattle.std.proofs.lemmas.Map.Keys.{IsDistinct-push, IsDistinct-head, IsDistinct-tail, IsDistinct-IsPermutation}
 use Rattle.std.proofs.lemmas.Map.Views.{lookup-from_Contains}
 use Rattle.std.proofs.lemmas.Option.{slice_get_past}
-use Rattle.std.specs.Prelude.{is_some, ◌||◌, ◌⊎◌, All, Contains, not, unwrap_or}
+use Rattle.std.specs.Prelude.{is_some, ◌||◌, All, Contains, not, unwrap_or}
 use Rattle.std.specs.Cmp.{eq_by_cmp_equiv}
 use Rattle.std.specs.Cmp.Lexicographic.{nat_list_cmp_total, texts_ties, same_text}
 use Rattle.std.specs.FinMap.{find}
 use Rattle.std.specs.FinMap.Entries.{find-append, is_some-find}
-use Rattle.std.specs.List.{IsDistinct, AllByRecursion, list_any, position_or_len, swap_remove}
+use Rattle.std.specs.List.{IsDistinct, AllByRecursion, list_any, position_or_len}
 use Rattle.std.specs.List as list
 use Rattle.std.specs.List.Sorted.{IsPermutation}
 use Rattle.std.specs.Map.{lookup}
@@ -24,7 +24,7 @@ use Rattle.ice_dir.specs.Rows.{Row, named, look_up, without}
 use Rattle.tree_spec.specs.Trees.{Tree, Dir, Entries, rows, by_bytes, child, found_or_not, Found, NotFound}
 use Rattle.tree_spec.specs.Costs.{Form}
 use Rattle.tree_spec.specs.Routes.{is_same_name}
-use Rattle.tree_spec.proofs.Trees.{same_name, is_same_name-refl, is_same_name-sym}
+use Rattle.tree_spec.proofs.Trees.{same_name, is_same_name-sym}
 use Rattle.ice_reads.specs.Tables.{Table, rows_in, IsNameOf, inode_named}
 use Rattle.ice_reads.specs.Reads.{Reads}
 use Rattle.ice_reads.proofs.Focus.{entry_reads, same_Some, None≢Some}
@@ -153,7 +153,7 @@ module _ (c : List ℕ) (j : ℕ) (rs : List Row) (is : look_up c rs ≡ Some j)
   inside =
       let low = prefix_len-le-length (λ (row : Row). not (named c row)) rs in
       let none : length rs ≤ at → None ≡ Some j =
-          (λ past. ap (option_map (λ (row : Row). row.1)) (sym (slice_get_past rs at past)) ∙ ap (option_map (λ (row : Row). row.1)) (sym (find_at (named c) rs)) ∙ is) in
+      (λ past. ap (option_map (λ (row : Row). row.1)) (sym (slice_get_past rs at past)) ∙ ap (option_map (λ (row : Row). row.1)) (sym (find_at (named c) rs)) ∙ is) in
       omega (arith, low, (λ (past : length rs ≤ at). None≢Some j (none past)))
 
   gone-named : gone.0 ≡ c

@@ -1,24 +1,22 @@
 -- A directory that loses a row, and trees that stand at another depth.
-use Rattle.std.proofs.Common.{◌≡◌, ℕ, suc, ◌+◌, ◌-◌, ◌*◌, ◌<◌, ◌≤◌, ◌≢◌, Bool, true, false, cond, T, List, [], ◌∷◌, ◌++◌, length, map, max, Some, None, Option, sym, refl, ap, ◌∙◌, subst, arith, length-append}
+use Rattle.std.proofs.Common.{◌≡◌, ℕ, ◌+◌, ◌*◌, ◌<◌, ◌≤◌, Bool, true, false, cond, T, List, [], ◌∷◌, ◌++◌, length, map, Some, None, Option, sym, refl, ap, ◌∙◌, subst, arith, length-append}
 use Rattle.std.specs.Prelude.{is_some, not, ◌&&◌, filter, All, unwrap_or}
-use Rattle.std.specs.List.{IsDistinct, range_with_len}
+use Rattle.std.specs.List.{IsDistinct}
 use Rattle.std.specs.Ordering.{eq_by_cmp}
-use Rattle.std.specs.FinMap.{find, put, is_sorted}
-use Rattle.std.specs.FinMap.Entries.{below_all, is_sorted-where_key}
+use Rattle.std.specs.FinMap.{find, is_sorted}
+use Rattle.std.specs.FinMap.Entries.{is_sorted-where_key}
 use Rattle.std.proofs.lemmas.List.FromFn.{length-map-range_with_len}
 use Rattle.ice_base.specs.Lots.{LotView}
-use Rattle.ice_map.specs.Maps.{times}
 use Rattle.ice_file.specs.Own.{Own}
 use Rattle.ice_dir.specs.Rows.{Row, dir_rows, look_up}
 use Rattle.ice_dir.specs.Rows as dir
-use Rattle.tree_spec.specs.Trees.{Tree, File, Dir, Entries, Nil, Entry, rows, from_rows, by_bytes, walk, Found, at, with_entry, without, without_entry, height, height_in}
+use Rattle.tree_spec.specs.Trees.{Tree, File, Dir, Entries, Nil, Entry, rows, from_rows, by_bytes, without, without_entry, height, height_in}
 use Rattle.tree_spec.specs.Costs.{Form}
 use Rattle.tree_spec.specs.Answers.{deepest}
-use Rattle.tree_spec.specs.Routes.{is_same_name}
-use Rattle.tree_spec.proofs.Trees.{rows-from_rows, from_rows-rows, same_name, is_same_name-refl, find-without}
+use Rattle.tree_spec.proofs.Trees.{rows-from_rows, same_name, find-without}
 use Rattle.tree_spec.proofs.Sums.{length-without, no_later}
-use Rattle.ice_reads.specs.Tables.{Table, entry_bytes, rows_in, IsInode, IsFileInode, IsDirInode, IsNameOf, inode_named}
-use Rattle.ice_reads.specs.Reads.{Reads, ReadsEach, tree_uses, entries_use, used_inodes, inode_on}
+use Rattle.ice_reads.specs.Tables.{Table, rows_in, IsInode, IsDirInode, IsNameOf, inode_named}
+use Rattle.ice_reads.specs.Reads.{Reads, ReadsEach, tree_uses, entries_use}
 use Rattle.ice_reads.proofs.Frames.{SameAt, inodes_in, ReadsEach-frame, uses_in-frame}
 use Rattle.ice_reads.proofs.Focus.{same_Some, None≢Some}
 use Rattle.ice_reads.proofs.Steps.{SameRowsAt, ReadsEach-rows, uses_in-rows, ReadsEach-filter, AddsRow}
@@ -89,31 +87,40 @@ module _ (f : Form) (o : Table) (mine : ℕ → List ℕ) (rs : List Row) (measu
   uses_in-without c v Nil sorted is = absurd (None≢Some v is)
   uses_in-without c v (Entry d t es) sorted is =
       elim (eq_by_cmp by_bytes c d) as (λ b. eq_by_cmp by_bytes c d ≡ b → cond b (Some t) (find by_bytes c (rows es)) ≡ Some v
-        → measure (entries_use f o mine rs (from_rows (cond (not b) ((d, t) ∷ filter (λ e. not (eq_by_cmp by_bytes c e.0)) (rows es)) (filter (λ e. not (eq_by_cmp by_bytes c e.0)) (rows es))))) + measure (tree_uses f o mine (inode_named c rs) v) ≡ measure (tree_uses f o mine (inode_named d rs) t ++ entries_use f o mine rs es)) [
+      → measure (entries_use f o mine rs (from_rows (cond (not b) ((d, t) ∷ filter (λ e. not (eq_by_cmp by_bytes c e.0)) (rows es)) (filter (λ e. not (eq_by_cmp by_bytes c e.0)) (rows es))))) + measure (tree_uses f o mine (inode_named c rs) v) ≡ measure (tree_uses f o mine (inode_named d rs) t ++ entries_use f o mine rs es)) [
         | true ↦ λ e is.
             let k = same_name c d e in
-            omega (arith, adds (tree_uses f o mine (inode_named d rs) t) (entries_use f o mine rs es),
+            omega (
+              arith,
+              adds (tree_uses f o mine (inode_named d rs) t) (entries_use f o mine rs es),
               ap (λ x. measure (entries_use f o mine rs x)) (no_later c d es e (first _ _ sorted)),
-              ap (λ x. measure (tree_uses f o mine (inode_named d rs) x)) (same_Some _ _ is), ap (λ x. measure (tree_uses f o mine (inode_named x rs) v)) k)
+              ap (λ x. measure (tree_uses f o mine (inode_named d rs) x)) (same_Some _ _ is),
+              ap (λ x. measure (tree_uses f o mine (inode_named x rs) v)) k,
+            )
         | false ↦ λ e is. omega (arith, adds (tree_uses f o mine (inode_named d rs) t) (entries_use f o mine rs es), adds (tree_uses f o mine (inode_named d rs) t) (entries_use f o mine rs (without c es)), uses_in-without c v es (second _ _ sorted) is)
       ] refl is
 
 module _ (f : Form) (lot : LotView) (o p : Table) (i h : ℕ) (c : List ℕ) (v : Tree) (es : Entries) where
   pub Reads-loses : Reads f lot o i h (Dir es) → find by_bytes c (rows es) ≡ Some v → LosesRow f lot (o i) (p i) i h c → SameAt o p (inodes_in f o (rows_in f (o i)) (without c es)) → Reads f lot p i h (without_entry c (Dir es))
-  Reads-loses r is a same =
-      (a.common r.0, IsDirInode-without f lot (o i) (p i) i h c es v is a r.1,
-        ReadsEach-rows (rows_in f (o i)) (rows_in f (p i)) f lot p (h + 1) (without c es) (same_rows f lot (o i) (p i) i h c es a)
-          (ReadsEach-frame f lot o p (rows_in f (o i)) (h + 1) (without c es) same (ReadsEach-filter f lot o (rows_in f (o i)) (h + 1) (λ e. not (eq_by_cmp by_bytes c e.0)) es r.2)))
+  Reads-loses r is a same = (
+    a.common r.0,
+    IsDirInode-without f lot (o i) (p i) i h c es v is a r.1,
+    ReadsEach-rows (rows_in f (o i)) (rows_in f (p i)) f lot p (h + 1) (without c es) (same_rows f lot (o i) (p i) i h c es a)
+        (ReadsEach-frame f lot o p (rows_in f (o i)) (h + 1) (without c es) same (ReadsEach-filter f lot o (rows_in f (o i)) (h + 1) (λ e. not (eq_by_cmp by_bytes c e.0)) es r.2)),
+  )
 
   pub uses-loses : (mine yours : ℕ → List ℕ) → ((k : ℕ) → p k ≡ o k → yours k ≡ mine k) → (measure : List ℕ → ℕ) → ((xs ys : List ℕ) → measure (xs ++ ys) ≡ measure xs + measure ys)
-    → T (is_sorted by_bytes (rows es)) → find by_bytes c (rows es) ≡ Some v → LosesRow f lot (o i) (p i) i h c → SameAt o p (inodes_in f o (rows_in f (o i)) (without c es))
-    → measure (tree_uses f p yours i (without_entry c (Dir es))) + measure (tree_uses f o mine (inode_named c (rows_in f (o i))) v) + measure (mine i) ≡ measure (tree_uses f o mine i (Dir es)) + measure (yours i)
+      → T (is_sorted by_bytes (rows es)) → find by_bytes c (rows es) ≡ Some v → LosesRow f lot (o i) (p i) i h c → SameAt o p (inodes_in f o (rows_in f (o i)) (without c es))
+      → measure (tree_uses f p yours i (without_entry c (Dir es))) + measure (tree_uses f o mine (inode_named c (rows_in f (o i))) v) + measure (mine i) ≡ measure (tree_uses f o mine i (Dir es)) + measure (yours i)
   uses-loses mine yours like measure adds sorted is a same =
-      omega (arith,
-        adds (yours i) (entries_use f p yours (rows_in f (p i)) (without c es)), adds (mine i) (entries_use f o mine (rows_in f (o i)) es),
+      omega (
+        arith,
+        adds (yours i) (entries_use f p yours (rows_in f (p i)) (without c es)),
+        adds (mine i) (entries_use f o mine (rows_in f (o i)) es),
         uses_in-without f o mine (rows_in f (o i)) measure adds c v es sorted is,
         ap measure (uses_in-rows (rows_in f (o i)) (rows_in f (p i)) f p yours (without c es) (same_rows f lot (o i) (p i) i h c es a)),
-        ap measure (uses_in-frame f o p mine yours like (rows_in f (o i)) (without c es) same))
+        ap measure (uses_in-frame f o p mine yours like (rows_in f (o i)) (without c es) same),
+      )
 
 -- ---- the rows of a directory as a list
 

@@ -1,14 +1,14 @@
 -- A tree that loses an entry, and a tree that moves.
-use Rattle.std.proofs.Common.{◌≡◌, ℕ, suc, ◌+◌, ◌-◌, ◌<◌, ◌≤◌, ◌≢◌, List, [], ◌∷◌, ◌++◌, length, Some, None, sym, refl, ap, ◌∙◌, subst, arith}
+use Rattle.std.proofs.Common.{◌≡◌, ℕ, ◌+◌, ◌<◌, ◌≤◌, ◌≢◌, List, [], ◌∷◌, ◌++◌, length, Some, None, sym, refl, ap, subst, arith}
 use Rattle.std.specs.FinMap.{find}
 use Rattle.ice_base.specs.Lots.{LotView}
 use Rattle.ice_map.specs.Maps.{times}
 use Rattle.ice_map.proofs.ListLaws.{times-append}
-use Rattle.tree_spec.specs.Trees.{Tree, File, Dir, Entries, rows, by_bytes, walk, Found, at, with_entry, without, without_entry, height}
+use Rattle.tree_spec.specs.Trees.{Tree, Dir, Entries, rows, by_bytes, walk, Found, at, with_entry, without, without_entry, height}
 use Rattle.tree_spec.specs.Costs.{Form}
 use Rattle.tree_spec.specs.Answers.{deepest}
-use Rattle.ice_reads.specs.Tables.{Table, rows_in, IsDirInode, IsNameOf, inode_named}
-use Rattle.ice_reads.specs.Reads.{Reads, ReadsEach, tree_uses, used_inodes, inode_on}
+use Rattle.ice_reads.specs.Tables.{Table, rows_in, IsNameOf, inode_named}
+use Rattle.ice_reads.specs.Reads.{Reads, tree_uses, used_inodes, inode_on}
 use Rattle.ice_reads.proofs.Frames.{SameAt, inodes_in, Reads-frame, uses-frame, times-here}
 use Rattle.ice_reads.proofs.Focus.{Reads-at, Reads-part, uses-part, uses-at, entry_reads, uses-entry}
 use Rattle.ice_reads.proofs.Steps.{IsOnce, SameBut, AddsRow, Reads-with_entry, in_dir, outside_dir}
@@ -42,10 +42,13 @@ module _ (f : Form) (lot : LotView) (o p : Table) (q : List (List ℕ)) (c : Lis
       (outside_dir f o p q 0 t es found once same)
 
   pub uses-without_entry : (mine yours : ℕ → List ℕ) → ((k : ℕ) → p k ≡ o k → yours k ≡ mine k) → (measure : List ℕ → ℕ) → ((xs ys : List ℕ) → measure (xs ++ ys) ≡ measure xs + measure ys)
-    → measure (tree_uses f p yours 0 (at q (without_entry c) t)) + measure (tree_uses f o mine gone v) + measure (mine here) ≡ measure (tree_uses f o mine 0 t) + measure (yours here)
+      → measure (tree_uses f p yours 0 (at q (without_entry c) t)) + measure (tree_uses f o mine gone v) + measure (mine here) ≡ measure (tree_uses f o mine 0 t) + measure (yours here)
   uses-without_entry mine yours like measure adds =
-      omega (arith, uses-at f o p mine yours like measure adds q 0 (without_entry c) t (Dir es) found (outside_dir f o p q 0 t es found once same),
-        uses-loses f lot o p here (length q) c v es mine yours like measure adds dir_reads.1.sorted is a kept_same)
+      omega (
+        arith,
+        uses-at f o p mine yours like measure adds q 0 (without_entry c) t (Dir es) found (outside_dir f o p q 0 t es found once same),
+        uses-loses f lot o p here (length q) c v es mine yours like measure adds dir_reads.1.sorted is a kept_same,
+      )
 
   -- the entry that went still stands for its tree
   gone_same : SameAt o p (used_inodes f o gone v)
@@ -72,8 +75,13 @@ module _ (f : Form) (lot : LotView) (o p : Table) (q : List (List ℕ)) (c : Lis
     left_second = record { at = λ k ne h. second.at k ne (omega (arith, times-append (used_inodes f p 0 (at q (without_entry c) t)) (used_inodes f p gone v) k)) }
 
     not_to : (k : ℕ) → 0 < times (used_inodes f p gone v) k → k ≢ inode_on f p 0 to
-    not_to k h e = absurd (omega (arith, apart k, uses-part f p one k to 0 (at q (without_entry c) t) (Dir fs) there,
-        times-here k (inodes_in f p (rows_in f (p (inode_on f p 0 to))) fs), ap (λ x. times (x ∷ inodes_in f p (rows_in f (p (inode_on f p 0 to))) fs) k) e))
+    not_to k h e = absurd (omega (
+      arith,
+      apart k,
+      uses-part f p one k to 0 (at q (without_entry c) t) (Dir fs) there,
+      times-here k (inodes_in f p (rows_in f (p (inode_on f p 0 to))) fs),
+      ap (λ x. times (x ∷ inodes_in f p (rows_in f (p (inode_on f p 0 to))) fs) k) e,
+    ))
 
     moved_same : SameAt p z (used_inodes f p gone v)
     moved_same = record { at = λ k h. second.at k (not_to k h) (omega (arith, times-append (used_inodes f p 0 (at q (without_entry c) t)) (used_inodes f p gone v) k)) }

@@ -1,5 +1,5 @@
 -- What a tree uses: numbers of the lot, data places, and no more than its inodes use.
-use Rattle.std.proofs.Common.{◌≡◌, ℕ, suc, zero, ◌+◌, ◌*◌, ◌<◌, ◌≤◌, ◌≢◌, ◌==◌, Bool, true, false, cond, List, [], ◌∷◌, ◌++◌, length, sym, refl, ap, ◌∙◌, subst, arith, inl, inr, ⊎_elim}
+use Rattle.std.proofs.Common.{◌≡◌, ℕ, suc, zero, ◌+◌, ◌*◌, ◌<◌, ◌≤◌, ◌≢◌, ◌==◌, true, false, List, [], ◌∷◌, ◌++◌, length, sym, refl, ap, ◌∙◌, subst, arith, inl, inr, ⊎_elim}
 use Rattle.std.specs.Prelude.{flat_map, ◌⊎◌}
 use Rattle.std.proofs.lemmas.Bool.Decides.{nat_tests}
 use Rattle.std.proofs.lemmas.Grind.{flat_map-append}
@@ -7,7 +7,7 @@ use Rattle.std.proofs.lemmas.List.{append-nil}
 use Rattle.ice_base.specs.Lots.{LotView}
 use Rattle.ice_base.specs.Used.{is_data}
 use Rattle.ice_map.specs.Maps.{times}
-use Rattle.ice_map.proofs.ListLaws.{times-append, times-cons}
+use Rattle.ice_map.proofs.ListLaws.{times-append}
 use Rattle.ice_map.proofs.UsesLaws.{times-has}
 use Rattle.ice_dir.specs.Rows.{Row}
 use Rattle.tree_spec.specs.Trees.{Tree, File, Dir, Entries, Nil, Entry, height, height_in}

@@ -1,5 +1,5 @@
 -- What a map of a lot's blocks recovers is one tree, and stays where the blocks that say it stay.
-use Rattle.std.proofs.Common.{◌≡◌, ℕ, ◌+◌, ◌*◌, ◌/◌, ◌%◌, ◌^◌, ◌<◌, ◌≤◌, ◌==◌, Bool, true, false, cond, List, [], ◌∷◌, length, Option, Some, None, sym, refl, ap, ◌∙◌, arith}
+use Rattle.std.proofs.Common.{◌≡◌, ℕ, ◌*◌, ◌/◌, ◌%◌, ◌^◌, ◌<◌, ◌≤◌, ◌==◌, Bool, true, false, List, [], ◌∷◌, length, Some, None, sym, refl, ap, ◌∙◌, arith}
 use Rattle.std.specs.Prelude.{nat_lt, not, slice_index, if◌then◌else◌}
 use Rattle.std.proofs.lemmas.Bool.Decides.{nat_tests}
 use Rattle.std.proofs.lemmas.Nat.{div-add-mod', mod_below}
@@ -8,20 +8,20 @@ use Rattle.ice_base.specs.Fields.{word_at, long_at}
 use Rattle.ice_base.specs.Inodes.{inode_address}
 use Rattle.ice_base.specs.Lots.{LotView, sub_address}
 use Rattle.ice_base.specs.Spare.{has}
-use Rattle.ice_base.specs.Used.{used, used_block, used_inode, is_data, Reserved, counted, count_place, bits_of, bitmap_of, bit_place}
+use Rattle.ice_base.specs.Used.{used, counted, count_place, bits_of, bitmap_of, bit_place}
 use Rattle.ice_base.specs.declared.fault.Rule.{Rule}
 use Rattle.ice_base.specs.declared.fault.Rule.TheVariants.{Magic, Version, Slot, Mode, Done}
 use Rattle.ice_base.proofs.UsedLaws.{used-bit, ordinal_below, data_below}
 use Rattle.ice_layout.specs.Subs.{sub_rule, sub_magic}
 use Rattle.ice_map.specs.Maps.{times}
 use Rattle.ice_map.proofs.ListLaws.{has-times}
-use Rattle.ice_map.proofs.UsesLaws.{times-has, times-none}
+use Rattle.ice_map.proofs.UsesLaws.{times-has}
 use Rattle.ice_file.specs.Own.{mark}
 use Rattle.tree_spec.specs.Trees.{Tree}
 use Rattle.tree_spec.specs.Costs.{Form}
-use Rattle.ice_reads.specs.Tables.{Map, Table, own_in}
-use Rattle.ice_reads.specs.Reads.{Reads, used_blocks, used_inodes}
-use Rattle.ice_reads.specs.Recovers.{SubSays, Holds, MapRecovers}
+use Rattle.ice_reads.specs.Tables.{Map, own_in}
+use Rattle.ice_reads.specs.Reads.{used_blocks, used_inodes}
+use Rattle.ice_reads.specs.Recovers.{Holds, MapRecovers}
 use Rattle.ice_reads.proofs.Frames.{SameAt, Reads-frame, uses-frame}
 use Rattle.ice_reads.proofs.Numbers.{Reads-number, used-one}
 use Rattle.ice_reads.proofs.Rests.{own-rests}
@@ -46,7 +46,7 @@ small : (slot : ℕ) (bytes : List ℕ) → sub_rule slot bytes ≡ None → lon
 unfolding sub_rule
 small slot bytes h =
     let t : nat_lt (long_at bytes 16) (2 ^ 63) ≡ true =
-        last_passes (word_at bytes 0 == sub_magic) (word_at bytes 4 == 1) (slice_index bytes 8 == slot) (slice_index bytes 9 == 0) (nat_lt (long_at bytes 16) (2 ^ 63)) Magic Version Slot Mode Done h in
+    last_passes (word_at bytes 0 == sub_magic) (word_at bytes 4 == 1) (slice_index bytes 8 == slot) (slice_index bytes 9 == 0) (nat_lt (long_at bytes 16) (2 ^ 63)) Magic Version Slot Mode Done h in
     grind (arith, nat_tests)
 
 pub recovers_small : (f : Form) (mode : ℕ) (lot : LotView) (m : Map) (t : Tree) (k : ℕ) → MapRecovers f mode lot m t k → k < 2 ^ 63
@@ -95,10 +95,12 @@ module _ (f : Form) (lot : LotView) (m n : Map) (t : Tree)
 
   module _ (h : Holds f lot m t) where
     same : SameAt (own_in f m) (own_in f n) (used_inodes f (own_in f m) 0 t)
-    same = record { at = λ k c.
-        let low = Reads-number f lot (own_in f m) k 0 0 t h.reads c in
-        own-rests f m n k (fixed (inode_address k) (inode-inside k (length lot.groups) low) (inode-place k))
-        (λ a u. held a (omega (arith, has-times (own_in f m k).uses a u, used-one f (own_in f m) (λ i. (own_in f m i).uses) a k k 0 t c))) }
+    same = record {
+      at = λ k c.
+          let low = Reads-number f lot (own_in f m) k 0 0 t h.reads c in
+          own-rests f m n k (fixed (inode_address k) (inode-inside k (length lot.groups) low) (inode-place k))
+          (λ a u. held a (omega (arith, has-times (own_in f m k).uses a u, used-one f (own_in f m) (λ i. (own_in f m i).uses) a k k 0 t c)));
+    }
 
     blocks-rest : used_blocks f (own_in f n) 0 t ≡ used_blocks f (own_in f m) 0 t
     blocks-rest = uses-frame f (own_in f m) (own_in f n) (λ i. (own_in f m i).uses) (λ i. (own_in f n i).uses) (λ k e. ap (λ x. x.uses) e) 0 t same

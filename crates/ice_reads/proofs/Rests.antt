@@ -1,5 +1,5 @@
 -- An inode says what it said where its own bytes and the blocks that it uses stay.
-use Rattle.std.proofs.Common.{◌≡◌, ℕ, zero, suc, ◌+◌, ◌-◌, ◌*◌, ◌/◌, ◌%◌, ◌<◌, ◌≤◌, Bool, true, false, cond, List, [], ◌∷◌, ◌++◌, map, sym, refl, ap, ◌∙◌, arith}
+use Rattle.std.proofs.Common.{◌≡◌, ℕ, zero, suc, ◌+◌, ◌-◌, ◌*◌, ◌/◌, ◌%◌, ◌<◌, ◌≤◌, Bool, true, false, cond, List, [], ◌∷◌, ◌++◌, map, refl, ap, ◌∙◌, arith}
 use Rattle.std.specs.Prelude.{nat_lt, nat_eq, if◌then◌else◌}
 use Rattle.std.specs.List.{range_with_len}
 use Rattle.std.proofs.lemmas.Bool.Decides.{nat_tests}
@@ -29,9 +29,9 @@ module _ (m n : Map) (x : Inode) (c : ℕ) where
   short-rest : Keep m n (uses m x c) → own_of n x c ≡ own_of m x c
   short-rest keep =
       let blocks : blocks_of n x c ≡ blocks_of m x c =
-          map_range_same (nth_block n x) (nth_block m x) 0 c (λ j l h. nth-moves m n x j (λ past. keep x.single (uses-single m x c (omega arith)))) in
+      map_range_same (nth_block n x) (nth_block m x) 0 c (λ j l h. nth-moves m n x j (λ past. keep x.single (uses-single m x c (omega arith)))) in
       let contents : map n (blocks_of m x c) ≡ map m (blocks_of m x c) =
-          contents-rest m n (blocks_of m x c) (λ a h. keep a (has-right (indirect_of x c) (blocks_of m x c) a h)) in
+      contents-rest m n (blocks_of m x c) (λ a h. keep a (has-right (indirect_of x c) (blocks_of m x c) a h)) in
       ap (λ (xs : List ℕ). record { inode = x; uses = indirect_of x c ++ xs; contents = map n xs }) blocks
       ∙ ap (λ (xs : List (List ℕ)). record { inode = x; uses = uses m x c; contents = xs }) contents
 
@@ -71,12 +71,12 @@ module _ (m n : Map) (x : Inode) (c : ℕ) where
         let u = mod_below (c - longest + 256 - 1) 256 (omega arith) in
         let p : ℕ → ℕ = (λ i. word_at (m x.double) (4 * i)) in
         in-doubles t (p ((j - longest) / 256)) (has-tail x.double (p ((j - longest) / 256)) (pointers m)
-          (has-range p 0 (rounded_up (c - longest) 256) ((j - longest) / 256) (omega arith) (omega (arith, q, r, s, u))))
+        (has-range p 0 (rounded_up (c - longest) 256) ((j - longest) / 256) (omega arith) (omega (arith, q, r, s, u))))
 
     block-rests : (j : ℕ) → j < c → nth_long n x j ≡ nth_long m x j
     block-rests j h =
         elim (nat_lt j longest) as (λ b. nat_lt j longest ≡ b → (if b then nth_block n x j else word_at (n (word_at (n x.double) (4 * ((j - longest) / 256)))) (4 * ((j - longest) % 256)))
-          ≡ (if b then nth_block m x j else word_at (m (word_at (m x.double) (4 * ((j - longest) / 256)))) (4 * ((j - longest) % 256)))) [
+        ≡ (if b then nth_block m x j else word_at (m (word_at (m x.double) (4 * ((j - longest) / 256)))) (4 * ((j - longest) % 256)))) [
           | true ↦ λ t. nth-moves m n x j (λ past. in-indirects x.single (has-left (indirect_of x c) (doubles m (nat_lt longest c)) x.single (single-used (omega arith))))
           | false ↦ λ t.
               let past : longest ≤ j = grind (arith, nat_tests) in
@@ -100,7 +100,7 @@ module _ (m n : Map) (x : Inode) (c : ℕ) where
         each a zero e = refl
         each a (suc k) e =
             let here : n (nth_long n x a) ≡ m (nth_long m x a) =
-                ap n (block-rests a (omega arith)) ∙ keep (nth_long m x a) (has-right (indirects_long m x c) (long_blocks m) (nth_long m x a) (has-range (nth_long m x) 0 c a (omega arith) (omega arith))) in
+            ap n (block-rests a (omega arith)) ∙ keep (nth_long m x a) (has-right (indirects_long m x c) (long_blocks m) (nth_long m x a) (has-range (nth_long m x) 0 c a (omega arith) (omega arith))) in
             λ i. here i ∷ each (a + 1) k (omega arith) i
 
         contents : map (λ j. n (nth_long n x j)) (range_with_len 0 c) ≡ map (λ j. m (nth_long m x j)) (range_with_len 0 c)

@@ -1,12 +1,11 @@
 -- A directory that gains a row.
-use Rattle.std.proofs.Common.{◌≡◌, ℕ, suc, ◌+◌, ◌-◌, ◌*◌, ◌<◌, ◌≤◌, ◌≢◌, Bool, true, false, cond, T, List, [], ◌∷◌, ◌++◌, length, map, Some, None, Option, sym, refl, ap, ◌∙◌, subst, arith}
-use Rattle.std.specs.Prelude.{is_some, not, filter, All, unwrap_or}
+use Rattle.std.proofs.Common.{◌≡◌, ℕ, ◌+◌, ◌*◌, ◌<◌, ◌≤◌, ◌≢◌, Bool, true, false, cond, T, List, [], ◌∷◌, ◌++◌, length, map, Some, None, Option, sym, refl, ap, ◌∙◌, subst, arith}
+use Rattle.std.specs.Prelude.{is_some, filter, All, unwrap_or}
 use Rattle.std.specs.List.{IsDistinct}
 use Rattle.std.specs.Ordering.{eq_by_cmp, is_eq}
 use Rattle.std.specs.Cmp.{eq_by_cmp_equiv}
 use Rattle.std.specs.Cmp.Lexicographic.{nat_list_cmp_total}
 use Rattle.std.specs.FinMap.{find, put, is_sorted}
-use Rattle.std.specs.declared.cmp.Ordering.{Ordering}
 use Rattle.std.specs.declared.cmp.Ordering.TheVariants.{Less, Equal, Greater}
 use Rattle.std.specs.FinMap.Entries.{by_order, find-put, find-append, is_sorted-put, is_some-find}
 use Rattle.std.proofs.lemmas.Cmp.{tied_itself}
@@ -16,11 +15,11 @@ use Rattle.ice_base.specs.Lots.{LotView}
 use Rattle.ice_map.specs.Maps.{times}
 use Rattle.ice_file.specs.Own.{Own}
 use Rattle.ice_dir.specs.Rows.{Row}
-use Rattle.tree_spec.specs.Trees.{Tree, File, Dir, Entries, Nil, Entry, rows, from_rows, by_bytes, walk, Found, at, with_entry}
+use Rattle.tree_spec.specs.Trees.{Tree, Dir, Entries, Nil, Entry, rows, from_rows, by_bytes, walk, Found, at, with_entry}
 use Rattle.tree_spec.specs.Costs.{Form}
 use Rattle.tree_spec.proofs.Trees.{rows-from_rows, from_rows-rows, same_name}
 use Rattle.tree_spec.proofs.Sums.{length-with_new}
-use Rattle.ice_reads.specs.Tables.{Table, rows_in, IsInode, IsFileInode, IsDirInode, IsNameOf, inode_named}
+use Rattle.ice_reads.specs.Tables.{Table, rows_in, IsInode, IsDirInode, IsNameOf, inode_named}
 use Rattle.ice_reads.specs.Reads.{Reads, ReadsEach, tree_uses, entries_use, used_inodes, inode_on}
 use Rattle.ice_reads.proofs.Frames.{SameAt, inodes_in, ReadsEach-frame, uses_in-frame, times-here, times-there}
 use Rattle.ice_reads.proofs.Focus.{SameOutside, Reads-at, Reads-part, uses-part, uses-at}
@@ -112,13 +111,13 @@ module _ (f : Form) (lot : LotView) (x y : Own) (i h : ℕ) (c : List ℕ) (j : 
     within = a.within;
     fit = subst (λ rs. All (λ (e : Row). IsNameOf f e.0) rs) (sym a.added) (All-append (λ (e : Row). IsNameOf f e.0) (rows_in f x) ((c, j) ∷ []) d.fit (All-cons (λ (e : Row). IsNameOf f e.0) (c, j) [] name (All-nil (λ (e : Row). IsNameOf f e.0))));
     differ = subst (λ rs. IsDistinct (eq_by_cmp by_bytes) (map (λ e. e.0) rs)) (sym a.added)
-      (subst (IsDistinct (eq_by_cmp by_bytes)) (sym (map_names (rows_in f x)))
+        (subst (IsDistinct (eq_by_cmp by_bytes)) (sym (map_names (rows_in f x)))
         (IsDistinct-push (eq_by_cmp_equiv nat_list_cmp_total) (map (λ e. e.0) (rows_in f x)) c d.differ (sym (is_some-find by_bytes c (rows_in f x)) ∙ ap is_some (no_row d none))));
     sorted = subst (λ rs. T (is_sorted by_bytes rs)) (sym (rows-from_rows (put by_bytes c v (rows es)))) (is_sorted-put by_bytes nat_list_cmp_total c v (rows es) d.sorted);
     maps = λ q. ap (λ rs. is_some (find by_bytes q rs)) (rows-from_rows (put by_bytes c v (rows es)))
-      ∙ ap is_some (find-put by_bytes nat_list_cmp_total q c v (rows es))
-      ∙ alike_some (eq_by_cmp by_bytes q c) (find by_bytes q (rows es)) (find by_bytes q (rows_in f x)) (d.maps q)
-      ∙ ap is_some (sym (find_added d none a q));
+        ∙ ap is_some (find-put by_bytes nat_list_cmp_total q c v (rows es))
+        ∙ alike_some (eq_by_cmp by_bytes q c) (find by_bytes q (rows es)) (find by_bytes q (rows_in f x)) (d.maps q)
+        ∙ ap is_some (sym (find_added d none a q));
     count = length-with_new c v es none ∙ ap (λ k. k + 1) d.count ∙ sym a.more;
   }
 
@@ -138,24 +137,30 @@ module _ (f : Form) (lot : LotView) (o p : Table) (i h : ℕ) (c : List ℕ) (j 
 
   -- a directory that gains a row for a tree stands for itself with that entry
   pub Reads-gains : Reads f lot o i h (Dir es) → find by_bytes c (rows es) ≡ None → IsNameOf f c → AddsRow f lot (o i) (p i) i h c j → SameAt o p (inodes_in f o (rows_in f (o i)) es) → Reads f lot p j (h + 1) v
-    → Reads f lot p i h (with_entry c v (Dir es))
+      → Reads f lot p i h (with_entry c v (Dir es))
   Reads-gains r none name a same new =
       let d : IsDirInode f lot (o i) es = r.1 in
-      let here : inode_named c (rows_in f (p i)) ≡ j = new_row d none a in
-      (a.common r.0, IsDirInode-put f lot (o i) (p i) i h c j v es name none a d,
+      let here : inode_named c (rows_in f (p i)) ≡ j = new_row d none a in (
+        a.common r.0,
+        IsDirInode-put f lot (o i) (p i) i h c j v es name none a d,
         ReadsEach-put f lot p (rows_in f (p i)) (h + 1) c v es
-          (ReadsEach-rows (rows_in f (o i)) (rows_in f (p i)) f lot p (h + 1) es (old_rows d none a) (ReadsEach-frame f lot o p (rows_in f (o i)) (h + 1) es same r.2))
-          (subst (λ x. Reads f lot p x (h + 1) v) (sym here) new))
+            (ReadsEach-rows (rows_in f (o i)) (rows_in f (p i)) f lot p (h + 1) es (old_rows d none a) (ReadsEach-frame f lot o p (rows_in f (o i)) (h + 1) es same r.2))
+            (subst (λ x. Reads f lot p x (h + 1) v) (sym here) new),
+      )
 
   pub uses-gains : (mine yours : ℕ → List ℕ) → ((k : ℕ) → p k ≡ o k → yours k ≡ mine k) → (measure : List ℕ → ℕ) → ((xs ys : List ℕ) → measure (xs ++ ys) ≡ measure xs + measure ys)
-    → IsDirInode f lot (o i) es → find by_bytes c (rows es) ≡ None → AddsRow f lot (o i) (p i) i h c j → SameAt o p (inodes_in f o (rows_in f (o i)) es)
-    → measure (tree_uses f p yours i (with_entry c v (Dir es))) + measure (mine i) ≡ measure (tree_uses f o mine i (Dir es)) + (measure (yours i) + measure (tree_uses f p yours j v))
+      → IsDirInode f lot (o i) es → find by_bytes c (rows es) ≡ None → AddsRow f lot (o i) (p i) i h c j → SameAt o p (inodes_in f o (rows_in f (o i)) es)
+      → measure (tree_uses f p yours i (with_entry c v (Dir es))) + measure (mine i) ≡ measure (tree_uses f o mine i (Dir es)) + (measure (yours i) + measure (tree_uses f p yours j v))
   uses-gains mine yours like measure adds d none a same =
-      omega (arith,
-        adds (yours i) (entries_use f p yours (rows_in f (p i)) (from_rows (put by_bytes c v (rows es)))), adds (mine i) (entries_use f o mine (rows_in f (o i)) es),
-        uses_in-put f p yours (rows_in f (p i)) measure adds c v es none, ap (λ x. measure (tree_uses f p yours x v)) (new_row d none a),
+      omega (
+        arith,
+        adds (yours i) (entries_use f p yours (rows_in f (p i)) (from_rows (put by_bytes c v (rows es)))),
+        adds (mine i) (entries_use f o mine (rows_in f (o i)) es),
+        uses_in-put f p yours (rows_in f (p i)) measure adds c v es none,
+        ap (λ x. measure (tree_uses f p yours x v)) (new_row d none a),
         ap measure (uses_in-rows (rows_in f (o i)) (rows_in f (p i)) f p yours es (old_rows d none a)),
-        ap measure (uses_in-frame f o p mine yours like (rows_in f (o i)) es same))
+        ap measure (uses_in-frame f o p mine yours like (rows_in f (o i)) es same),
+      )
 
 -- no inode is used twice
 abbrev pub IsOnce : List ℕ → Type 0
@@ -176,26 +181,30 @@ module _ (f : Form) (o p : Table) (q : List (List ℕ)) (i : ℕ) (t : Tree) (es
   outside_dir = record { at = λ k h. same.at k (not_here k (inodes_in f o (rows_in f (o here)) es) (omega (arith, once k))) (omega arith) }
 
   pub in_dir : SameAt o p (inodes_in f o (rows_in f (o here)) es)
-  in_dir = record { at = λ k h. same.at k
-      (λ e. absurd (omega (arith, once here, uses-part f o (λ i. i ∷ []) here q i t (Dir es) found, times-here here (inodes_in f o (rows_in f (o here)) es), ap (λ x. times (inodes_in f o (rows_in f (o here)) es) x) e)))
-      (omega (arith, uses-part f o (λ i. i ∷ []) k q i t (Dir es) found, times-there k here (inodes_in f o (rows_in f (o here)) es))) }
+  in_dir = record {
+    at = λ k h. same.at k
+        (λ e. absurd (omega (arith, once here, uses-part f o (λ i. i ∷ []) here q i t (Dir es) found, times-here here (inodes_in f o (rows_in f (o here)) es), ap (λ x. times (inodes_in f o (rows_in f (o here)) es) x) e)))
+        (omega (arith, uses-part f o (λ i. i ∷ []) k q i t (Dir es) found, times-there k here (inodes_in f o (rows_in f (o here)) es)));
+  }
 
 -- ---- the step of a tree that gains an entry: `mkdir`, `make`, and the second half of `rename`
 module _ (f : Form) (lot : LotView) (o p : Table) (q : List (List ℕ)) (c : List ℕ) (j : ℕ) (v t : Tree) (es : Entries) where
   pub Reads-with_entry : Reads f lot o 0 0 t → walk q t ≡ Found (Dir es) → find by_bytes c (rows es) ≡ None → IsNameOf f c → IsOnce (used_inodes f o 0 t)
-    → SameBut o p (inode_on f o 0 q) (used_inodes f o 0 t) → AddsRow f lot (o (inode_on f o 0 q)) (p (inode_on f o 0 q)) (inode_on f o 0 q) (length q) c j → Reads f lot p j (length q + 1) v
-    → Reads f lot p 0 0 (at q (with_entry c v) t)
+      → SameBut o p (inode_on f o 0 q) (used_inodes f o 0 t) → AddsRow f lot (o (inode_on f o 0 q)) (p (inode_on f o 0 q)) (inode_on f o 0 q) (length q) c j → Reads f lot p j (length q + 1) v
+      → Reads f lot p 0 0 (at q (with_entry c v) t)
   Reads-with_entry r found none name once same a new =
       let level : 0 + length q ≡ length q = omega arith in
       Reads-at f lot o p q 0 0 (with_entry c v) t (Dir es) found r
-        (subst (λ x. Reads f lot p (inode_on f o 0 q) x (with_entry c v (Dir es))) (sym level) (Reads-gains f lot o p (inode_on f o 0 q) (length q) c j v es (subst (λ x. Reads f lot o (inode_on f o 0 q) x (Dir es)) level (Reads-part f lot o q 0 0 t (Dir es) found r)) none name a (in_dir f o p q 0 t es found once same) new))
-        (outside_dir f o p q 0 t es found once same)
+      (subst (λ x. Reads f lot p (inode_on f o 0 q) x (with_entry c v (Dir es))) (sym level) (Reads-gains f lot o p (inode_on f o 0 q) (length q) c j v es (subst (λ x. Reads f lot o (inode_on f o 0 q) x (Dir es)) level (Reads-part f lot o q 0 0 t (Dir es) found r)) none name a (in_dir f o p q 0 t es found once same) new))
+      (outside_dir f o p q 0 t es found once same)
 
   pub uses-with_entry : (mine yours : ℕ → List ℕ) → ((k : ℕ) → p k ≡ o k → yours k ≡ mine k) → (measure : List ℕ → ℕ) → ((xs ys : List ℕ) → measure (xs ++ ys) ≡ measure xs + measure ys)
-    → Reads f lot o 0 0 t → walk q t ≡ Found (Dir es) → find by_bytes c (rows es) ≡ None → IsOnce (used_inodes f o 0 t)
-    → SameBut o p (inode_on f o 0 q) (used_inodes f o 0 t) → AddsRow f lot (o (inode_on f o 0 q)) (p (inode_on f o 0 q)) (inode_on f o 0 q) (length q) c j
-    → measure (tree_uses f p yours 0 (at q (with_entry c v) t)) + measure (mine (inode_on f o 0 q)) ≡ measure (tree_uses f o mine 0 t) + (measure (yours (inode_on f o 0 q)) + measure (tree_uses f p yours j v))
+      → Reads f lot o 0 0 t → walk q t ≡ Found (Dir es) → find by_bytes c (rows es) ≡ None → IsOnce (used_inodes f o 0 t)
+      → SameBut o p (inode_on f o 0 q) (used_inodes f o 0 t) → AddsRow f lot (o (inode_on f o 0 q)) (p (inode_on f o 0 q)) (inode_on f o 0 q) (length q) c j
+      → measure (tree_uses f p yours 0 (at q (with_entry c v) t)) + measure (mine (inode_on f o 0 q)) ≡ measure (tree_uses f o mine 0 t) + (measure (yours (inode_on f o 0 q)) + measure (tree_uses f p yours j v))
   uses-with_entry mine yours like measure adds r found none once same a =
-      omega (arith,
+      omega (
+        arith,
         uses-at f o p mine yours like measure adds q 0 (with_entry c v) t (Dir es) found (outside_dir f o p q 0 t es found once same),
-        uses-gains f lot o p (inode_on f o 0 q) (length q) c j v es mine yours like measure adds (Reads-part f lot o q 0 0 t (Dir es) found r).1 none a (in_dir f o p q 0 t es found once same))
+        uses-gains f lot o p (inode_on f o 0 q) (length q) c j v es mine yours like measure adds (Reads-part f lot o q 0 0 t (Dir es) found r).1 none a (in_dir f o p q 0 t es found once same),
+      )

@@ -1,5 +1,5 @@
 -- An inode stands for one tree.
-use Rattle.std.proofs.Common.{◌≡◌, ℕ, ◌+◌, ◌<◌, ◌≤◌, Bool, true, false, cond, T, List, [], ◌∷◌, Some, None, Option, sym, refl, ap, ◌∙◌, subst, arith}
+use Rattle.std.proofs.Common.{◌≡◌, ℕ, ◌+◌, true, false, cond, T, List, Some, None, Option, sym, refl, ap, ◌∙◌, subst, arith}
 use Rattle.std.specs.Prelude.{is_some}
 use Rattle.std.specs.Ordering.{eq_by_cmp}
 use Rattle.std.specs.FinMap.{find}
@@ -29,8 +29,8 @@ module _ (f : Form) (lot : LotView) (o : Table) where
     Reads-unique (Dir es) i h k (File more) r s = absurd (one_not_two _ s.1.is_file r.1.is_dir)
     Reads-unique (Dir es) i h k (Dir fs) r s =
         ap (λ x. Dir x) (same_look_ups es fs r.1.sorted s.1.sorted (λ q.
-          same_option (find by_bytes q (rows es)) (find by_bytes q (rows fs)) (r.1.maps q ∙ sym (s.1.maps q))
-            (λ v w a b. ReadsEach-unique es (rows_in f (o i)) (h + 1) (k + 1) q v w r.2 a (entry_reads f lot o (rows_in f (o i)) (k + 1) q fs w b s.2))))
+        same_option (find by_bytes q (rows es)) (find by_bytes q (rows fs)) (r.1.maps q ∙ sym (s.1.maps q))
+        (λ v w a b. ReadsEach-unique es (rows_in f (o i)) (h + 1) (k + 1) q v w r.2 a (entry_reads f lot o (rows_in f (o i)) (k + 1) q fs w b s.2))))
 
     ReadsEach-unique : (es : Entries) (rs : List Row) (h k : ℕ) (q : List ℕ) (v w : Tree) → ReadsEach f lot o rs h es → find by_bytes q (rows es) ≡ Some v → Reads f lot o (inode_named q rs) k w → v ≡ w
     ReadsEach-unique Nil rs h k q v w r is s = absurd (None≢Some v is)

@@ -1,16 +1,16 @@
 -- Two walks come to different inodes: what the inodes at their ends use adds up within what the tree uses.
-use Rattle.std.proofs.Common.{◌≡◌, ℕ, ◌+◌, ◌<◌, ◌≤◌, ◌≢◌, Bool, true, false, cond, List, [], ◌∷◌, ◌++◌, Some, None, Option, sym, refl, ap, ◌∙◌, subst, arith}
+use Rattle.std.proofs.Common.{◌≡◌, ℕ, ◌+◌, ◌≤◌, ◌≢◌, true, false, cond, List, [], ◌∷◌, ◌++◌, Some, None, sym, refl, ap, ◌∙◌, subst, arith}
 use Rattle.std.specs.Ordering.{eq_by_cmp}
 use Rattle.std.specs.FinMap.{find}
 use Rattle.ice_map.specs.Maps.{times}
 use Rattle.ice_map.proofs.ListLaws.{times-append}
 use Rattle.ice_dir.specs.Rows.{Row}
-use Rattle.tree_spec.specs.Trees.{Tree, File, Dir, Entries, Nil, Entry, rows, by_bytes, walk, and_on, found_or_not, Found, NotFound, NotDir}
+use Rattle.tree_spec.specs.Trees.{Tree, File, Dir, Entries, Nil, Entry, rows, by_bytes, walk, and_on, found_or_not, Found}
 use Rattle.tree_spec.specs.Costs.{Form}
 use Rattle.tree_spec.proofs.Trees.{same_name, is_same_name-sym}
 use Rattle.ice_reads.specs.Tables.{Table, rows_in, inode_named}
-use Rattle.ice_reads.specs.Reads.{tree_uses, entries_use, used_inodes, inode_on}
-use Rattle.ice_reads.proofs.Focus.{uses-entry, uses-part, Found≢NotFound, Found≢NotDir, same_Found, same_Some, None≢Some}
+use Rattle.ice_reads.specs.Reads.{tree_uses, entries_use, inode_on}
+use Rattle.ice_reads.proofs.Focus.{uses-entry, uses-part, Found≢NotFound, Found≢NotDir, same_Some, None≢Some}
 
 module _ (f : Form) (o : Table) (mine : ℕ → List ℕ) (k : ℕ) where
   uses-own : (i : ℕ) (t : Tree) → times (mine i) k ≤ times (tree_uses f o mine i t) k
@@ -23,8 +23,13 @@ module _ (f : Form) (o : Table) (mine : ℕ → List ℕ) (k : ℕ) where
   -- the first entry is c's
   with_first : (rs : List Row) (c x d : List ℕ) (t u v : Tree) (es : Entries) → c ≡ x → t ≡ u → find by_bytes d (rows es) ≡ Some v → Sum rs c d u v (Entry x t es)
   with_first rs c x d t u v es is same found =
-      omega (arith, times-append (tree_uses f o mine (inode_named x rs) t) (entries_use f o mine rs es) k, uses-entry f o mine k rs d es v found,
-        ap (λ y. times (tree_uses f o mine (inode_named y rs) u) k) is, ap (λ y. times (tree_uses f o mine (inode_named x rs) y) k) same)
+      omega (
+        arith,
+        times-append (tree_uses f o mine (inode_named x rs) t) (entries_use f o mine rs es) k,
+        uses-entry f o mine k rs d es v found,
+        ap (λ y. times (tree_uses f o mine (inode_named y rs) u) k) is,
+        ap (λ y. times (tree_uses f o mine (inode_named x rs) y) k) same,
+      )
 
   two_entries : (rs : List Row) (c d : List ℕ) (u v : Tree) (es : Entries) → eq_by_cmp by_bytes c d ≡ false → eq_by_cmp by_bytes d c ≡ false → find by_bytes c (rows es) ≡ Some u → find by_bytes d (rows es) ≡ Some v → Sum rs c d u v es
   two_entries rs c d u v Nil cd dc is js = absurd (None≢Some u is)
@@ -76,9 +81,13 @@ module _ (f : Form) (o : Table) (mine : ℕ → List ℕ) (k : ℕ) where
                         let below : Ends p q (inode_named c (rows_in f (o i))) v = two_walks p q (inode_named c (rows_in f (o i))) v s u (λ z. ne (λ j. at j ∷ z j)) is (subst (λ x. walk q x ≡ Found u) v_is js) in
                         omega (arith, below, times-append (mine i) (entries_use f o mine (rows_in f (o i)) es) k, uses-entry f o mine k (rows_in f (o i)) c es v e, ap (λ x. times (mine (inode_on f o (inode_named x (rows_in f (o i))) q)) k) at)
                     | false ↦ λ same.
-                        omega (arith, times-append (mine i) (entries_use f o mine (rows_in f (o i)) es) k,
+                        omega (
+                          arith,
+                          times-append (mine i) (entries_use f o mine (rows_in f (o i)) es) k,
                           two_entries (rows_in f (o i)) c d v w es same (is_same_name-sym d c ∙ same) e a,
-                          ends (inode_named c (rows_in f (o i))) v s p is, ends (inode_named d (rows_in f (o i))) w u q js)
+                          ends (inode_named c (rows_in f (o i))) v s p is,
+                          ends (inode_named d (rows_in f (o i))) w u q js,
+                        )
                   ] refl
             ] refl h
       ] refl g

@@ -1,5 +1,5 @@
 -- The lot of a new cube.
-use Rattle.std.specs.Prelude.{◌≡◌, ◌<◌, ℕ, ◌+◌, ◌*◌, ◌==◌, List, length}
+use Rattle.std.specs.Prelude.{◌≡◌, ◌<◌, ℕ, ◌+◌, ◌*◌, ◌==◌, length}
 use Rattle.ice_base.specs.Lots.{LotView, sub_address}
 use Rattle.ice_layout.specs.Subs.{IsSub, fresh_place}
 use Rattle.ice_reads.specs.Tables.{Map}

@@ -1,7 +1,6 @@
 -- That an inode stands for a tree, and what the tree uses.
 use Rattle.std.specs.Prelude.{ℕ, ◌+◌, ⊤, List, [], ◌∷◌, ◌++◌}
 use Rattle.ice_base.specs.Lots.{LotView}
-use Rattle.ice_file.specs.Own.{Own}
 use Rattle.ice_dir.specs.Rows.{Row}
 use Rattle.tree_spec.specs.Trees.{Tree, File, Dir, Entries, Nil, Entry}
 use Rattle.tree_spec.specs.Costs.{Form}

@@ -1,5 +1,5 @@
 -- What each inode of a lot says by itself, in a cube of either form.
-use Rattle.std.specs.Prelude.{◌≡◌, ◌≤◌, ◌<◌, ℕ, ◌+◌, ◌-◌, ◌*◌, ◌/◌, ◌%◌, true, List, [], ◌∷◌, ◌++◌, map, length, slice_index, nat_lt, nat_eq, is_some, unwrap_or, All, T, if◌then◌else◌}
+use Rattle.std.specs.Prelude.{◌≡◌, ◌≤◌, ◌<◌, ℕ, ◌-◌, ◌*◌, ◌/◌, ◌%◌, true, List, [], ◌∷◌, ◌++◌, map, length, slice_index, nat_lt, nat_eq, is_some, unwrap_or, All, T, if◌then◌else◌}
 use Rattle.std.specs.List.{range_with_len, IsDistinct}
 use Rattle.std.specs.Ordering.{eq_by_cmp}
 use Rattle.std.specs.FinMap.{find, is_sorted}

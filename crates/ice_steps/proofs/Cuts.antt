@@ -1,4 +1,4 @@
--- A loose file that was cut to nothing.
+-- A loose file that was cut to nothing, and a loose directory of no entries.
 use Rattle.std.proofs.Common.{◌≡◌, ◌≢◌, ◌≤◌, ◌<◌, ◌+◌, ◌*◌, ℕ, true, false, List, [], ◌∷◌, ◌++◌, length, ◌∙◌, sym, refl, ap, subst, arith}
 use Rattle.ice_base.specs.Lots.{LotView}
 use Rattle.ice_map.specs.Inodes.{inode_of}
@@ -7,7 +7,7 @@ use Rattle.ice_map.proofs.ListLaws.{times-append, has-none}
 use Rattle.ice_file.specs.Own.{own, map_length, blocks_for}
 use Rattle.ice_file.specs.Files.{FileSet}
 use Rattle.ice_file.proofs.ByteLaws.{file_length}
-use Rattle.tree_spec.specs.Trees.{Tree, File}
+use Rattle.tree_spec.specs.Trees.{Tree, File, Dir, Nil}
 use Rattle.tree_spec.specs.Costs.{form_one}
 use Rattle.ice_reads.specs.Tables.{Map, own_in}
 use Rattle.ice_reads.specs.Reads.{Reads, used_blocks, used_inodes, tree_uses}
@@ -15,7 +15,7 @@ use Rattle.ice_reads.proofs.Frames.{SameAt, Reads-frame, uses-frame}
 use Rattle.ice_steps.specs.Beside.{Beside}
 use Rattle.ice_steps.proofs.Counts.{times-same}
 use Rattle.ice_steps.proofs.Files.{set-size}
-use Rattle.ice_steps.proofs.Fresh.{fresh-uses}
+use Rattle.ice_steps.proofs.Fresh.{fresh-uses, no-map}
 use Rattle.ice_steps.proofs.Others.{Loose, loose-tree, all, all-apart, beside_but}
 use Rattle.ice_steps.proofs.Sets.{Adds, beside-set}
 
@@ -55,3 +55,10 @@ module _ (mode : ℕ) (lot : LotView) (m m' : Map) (t : Tree) (k j h : ℕ) (byt
         omega arith)
       (λ a h. let n = has-none a in absurd cc)
       b.others_small
+
+-- an empty directory that stands loose uses no block
+pub empty_uses : (lot : LotView) (m : Map) (j h : ℕ) → Reads form_one lot (own 64 m) j h (Dir Nil) → used_blocks form_one (own 64 m) j (Dir Nil) ≡ []
+empty_uses lot m j h r = ap (λ us. us ++ []) (fresh-uses m j (no-map (inode_of m j) (sym r.1.count)))
+
+pub loose_empty : (mode : ℕ) (lot : LotView) (m : Map) (t : Tree) (k j h : ℕ) (is : List ℕ) → Beside form_one mode lot m t k (used_blocks form_one (own 64 m) j (Dir Nil)) is → Reads form_one lot (own 64 m) j h (Dir Nil) → Beside form_one mode lot m t k [] is
+loose_empty mode lot m t k j h is b r = subst (λ us. Beside form_one mode lot m t k us is) (empty_uses lot m j h r) b

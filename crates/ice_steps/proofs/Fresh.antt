@@ -56,19 +56,20 @@ fresh_value kind x e = record {
   double = ap (λ (i : Inode). i.double) e;
 }
 
-pub fresh-map : (kind : ℕ) (x : Inode) → IsFresh kind x → map_length 64 x ≡ 0
-fresh-map kind x f = ap blocks_for (none (x.kind == 2) x.size f.none)
+pub no-map : (x : Inode) → x.size ≡ 0 → map_length 64 x ≡ 0
+no-map x e = ap blocks_for (none (x.kind == 2) x.size e)
   where
     none : (b : Bool) (n : ℕ) → n ≡ 0 → cond b (64 * n) n ≡ 0
     none true n e = omega arith
     none false n e = e
 
+-- an inode of no bytes or entries uses no block
 pub fresh-uses : (m : Map) (j : ℕ) → map_length 64 (inode_of m j) ≡ 0 → (own 64 m j).uses ≡ []
 fresh-uses m j e = ap (uses m (inode_of m j)) e
 
 fresh-inode : (lot : LotView) (m : Map) (j h kind : ℕ) → h ≤ deepest → j < 64 * length lot.groups → IsFresh kind (inode_of m j) → IsInode form_one lot (own 64 m j) j h
 fresh-inode lot m j h kind deep small f =
-    let z = fresh-map kind (inode_of m j) f in
+    let z = no-map (inode_of m j) f.none in
     record {
       depth = deep;
       number = small;
@@ -110,10 +111,10 @@ module _ (lot : LotView) (m : Map) (j h : ℕ) (deep : h ≤ deepest) (small : j
 
 -- it uses no block, and itself alone
 pub fresh_dir_blocks : (m : Map) (j : ℕ) → IsFresh 2 (inode_of m j) → used_blocks form_one (own 64 m) j (Dir Nil) ≡ []
-fresh_dir_blocks m j f = ap (λ us. us ++ []) (fresh-uses m j (fresh-map 2 (inode_of m j) f))
+fresh_dir_blocks m j f = ap (λ us. us ++ []) (fresh-uses m j (no-map (inode_of m j) f.none))
 
 pub fresh_file_blocks : (m : Map) (j : ℕ) → IsFresh 1 (inode_of m j) → used_blocks form_one (own 64 m) j (File []) ≡ []
-fresh_file_blocks m j f = fresh-uses m j (fresh-map 1 (inode_of m j) f)
+fresh_file_blocks m j f = fresh-uses m j (no-map (inode_of m j) f.none)
 
 pub fresh_dir_inodes : (m : Map) (j : ℕ) → used_inodes form_one (own 64 m) j (Dir Nil) ≡ j ∷ []
 fresh_dir_inodes m j = refl
@@ -123,7 +124,7 @@ fresh_file_inodes m j = refl
 
 pub fresh_made : (lot : LotView) (m : Map) (j kind : ℕ) → IsFresh kind (inode_of m j) → WellMade lot 64 m j
 fresh_made lot m j kind f =
-    let z = fresh-uses m j (fresh-map kind (inode_of m j) f) in
+    let z = fresh-uses m j (no-map (inode_of m j) f.none) in
     record {
       holds = λ b u. let n = has-none b in let e : has (own 64 m j).uses b ≡ has [] b = ap (λ us. has us b) z in absurd cc;
       once = λ b. let e : times (own 64 m j).uses b ≡ 0 = ap (λ us. times us b) z in omega arith;

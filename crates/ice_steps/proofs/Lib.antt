@@ -16,3 +16,6 @@ pub mod Losses
 pub mod Fresh
 pub mod Cuts
 pub mod Stays
+pub mod Needs
+pub mod Costs
+pub mod Chains
