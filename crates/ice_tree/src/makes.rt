@@ -1,9 +1,10 @@
 //! New files and directories.
-ghost use Rattle.std.specs.Prelude.{◌≡◌, ◌≤◌, ◌+◌, ℕ, true, false, [], ◌∷◌, Some, OnOk, IfErr, IsErrOf, length, drop};
+ghost use Rattle.std.specs.Prelude.{◌≡◌, ◌≤◌, ◌<◌, ◌+◌, ◌*◌, ℕ, List, true, false, [], ◌∷◌, Some, OnOk, IfOk, IfErr, IsErrOf, MatchResult, length, drop};
 ghost use Rattle.ice_base.specs.Disk.{Rose};
 ghost use Rattle.ice_base.specs.Lots.{is_sited, sub_address};
 ghost use Rattle.ice_base.specs.Views.{Looked, Spent};
-ghost use Rattle.tree_spec.specs.Answers.{answer};
+ghost use Rattle.ice_base.specs.declared.fault.OpFault.TheVariants.{Disk as FaultDisk};
+ghost use Rattle.tree_spec.specs.Answers.{answer, next};
 ghost use Rattle.tree_spec.specs.Costs.{form_of};
 ghost use Rattle.tree_spec.specs.Operations.{Mkdir, Make};
 ghost use Rattle.tree_spec.specs.Replies.{number_of};
@@ -11,11 +12,84 @@ ghost use Rattle.tree_spec.specs.Trees.{Tree};
 ghost use Rattle.tree_spec.specs.Why.{Why};
 ghost use Rattle.tree_spec.specs.declared.reply.Refusal.TheVariants.{Fault};
 ghost use Rattle.ice_reads.specs.Recovers.{MapRecovers};
+ghost use Rattle.ice_tree.specs.Changes.{new_operation, new_inode, Takes};
 ghost use Rattle.ice_tree.specs.Outcomes.{AsModel, meant_plain, ShownBy, IsTreeRefusal};
 ghost use Rattle.ice_tree.specs.Stages.{paths_refusal};
 
-use ice_base::{Disk, Form, Keep, Lot, Pool};
-use tree_spec::{Path, Refusal};
+use crate::counts::count_up;
+use crate::ends::Spot;
+use ice_base::{Disk, Form, Keep, Lot, OpFault, Pool};
+use ice_dir::add;
+use ice_map::{Inode, put_inode};
+use tree_spec::{Name, Path, Refusal};
+
+/// The inode of an empty directory, or of an empty file.
+fn new_node(dir: bool) -> Inode
+    ensures { result ≡ new_inode dir }
+{
+    Inode {
+        kind: if dir { 2 } else { 1 },
+        size: 0,
+        direct: [0; 12],
+        single: 0,
+        double: 0,
+    }
+}
+
+/// Takes an inode for an empty directory or file, and adds its row to the directory.
+#[tactic(auto, using(ice_base::proofs::SpareLaws::room_laws))]
+fn put_node<D: Disk, K: Keep<D>, P: Pool<D, K>, F: Form>(
+    keep: &mut K,
+    pool: &mut P,
+    disk: &mut D,
+    lot: &Lot,
+    spot: &Spot,
+    name: &Name,
+    dir: bool,
+) -> Result<(), OpFault>
+    requires sited { is_sited lot.now (D.state disk.old).size ≡ true }
+    requires number { spot.now.number < 64 * length lot.now.groups }
+    requires fits { length name.now ≤ F.NAME }
+    requires room { 11 ≤ K.room keep.old }
+    ensures made { (mode k : ℕ) (t : Tree) (p : List (List ℕ)) → K.shows lot.now keep.old disk.old → Takes (form_of F.VERSION) mode lot.now (K.map keep.old disk.old lot.now) t k p dir spot.now name.now
+        → OnOk result (MapRecovers (form_of F.VERSION) mode lot.now (K.map keep.new disk.new lot.now) (next (new_operation dir p) t) k) }
+    ensures sound { (mode k : ℕ) (t : Tree) (p : List (List ℕ)) → K.shows lot.now keep.old disk.old → Takes (form_of F.VERSION) mode lot.now (K.map keep.old disk.old lot.now) t k p dir spot.now name.now
+        → IfErr result (λ e. e ≡ FaultDisk) }
+    ensures spent { Spent D.Disk K.View lot.now 11 keep.old disk.old keep.new disk.new }
+    ensures failed { IsErrOf result FaultDisk → Rose (D.state disk.old).faults (D.state disk.new).faults }
+{
+    let number = pool.take_inode(keep, disk, lot)?;
+    put_inode::<D, K, P, F>(keep, pool, disk, lot, number, &new_node(dir))?;
+    add::<D, K, P, F>(keep, pool, disk, lot, spot.number, name, number)?;
+    Ok(())
+}
+
+/// The same, as one more accepted operation.
+fn put_new<D: Disk, K: Keep<D>, P: Pool<D, K>, F: Form>(
+    keep: &mut K,
+    pool: &mut P,
+    disk: &mut D,
+    lot: &Lot,
+    spot: &Spot,
+    name: &Name,
+    dir: bool,
+) -> Result<(), OpFault>
+    requires sited { is_sited lot.now (D.state disk.old).size ≡ true }
+    requires number { spot.now.number < 64 * length lot.now.groups }
+    requires fits { length name.now ≤ F.NAME }
+    requires room { 12 ≤ K.room keep.old }
+    ensures made { (mode k : ℕ) (t : Tree) (p : List (List ℕ)) → K.shows lot.now keep.old disk.old → Takes (form_of F.VERSION) mode lot.now (K.map keep.old disk.old lot.now) t k p dir spot.now name.now
+        → OnOk result (MapRecovers (form_of F.VERSION) mode lot.now (K.map keep.new disk.new lot.now) (next (new_operation dir p) t) (k + 1)) }
+    ensures sound { (mode k : ℕ) (t : Tree) (p : List (List ℕ)) → K.shows lot.now keep.old disk.old → Takes (form_of F.VERSION) mode lot.now (K.map keep.old disk.old lot.now) t k p dir spot.now name.now
+        → IfErr result (λ e. e ≡ FaultDisk) }
+    ensures counted { OnOk result (K.held keep.new sub_address ≡ true) }
+    ensures spent { Spent D.Disk K.View lot.now 12 keep.old disk.old keep.new disk.new }
+    ensures failed { IsErrOf result FaultDisk → Rose (D.state disk.old).faults (D.state disk.new).faults }
+{
+    put_node::<D, K, P, F>(keep, pool, disk, lot, spot, name, dir)?;
+    count_up(keep, disk, lot)?;
+    Ok(())
+}
 
 /// Makes an empty directory. `depth` is the number of names of the cube's path. After a fault or damage the keep may hold part of the change.
 pub fn mkdir<D: Disk, K: Keep<D>, P: Pool<D, K>, F: Form>(
