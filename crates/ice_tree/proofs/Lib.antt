@@ -5,3 +5,5 @@ pub mod QuotaLaws
 pub mod StageLaws
 pub mod EndLaws
 pub mod HeightLaws
+pub mod CountLaws
+pub mod GoneLaws

@@ -10,7 +10,9 @@ mod makes;
 mod paths;
 mod place;
 mod quota;
+mod removes;
 
 pub use looks::read;
 pub use makes::mkdir;
 pub use place::Place;
+pub use removes::remove;
