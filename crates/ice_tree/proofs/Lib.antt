@@ -7,3 +7,4 @@ pub mod EndLaws
 pub mod HeightLaws
 pub mod CountLaws
 pub mod GoneLaws
+pub mod RemoveLaws
