@@ -4,3 +4,5 @@ pub mod PlaceLaws
 pub mod QuotaLaws
 pub mod StageLaws
 pub mod EndLaws
+pub mod CountLaws
+pub mod MakeLaws
