@@ -11,5 +11,5 @@ mod place;
 mod quota;
 
 pub use looks::{read, stat};
-pub use makes::mkdir;
+pub use makes::{make, mkdir};
 pub use place::Place;
