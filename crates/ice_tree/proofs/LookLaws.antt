@@ -175,9 +175,9 @@ module _ (f : Form) (one : f ≡ form_one) (lot : LotView) (m : Map) (i h : ℕ)
       → (e ≡ Damaged Pointer → (k : ℕ) × (1024 * k < (inode_of m i).size) × (leads lot m (inode_of m i) k ≡ false)) → e ≡ Disk
   read-fails at below e faults kind pointer =
       reading-fails e faults (λ q. kind q (file-reaches at below))
-      (λ q. let p = pointer q in
-      true_false (leads lot m (inode_of m i) p.0)
-      (places-lead lot m (inode_of m i) (map_length 64 (inode_of m i)) p.0 (places-own f one lot m i h (tree.File bytes) r) (blocks-of-file (inode_of m i) p.0 (file-reaches at below).kind p.1)) p.2)
+        (λ q. let p = pointer q in
+          true_false (leads lot m (inode_of m i) p.0)
+            (places-lead lot m (inode_of m i) (map_length 64 (inode_of m i)) p.0 (places-own f one lot m i h (tree.File bytes) r) (blocks-of-file (inode_of m i) p.0 (file-reaches at below).kind p.1)) p.2)
 
 -- ---- reads
 
