@@ -12,7 +12,7 @@ mod place;
 mod quota;
 mod removes;
 
-pub use looks::read;
-pub use makes::mkdir;
+pub use looks::{read, stat};
+pub use makes::{make, mkdir};
 pub use place::Place;
 pub use removes::remove;
