@@ -12,3 +12,4 @@ pub mod LookLaws
 pub mod HeightLaws
 pub mod GoneLaws
 pub mod RemoveLaws
+pub mod ListLaws

@@ -5,6 +5,7 @@ mod counts;
 mod ends;
 mod fault;
 mod heights;
+mod lists;
 mod looks;
 mod makes;
 mod paths;
@@ -12,6 +13,7 @@ mod place;
 mod quota;
 mod removes;
 
+pub use lists::list;
 pub use looks::{read, stat};
 pub use makes::{make, mkdir};
 pub use place::Place;
