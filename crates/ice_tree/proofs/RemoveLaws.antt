@@ -1,5 +1,5 @@
 -- What a removal does to the blocks of a lot.
-use Rattle.std.proofs.Common.{◌≡◌, ◌≢◌, ◌≤◌, ◌<◌, ◌+◌, ◌-◌, ◌*◌, ◌^◌, ℕ, Bool, true, false, cond, T, List, [], ◌∷◌, ◌++◌, length, take, drop, Option, None, Some, Result, Ok, Err, MatchResult, refl, sym, ap, ◌∙◌, subst, arith}
+use Rattle.std.proofs.Common.{◌≡◌, ◌≢◌, ◌≤◌, ◌<◌, ◌+◌, ◌-◌, ◌*◌, ◌^◌, ℕ, Bool, true, false, cond, T, List, [], ◌∷◌, ◌++◌, length, take, drop, Option, None, Some, Result, Ok, Err, MatchResult, if◌then◌else◌, refl, sym, ap, ◌∙◌, subst, arith}
 use Rattle.std.specs.Prelude.{is_some, unwrap_or, IsSome, IsNone, IfErr}
 use Rattle.std.specs.FinMap.{find}
 use Rattle.ice_base.specs.Inodes.{inode_address}
@@ -21,7 +21,9 @@ use Rattle.ice_dir.specs.Rows.{Row, rows_of, look_up, without, IsDirectory}
 use Rattle.tree_spec.specs.Trees.{Tree, File, Dir, Entries, Nil, Entry, rows, by_bytes, Found, walk, parent, last_name, at, without_entry}
 use Rattle.tree_spec.specs.Costs.{Form, form_one}
 use Rattle.tree_spec.specs.Operations.{Remove}
-use Rattle.tree_spec.specs.Answers.{next, is_full_found, bytes_of, bytes_found, is_root}
+use Rattle.tree_spec.specs.Answers.{next, refusal, is_full_found, bytes_of, bytes_found, is_root}
+use Rattle.tree_spec.specs.Why.{Why}
+use Rattle.tree_spec.specs.Why as why
 use Rattle.tree_spec.proofs.Accepted.{HasEntry, entry_walk, Removes, accepted-remove}
 use Rattle.tree_spec.proofs.Trees.{parent-last}
 use Rattle.ice_reads.specs.Tables.{Map, own_in, rows_in, inode_named}
@@ -39,7 +41,9 @@ use Rattle.ice_steps.proofs.Recovers.{beside_recovers, recovers_beside}
 use Rattle.ice_steps.proofs.Takes.{gave_inode}
 use Rattle.ice_steps.proofs.Walks.{FileAt, file_at, dir_at, loose_made, loose_used, loose_counted, walk_made, walk_dir, walk_part}
 use Rattle.ice_tree.specs.declared.removes.Gone.{Gone}
-use Rattle.ice_tree.specs.Moves.{IsGone, Loses, StandsLoose}
+use Rattle.ice_tree.specs.Moves.{gone_refusal, IsGone, Loses, StandsLoose}
+use Rattle.ice_tree.specs.Stages.{or_else, paths_refusal, walk_refusal, quota_refusal}
+use Rattle.ice_tree.proofs.Chains.{refusal_remove}
 use Rattle.ice_tree.proofs.PlaceLaws.{inode_on-more}
 
 abbrev Names : Type 0
@@ -250,3 +254,25 @@ module _ (f : Form) (one : f ≡ form_one) (mode : ℕ) (lot : LotView) (few : l
       subst (λ g. StandsLoose g mode lot m' (next (Remove p) t) k gone.number gone.bytes) (sym one)
       (subst (λ j. StandsLoose form_one mode lot m' (next (Remove p) t) k j gone.bytes) (sym number-there)
         (subst (λ n. StandsLoose form_one mode lot m' (next (Remove p) t) k (inode_on form_one (own 64 m) 0 p) n) (sym bytes-there) s))
+
+-- what was found before a look holds after it
+pub loses-after : (f : Form) (mode : ℕ) (lot : LotView) (m m' : Map) (t : Tree) (k : ℕ) (p : Names) (gone : Gone) (name : List ℕ) → m' ≡ m → MapRecovers f mode lot m t k → IsGone f (own_in f m) p t gone → name ≡ last_name p
+    → refusal t k (length lot.groups) f (Remove p) ≡ None → Loses f mode lot m' t k p gone name
+loses-after f mode lot m m' t k p gone name same r is last none =
+    subst (λ (x : Map). Loses f mode lot x t k p gone name) (sym same) (record { recovers = r; gone_is = is; name_is = last; accepted = none })
+
+-- ---- all that refuses a removal
+
+chained : (a b c d : Option Why) → or_else a (or_else b (or_else c d)) ≡ or_else (or_else a (or_else b c)) d
+chained (Some r) b c d = refl
+chained None (Some r) c d = refl
+chained None None c d = refl
+
+-- the refusals behind those of the names
+abbrev pub later_refusal : ℕ → Form → ℕ → Names → Tree → Option Why
+later_refusal n f k p t = or_else (gone_refusal p t) (quota_refusal n f k (next (Remove p) t))
+
+pub remove-stages : (t : Tree) (k n : ℕ) (f : Form) (p : Names) → refusal t k n f (Remove p) ≡ or_else (paths_refusal f (p ∷ [])) (later_refusal n f k p t)
+remove-stages t k n f p =
+    refusal_remove t k n f p
+    ∙ ap (or_else (paths_refusal f (p ∷ []))) (chained (walk_refusal (walk p t)) (if is_root p then Some why.IsRoot else None) (if is_full_found (walk p t) then Some why.NotEmpty else None) (quota_refusal n f k (next (Remove p) t)))

@@ -21,7 +21,7 @@ ghost use Rattle.ice_tree.specs.declared.place.Place.TheVariants.{Dir};
 ghost use Rattle.ice_tree.specs.Stages.{or_else, paths_refusal, quota_refusal};
 
 use crate::counts::count_up;
-use crate::ends::{Ends, Spot, find_ends};
+use crate::ends::{Ends, Spot, find_ends, last_of};
 use crate::fault::refusal_of;
 use crate::paths::check_path;
 use crate::place::Place;
@@ -303,7 +303,7 @@ pub fn remove<D: Disk, K: Keep<D>, P: Pool<D, K>, F: Form>(
     match may_remove::<D, K, P, F>(keep, pool, disk, lot, path, depth) {
         Err(refusal) => Err(refusal),
         Ok(gone) => {
-            let name = path.name(path.len() - 1);
+            let name = last_of::<F>(path, depth);
             match put_away::<D, K, P, F>(keep, pool, disk, lot, &gone, &name) {
                 Err(fault) => Err(refusal_of(fault)),
                 Ok(()) => Ok(()),
