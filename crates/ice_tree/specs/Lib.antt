@@ -2,3 +2,4 @@ pub mod Places
 pub mod Outcomes
 pub mod Stages
 pub mod Changes
+pub mod Listings

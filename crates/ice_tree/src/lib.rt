@@ -4,12 +4,14 @@
 mod counts;
 mod ends;
 mod fault;
+mod lists;
 mod looks;
 mod makes;
 mod paths;
 mod place;
 mod quota;
 
+pub use lists::list;
 pub use looks::{read, stat};
 pub use makes::{make, mkdir};
 pub use place::Place;

@@ -61,7 +61,7 @@ pub(crate) fn look<D: Disk, V: View<D>, F: Form>(
 }
 
 /// The place of the inode that an entry names. Damaged: the number is none of the lot.
-fn enter<D: Disk, V: View<D>, F: Form>(
+pub(crate) fn enter<D: Disk, V: View<D>, F: Form>(
     view: &mut V,
     disk: &mut D,
     lot: &Lot,
