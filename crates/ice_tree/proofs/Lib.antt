@@ -1,5 +1,15 @@
+pub mod QuotaLaws
+pub mod StageLaws
+pub mod EndLaws
+pub mod CountLaws
+pub mod MakeLaws
+pub mod SpotLaws
+pub mod ReplyLaws
 pub mod Chains
 pub mod Names
 pub mod PlaceLaws
 pub mod LookLaws
+pub mod HeightLaws
+pub mod GoneLaws
+pub mod RemoveLaws
 pub mod ListLaws

@@ -1,19 +1,23 @@
 -- What the changing commands find before they change anything.
-use Rattle.std.specs.Prelude.{◌≡◌, ◌<◌, ◌+◌, ◌*◌, ℕ, Bool, true, false, List, length, nat_lt, nat_eq, Option, Some, None, if◌then◌else◌}
+use Rattle.std.specs.Prelude.{◌≡◌, ◌<◌, ◌+◌, ◌*◌, ℕ, Bool, true, false, List, [], length, replicate, nat_lt, nat_eq, Option, Some, None, if◌then◌else◌}
 use Rattle.ice_base.specs.Lots.{LotView}
 use Rattle.tree_spec.specs.Why.{Why}
 use Rattle.tree_spec.specs.Why as why
-use Rattle.tree_spec.specs.Trees.{Tree, Entries, Found, walk, parent, rows}
+use Rattle.tree_spec.specs.Trees.{Tree, Entries, Found, walk, parent, last_name, parent_walk, rows}
 use Rattle.tree_spec.specs.Trees as tree
 use Rattle.tree_spec.specs.Costs.{Form, nodes, blocks, node_quota, block_quota}
+use Rattle.tree_spec.specs.Names.{is_name}
 use Rattle.tree_spec.specs.Operations.{Operation, Mkdir, Make}
-use Rattle.tree_spec.specs.Answers.{most_done}
-use Rattle.ice_reads.specs.Tables.{Table}
+use Rattle.tree_spec.specs.Answers.{most_done, is_root, is_found, refusal}
+use Rattle.ice_map.specs.declared.codec.Inode.{Inode}
+use Rattle.ice_reads.specs.Tables.{Map, Table, own_in}
 use Rattle.ice_reads.specs.Reads.{inode_on}
+use Rattle.ice_reads.specs.Recovers.{MapRecovers}
 use Rattle.ice_tree.specs.declared.quota.Need.{Need}
 use Rattle.ice_tree.specs.declared.ends.Ends.{Ends}
 use Rattle.ice_tree.specs.declared.ends.Spot.{Spot}
 use Rattle.ice_tree.specs.Places.{place_at, PlaceFits}
+use Rattle.ice_tree.specs.Stages.{or_else, walk_refusal}
 
 -- the tree that would be made has so many nodes and blocks more, and so many fewer
 pub record Needs (f : Form) (t next : Tree) (need : Need) : Type 0 where
@@ -46,6 +50,22 @@ pub record SpotFits (lot : LotView) (spot : Spot) : Type 0 where
 abbrev pub new_operation : Bool → List (List ℕ) → Operation
 new_operation true p = Mkdir p
 new_operation false p = Make p
+
+-- the inode of an empty directory, or of an empty file
+abbrev pub new_inode : Bool → Inode
+new_inode dir = record { kind = if dir then 2 else 1; size = 0; direct = replicate 12 0; single = 0; double = 0 }
+
+-- the refusal of the place where something is made
+abbrev pub new_refusal : List (List ℕ) → Tree → Option Why
+new_refusal p t = or_else (walk_refusal (parent_walk p t)) (or_else (if is_root p then Some why.IsRoot else None) (if is_found (walk p t) then Some why.Exists else None))
+
+-- the map recovers a tree that takes the new directory or file, the spot is the directory of its path, and the name is the path's last one
+pub record Takes (f : Form) (mode : ℕ) (lot : LotView) (m : Map) (t : Tree) (k : ℕ) (p : List (List ℕ)) (dir : Bool) (spot : Spot) (name : List ℕ) : Type 0 where
+  pub recovers : MapRecovers f mode lot m t k
+  pub spot_is : IsSpot f (own_in f m) (parent p) t spot
+  pub name_is : name ≡ last_name p
+  pub proper : is_name name ≡ true
+  pub accepted : refusal t k (length lot.groups) f (new_operation dir p) ≡ None
 
 -- the refusal by the number of nodes of the tree that would be made
 abbrev pub nodes_refusal : ℕ → Tree → Option Why

@@ -1,4 +1,6 @@
 pub mod Places
 pub mod Outcomes
 pub mod Stages
+pub mod Changes
+pub mod Moves
 pub mod Listings

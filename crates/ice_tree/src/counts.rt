@@ -12,7 +12,9 @@ ghost use Rattle.ice_reads.specs.Recovers.{MapRecovers};
 ghost use Rattle.ice_steps.specs.Beside.{DoneSet};
 ghost use Rattle.ice_tree.specs.Outcomes.{IsSubFault, IsCountFault};
 
-use ice_base::{Disk, Form, Keep, Lot, OpFault, Rule, SUB, View, fetch, read_u64, store, write_u64};
+use ice_base::{
+    Disk, Form, Keep, Lot, OpFault, Rule, SUB, View, fetch, read_u64, store, write_u64,
+};
 use ice_layout::read_sub;
 
 /// The most operations that a cube may accept: 2^63 - 1.
@@ -21,6 +23,7 @@ pub(crate) const MOST_DONE: u64 = (1 << 63) - 1;
 /// Where the number stands in the sub-super block.
 const DONE_PLACE: usize = 16;
 
+#[tactic(auto, using(ice_base::proofs::LotLaws::address_laws))]
 /// How many operations were accepted. Damaged: the sub-super block breaks a rule.
 pub(crate) fn done_of<D: Disk, V: View<D>, F: Form>(
     view: &mut V,
@@ -42,6 +45,7 @@ pub(crate) fn done_of<D: Disk, V: View<D>, F: Form>(
     }
 }
 
+#[tactic(auto, using(ice_base::proofs::LotLaws::address_laws))]
 /// Adds one to the number of accepted operations. Damaged: it can't grow.
 pub(crate) fn count_up<D: Disk, K: Keep<D>>(
     keep: &mut K,

@@ -1,12 +1,20 @@
 //! The commands of one tree, over any view, keep, pool and form.
 #![tactic(auto)]
 
+mod counts;
+mod ends;
 mod fault;
+mod heights;
 mod lists;
 mod looks;
+mod makes;
 mod paths;
 mod place;
+mod quota;
+mod removes;
 
 pub use lists::list;
 pub use looks::{read, stat};
+pub use makes::{make, mkdir};
 pub use place::Place;
+pub use removes::remove;

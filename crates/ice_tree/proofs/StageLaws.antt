@@ -1,0 +1,52 @@
+-- One stage of refusals after another.
+use Rattle.std.proofs.Common.{◌≡◌, Bool, true, false, Option, None, Some, Result, Ok, Err, MatchResult, refl, ap, ◌∙◌, sym, subst, ℕ, nat_lt, nat_eq, length, if◌then◌else◌}
+use Rattle.tree_spec.specs.Why.{Why}
+use Rattle.tree_spec.specs.Why as why
+use Rattle.tree_spec.specs.Trees.{Tree}
+use Rattle.tree_spec.specs.Costs.{Form, nodes, blocks, node_quota, block_quota}
+use Rattle.tree_spec.specs.Answers.{most_done}
+use Rattle.tree_spec.specs.Replies.{Refused, Because, Fault, Memory, refused_of}
+use Rattle.tree_spec.specs.declared.reply.Refusal.{Refusal}
+use Rattle.ice_base.specs.Lots.{LotView}
+use Rattle.ice_reads.specs.Tables.{Map}
+use Rattle.ice_reads.specs.Recovers.{MapRecovers}
+use Rattle.ice_tree.specs.Changes.{nodes_refusal, blocks_refusal, done_refusal}
+use Rattle.ice_tree.specs.Outcomes.{RefusedAs}
+use Rattle.ice_tree.specs.Stages.{or_else, quota_refusal}
+
+pub or_else-later : (a b : Option Why) → a ≡ None → or_else a b ≡ b
+or_else-later a b e = ap (λ (x : Option Why). or_else x b) e
+
+-- a stage that refuses decides
+pub refused-now : (x : Refused) (a b : Option Why) → RefusedAs x a → RefusedAs x (or_else a b)
+refused-now Fault a b h = h
+refused-now Memory a b h = elim h [ ]
+refused-now (Because r) a b h = ap (λ (y : Option Why). or_else y b) h
+
+-- and one that doesn't leaves it to the later ones
+pub refused-later : (x : Refused) (a b : Option Why) → a ≡ None → RefusedAs x b → RefusedAs x (or_else a b)
+refused-later x a b e h = subst (RefusedAs x) (sym (or_else-later a b e)) h
+
+pub none-both : (a b : Option Why) → a ≡ None → b ≡ None → or_else a b ≡ None
+none-both a b e f = or_else-later a b e ∙ f
+
+-- a call finds the refusal, or that there is none
+abbrev pub Finds : {A : Type 0} → Result A Refusal → Option Why → Type 0
+Finds result found = MatchResult result (λ u. found ≡ None) (λ r. RefusedAs (refused_of r) found)
+
+pub finds-later : {A : Type 0} (result : Result A Refusal) (a b : Option Why) → a ≡ None → Finds result b → Finds result (or_else a b)
+finds-later {A} result a b e h = subst (λ (o : Option Why). Finds result o) (sym (or_else-later a b e)) h
+
+by_stages : (few full spent : Bool) → (if few then Some why.NoNodes else (if full then Some why.NoSpace else (if spent then Some why.Spent else None)))
+    ≡ or_else (if few then Some why.NoNodes else None) (or_else (if full then Some why.NoSpace else None) (if spent then Some why.Spent else None))
+by_stages true full spent = refl
+by_stages false true spent = refl
+by_stages false false spent = refl
+
+-- the quota in its three stages
+pub quota-stages : (n : ℕ) (f : Form) (k : ℕ) (t : Tree) → quota_refusal n f k t ≡ or_else (nodes_refusal n t) (or_else (blocks_refusal n f t) (done_refusal k))
+quota-stages n f k t = by_stages (nat_lt (node_quota n) (nodes t)) (nat_lt (block_quota n) (blocks f t)) (nat_eq k most_done)
+
+-- an equal map recovers the same
+pub recovers-same : (f : Form) (mode : ℕ) (lot : LotView) (m m' : Map) (t : Tree) (k : ℕ) → m' ≡ m → MapRecovers f mode lot m t k → MapRecovers f mode lot m' t k
+recovers-same f mode lot m m' t k e r = subst (λ (x : Map). MapRecovers f mode lot x t k) (sym e) r

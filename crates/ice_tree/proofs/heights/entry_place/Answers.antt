@@ -1,0 +1,37 @@
+use Rattle.std.proofs.Common.{IfOk, Err, ℕ, ◌+◌, ◌≡◌, ap, sym, ◌∙◌, subst}
+use Rattle.std.proofs.lemmas.Result.{err_from_is_err_and, IfOk-weaker}
+use Rattle.tree_spec.specs.Costs.{form_of}
+use Rattle.tree_spec.specs.Trees.{Tree, Found}
+use Rattle.ice_reads.specs.Tables.{own_in}
+use Rattle.ice_reads.specs.Reads.{Reads}
+use Rattle.ice_tree.specs.Moves.{IsChild}
+use Rattle.ice_tree.specs.Places.{place_by}
+use Rattle.ice_tree.specs.declared.place.Place.{Place}
+use Rattle.ice_tree.proofs.HeightLaws.{entry-fails, entry-child, entry-row}
+use Rattle.ice_tree.proofs.heights.entry_place.Goals as goal
+
+pub returns-in_err-inode-clause-sound : goal.returns-in_err-inode-clause-sound
+returns-in_err-inode-clause-sound g c = λ h es s r below.
+    let p = err_from_is_err_and c.from_residual.result c.from_residual.ensures.1 in
+    let e = c.in_err-inode.ensures in
+    rw (p.1, p.2)
+    (entry-fails (form_of g.F.Form.VERSION) (ap form_of g.F.Form.is_one.0) c.args.lot.now (g.V.View.map c.args.view.now c.args.disk.now c.args.lot.now) c.args.number h es r g.F.Form.ENTRY g.F.Form.is_one.1 c.args.k below
+    _ e.faults (λ k. e.kind (ap (λ y. Err y) k) s) (λ k. e.pointer (ap (λ y. Err y) k) s) (λ k. e.name (ap (λ y. Err y) k) s))
+
+pub returns-clause-place : goal.returns-clause-place
+returns-clause-place g c = λ h es s r below.
+    let f = form_of g.F.Form.VERSION in
+    let looked = c.entry.ensures.looked in
+    let row = c.in_ok-inode.ensures.row s in
+    let x = entry-child f (ap form_of g.F.Form.is_one.0) c.args.lot.now (g.V.View.map c.args.view.now c.args.disk.now c.args.lot.now) c.args.number h es r g.F.Form.ENTRY g.F.Form.is_one.1 c.args.k below c.entry.new.into c.in_ok-inode.inode row in
+    let is = entry-row f (ap form_of g.F.Form.is_one.0) c.args.lot.now (g.V.View.map c.args.view.now c.args.disk.now c.args.lot.now) c.args.number h es r g.F.Form.ENTRY g.F.Form.is_one.1 c.args.k below c.entry.new.into c.in_ok-inode.inode row in
+    IfOk-weaker c.enter.result (λ p. p ≡ place_by c.in_ok-inode.inode (Found x.there)) (IsChild f c.args.lot.now (own_in f (g.V.View.map c.args.view.now c.args.disk.now c.args.lot.now)) c.args.number h c.args.k es)
+    (λ p at. record { name = c.entry.new.into; inode = c.in_ok-inode.inode; tree = x.there; row = is; entry = x.entry; reads = x.reads; at = at })
+    (c.enter.ensures.place (h + 1) x.there (looked.shows s) (subst (λ m. Reads f c.args.lot.now (own_in f m) c.in_ok-inode.inode (h + 1) x.there) (sym looked.map) x.reads))
+
+pub returns-clause-sound : goal.returns-clause-sound
+returns-clause-sound g c = λ h es s r below.
+    let f = form_of g.F.Form.VERSION in
+    let looked = c.entry.ensures.looked in
+    let x = entry-child f (ap form_of g.F.Form.is_one.0) c.args.lot.now (g.V.View.map c.args.view.now c.args.disk.now c.args.lot.now) c.args.number h es r g.F.Form.ENTRY g.F.Form.is_one.1 c.args.k below c.entry.new.into c.in_ok-inode.inode (c.in_ok-inode.ensures.row s) in
+    c.enter.ensures.sound (h + 1) x.there (looked.shows s) (subst (λ m. Reads f c.args.lot.now (own_in f m) c.in_ok-inode.inode (h + 1) x.there) (sym looked.map) x.reads)
