@@ -10,8 +10,10 @@ mod makes;
 mod paths;
 mod place;
 mod quota;
+mod writes;
 
 pub use lists::list;
 pub use looks::{read, stat};
 pub use makes::{make, mkdir};
 pub use place::Place;
+pub use writes::{trunc, write};
