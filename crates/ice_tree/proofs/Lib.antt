@@ -5,6 +5,7 @@ pub mod CountLaws
 pub mod MakeLaws
 pub mod SpotLaws
 pub mod ReplyLaws
+pub mod FileLaws
 pub mod Chains
 pub mod Names
 pub mod PlaceLaws

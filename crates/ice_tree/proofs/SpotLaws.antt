@@ -116,7 +116,7 @@ module _ (f : Form) (o : Table) (p : Names) (t : Tree) (ends : Ends) (is : IsEnd
 
 -- ---- all that refuses something new
 
-chained : (a b c d : Option Why) → or_else a (or_else b (or_else c d)) ≡ or_else (or_else a (or_else b c)) d
+pub chained : (a b c d : Option Why) → or_else a (or_else b (or_else c d)) ≡ or_else (or_else a (or_else b c)) d
 chained (Some r) b c d = refl
 chained None (Some r) c d = refl
 chained None None c d = refl

@@ -12,9 +12,11 @@ mod paths;
 mod place;
 mod quota;
 mod removes;
+mod writes;
 
 pub use lists::list;
 pub use looks::{read, stat};
 pub use makes::{make, mkdir};
 pub use place::Place;
 pub use removes::remove;
+pub use writes::{trunc, write};
