@@ -17,6 +17,7 @@ use crate::whole::{BLOCK_BYTES, read_whole, write_whole};
 use ice_base::{Block, Disk, DiskFault, Host, SinkFault, SourceFault};
 use std::fs::{File, OpenOptions};
 use std::io::{self, ErrorKind, Stdin, Stdout};
+use std::os::fd::{AsRawFd, RawFd};
 use std::marker::Model;
 
 /// Why a file can't serve as a host.
@@ -27,6 +28,9 @@ pub enum OpenFault {
     /// Opening or extending it failed otherwise.
     Failed,
 }
+
+/// The descriptors of the standard streams lie below this one.
+const STREAMS: RawFd = 3;
 
 /// How many given bytes are held back at most.
 const HELD: usize = 65536;
@@ -66,6 +70,7 @@ fn open_fault(error: io::Error) -> OpenFault {
 }
 
 /// Opens the file, makes it and extends it with zeros where blocks are asked for, and says how many whole blocks it has.
+/// Where a standard stream is closed the file would take its number, and replies would go into it: that is refused.
 fn open(rt: &HostRuntime, name: &str, least: u32) -> io::Result<(File, u32)>
     ensures { IfOk result (λ opened. least ≤ opened.1) }
 {
@@ -74,6 +79,9 @@ fn open(rt: &HostRuntime, name: &str, least: u32) -> io::Result<(File, u32)>
         .write(true)
         .create(least > 0)
         .open(rt, name)?;
+    if file.as_raw_fd() < STREAMS {
+        return Err(ErrorKind::Unsupported.into());
+    }
     let wanted = u64::from(least) * BLOCK_BYTES;
     if file.metadata()?.len() < wanted {
         file.set_len(wanted)?;
