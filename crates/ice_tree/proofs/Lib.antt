@@ -5,3 +5,4 @@ pub mod QuotaLaws
 pub mod StageLaws
 pub mod EndLaws
 pub mod HeightLaws
+pub mod LookLaws

@@ -3,7 +3,7 @@ use Rattle.std.proofs.Common.{◌≡◌, ℕ, suc, ◌+◌, ◌-◌, ◌<◌, �
 use Rattle.std.specs.Prelude.{◌||◌, nat_lt}
 use Rattle.std.specs.List.{list_any}
 use Rattle.std.proofs.lemmas.Bool.Decides.{nat_tests}
-use Rattle.std.proofs.lemmas.List.{take_more, get_or-drop, length-drop}
+use Rattle.std.proofs.lemmas.List.{take_more, take_all, get_or-drop, length-drop}
 use Rattle.tree_spec.specs.Costs.{form_of}
 
 -- one of the names from k on is meant by the test: name k, or one behind it
@@ -35,3 +35,7 @@ names-next path depth k name h below is =
     ap (λ n. take n (drop depth path)) one
     ∙ take_more (drop depth path) (k - depth) [] (omega arith)
     ∙ ap (λ c. take (k - depth) (drop depth path) ++ c ∷ []) (get_or-drop depth path (k - depth) [] ∙ ap (λ n. get_or path n []) at ∙ sym is)
+
+-- all the names from `depth` on
+pub names-all : (path : List (List ℕ)) (depth end : ℕ) → end ≡ length path → take (end - depth) (drop depth path) ≡ drop depth path
+names-all path depth end is = ap (λ n. take (n - depth) (drop depth path)) is ∙ take_all (length path - depth) (drop depth path) (omega (arith, length-drop depth path))

@@ -31,7 +31,7 @@ use Rattle.ice_tree.specs.Places.{place_by, place_at, IsNode, PlaceFits}
 use Rattle.ice_tree.specs.declared.place.Place.{Place}
 use Rattle.ice_tree.specs.declared.place.Place.TheVariants.{File, Dir, Missing, Blocked}
 
-length-file_bytes : (o : Own) → length (file_bytes o) ≡ o.inode.size
+pub length-file_bytes : (o : Own) → length (file_bytes o) ≡ o.inode.size
 unfolding file_bytes
 length-file_bytes o = length-map-range_with_len _ 0 o.inode.size
 
@@ -39,7 +39,7 @@ one_not_two : (k : ℕ) → k ≡ 1 → k ≡ 2 → ⊥
 one_not_two k a b = omega arith
 
 -- where each used block is a data place, each block of the map leads to one
-places-lead : (lot : LotView) (m : Map) (x : Inode) (count n : ℕ) → ((b : ℕ) → has (uses m x count) b ≡ true → is_data lot b ≡ true) → n < count → leads lot m x n ≡ true
+pub places-lead : (lot : LotView) (m : Map) (x : Inode) (count n : ℕ) → ((b : ℕ) → has (uses m x count) b ≡ true → is_data lot b ≡ true) → n < count → leads lot m x n ≡ true
 places-lead lot m x count n all h =
     let d = all (nth_block m x n) (uses-nth m x count n h) in
     elim (nat_lt n 12) as (λ t. nat_lt n 12 ≡ t → leads lot m x n ≡ true) [
@@ -54,12 +54,12 @@ find-fails (Damaged Kind) h k p = absurd (k refl)
 find-fails (Damaged Pointer) h k p = absurd (p refl)
 find-fails _ h k p = absurd h
 
-true_false : (b : Bool) → b ≡ true → b ≡ false → ⊥
+pub true_false : (b : Bool) → b ≡ true → b ≡ false → ⊥
 true_false b h k = cc
 
 module _ (f : Form) (one : f ≡ form_one) (lot : LotView) (m : Map) (i h : ℕ) where
   -- what the inode of a number says, in version 1
-  inode-own : (own_in f m i).inode ≡ inode_of m i
+  pub inode-own : (own_in f m i).inode ≡ inode_of m i
   inode-own = ap (λ g. (own_in g m i).inode) one
 
   pub Reads-number : (t : Tree) → Reads f lot (own_in f m) i h t → i < 64 * length lot.groups
@@ -85,7 +85,7 @@ module _ (f : Form) (one : f ≡ form_one) (lot : LotView) (m : Map) (i h : ℕ)
   Reads-inode (tree.File bytes) r = r.0
   Reads-inode (tree.Dir es) r = r.0
 
-  places-own : (t : Tree) → Reads f lot (own_in f m) i h t → (b : ℕ) → has (own 64 m i).uses b ≡ true → is_data lot b ≡ true
+  pub places-own : (t : Tree) → Reads f lot (own_in f m) i h t → (b : ℕ) → has (own 64 m i).uses b ≡ true → is_data lot b ≡ true
   places-own t r = subst (λ g. (b : ℕ) → has (own_in g m i).uses b ≡ true → is_data lot b ≡ true) one (Reads-inode t r).places
 
   rows-own : (entry : ℕ) → entry ≡ 64 → rows_in f (own_in f m i) ≡ rows_of entry m i

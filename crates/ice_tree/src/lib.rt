@@ -11,6 +11,6 @@ mod paths;
 mod place;
 mod quota;
 
-pub use looks::read;
+pub use looks::{read, stat};
 pub use makes::mkdir;
 pub use place::Place;
