@@ -1,5 +1,5 @@
 -- Whole changes of a tree: one step after another, from a map that recovers a tree to one that recovers the next.
-use Rattle.std.proofs.Common.{◌≡◌, ◌≤◌, ◌<◌, ◌+◌, ◌*◌, ℕ, true, List, [], ◌∷◌, ◌++◌, length, None, Some, ◌∙◌, sym, refl, ap, subst, arith}
+use Rattle.std.proofs.Common.{◌≡◌, ◌≤◌, ◌<◌, ◌+◌, ◌*◌, ℕ, true, List, [], ◌∷◌, ◌++◌, length, None, Some, ◌∙◌, sym, subst}
 use Rattle.std.specs.FinMap.{find}
 use Rattle.ice_base.specs.Inodes.{inode_address}
 use Rattle.ice_base.specs.Lots.{LotView, sub_address}
@@ -73,8 +73,8 @@ module _ (mode : ℕ) (lot : LotView) (m0 m1 : Map) (t : Tree) (k : ℕ) (q : Li
       let place = walk_left mode lot m0 m1 t k q c v es r found is set to (Dir fs) there in
       beside_recovers form_one mode lot m2 (at to (with_entry d v) (at q (without_entry c) t)) k
       (gains_row mode lot m1 m2 (at q (without_entry c) t) k to d gone v fs l.0 there free name
-        (Reads-shift form_one lot (own_in form_one m1) gone (length q + 1) (length to + 1) v fits l.1)
-        (subst (λ p. DirSet lot 64 m1 m2 p (rows_of 64 m1 p ++ (d, gone) ∷ [])) (sym place) put))
+      (Reads-shift form_one lot (own_in form_one m1) gone (length q + 1) (length to + 1) v fits l.1)
+      (subst (λ p. DirSet lot 64 m1 m2 p (rows_of 64 m1 p ++ (d, gone) ∷ [])) (sym place) put))
 
   -- what it named stands loose
   abbrev Gone : Tree → Type 0

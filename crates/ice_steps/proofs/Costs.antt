@@ -1,10 +1,10 @@
 -- What changes cost, against what is free and counted: when the calls of the layers below find room.
-use Rattle.std.proofs.Common.{◌≡◌, ◌≢◌, ◌≤◌, ◌<◌, ◌+◌, ◌-◌, ◌*◌, ◌/◌, ◌^◌, max, ℕ, true, false, cond, not, List, [], ◌∷◌, ◌++◌, length, length-append, None, ◌∙◌, sym, refl, ap, arith}
+use Rattle.std.proofs.Common.{◌≡◌, ◌≢◌, ◌≤◌, ◌<◌, ◌+◌, ◌-◌, ◌*◌, ◌/◌, ◌^◌, max, ℕ, true, false, not, List, length, None, ◌∙◌, refl, ap, arith}
 use Rattle.std.proofs.lemmas.Bool.Decides.{nat_tests}
 use Rattle.std.proofs.lemmas.Nat.{div-add-mod'}
 use Rattle.std.specs.FinMap.{find}
 use Rattle.ice_base.specs.Lots.{LotView}
-use Rattle.ice_base.specs.Used.{used, used_inode, counted, free_count, AllUsed}
+use Rattle.ice_base.specs.Used.{used, counted, free_count, AllUsed}
 use Rattle.ice_map.specs.Inodes.{inode_of}
 use Rattle.ice_map.proofs.ListLaws.{count_none}
 use Rattle.ice_file.specs.Own.{own, blocks_for}
@@ -15,14 +15,13 @@ use Rattle.tree_spec.specs.Trees.{Tree, File, Dir, Entries, rows, by_bytes, walk
 use Rattle.tree_spec.specs.Costs.{form_one, map_cost, file_blocks, blocks, nodes, node_quota, block_quota}
 use Rattle.tree_spec.specs.Costs as tree
 use Rattle.tree_spec.proofs.Sums.{total-at, total-with_at}
-use Rattle.ice_reads.specs.Tables.{Map, own_in}
-use Rattle.ice_reads.specs.Reads.{Reads, used_blocks, used_inodes, inode_on}
-use Rattle.ice_reads.specs.Recovers.{MapRecovers}
+use Rattle.ice_reads.specs.Tables.{Map}
+use Rattle.ice_reads.specs.Reads.{Reads, used_blocks, inode_on}
 use Rattle.ice_steps.specs.Beside.{Beside}
 use Rattle.ice_steps.proofs.Lengths.{uses-cost, length-blocks}
 use Rattle.ice_steps.proofs.Needs.{beside_counted, loose_blocks_counted, file_uses, dir_uses}
 use Rattle.ice_steps.proofs.Quotas.{beside_counts, beside_free_nodes, beside_free_blocks}
-use Rattle.ice_steps.proofs.Walks.{FileAt, DirAt, beside_file, beside_dir}
+use Rattle.ice_steps.proofs.Walks.{beside_file, beside_dir}
 
 uses-few : (c : ℕ) → uses_of c ≤ c + 1
 uses-few c = grind (arith, nat_tests)

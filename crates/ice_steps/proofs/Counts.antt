@@ -3,7 +3,7 @@ use Rattle.std.proofs.Common.{◌≡◌, ◌≢◌, ◌<◌, ◌≤◌, ◌+◌,
 use Rattle.std.proofs.lemmas.Bool.Decides.{nat_tests}
 use Rattle.ice_base.specs.Bits.{count_below}
 use Rattle.ice_base.specs.Spare.{has}
-use Rattle.ice_base.proofs.CountLaws.{count_below-same, count_below-gives, count_below-more, count_below-not, count_below-zero, count_below-le}
+use Rattle.ice_base.proofs.CountLaws.{count_below-same, count_below-gives, count_below-more, count_below-not, count_below-zero}
 use Rattle.ice_map.specs.Maps.{times}
 use Rattle.ice_map.proofs.ListLaws.{times-cons, count_none, has-head, has-tail}
 use Rattle.ice_file.specs.Own.{mark}

@@ -1,28 +1,24 @@
 -- A file of the tree that was set, and a loose one that was cut to nothing.
-use Rattle.std.proofs.Common.{◌≡◌, ◌≢◌, ◌≤◌, ◌<◌, ◌+◌, ◌*◌, ℕ, suc, true, false, List, [], ◌∷◌, ◌++◌, length, length-append, ◌∙◌, sym, refl, ap, subst, arith}
-use Rattle.std.proofs.lemmas.List.{append-nil}
+use Rattle.std.proofs.Common.{◌≡◌, ◌≤◌, ◌<◌, ◌+◌, ℕ, List, [], ◌∷◌, length, ◌∙◌, sym, refl, ap, subst, arith}
 use Rattle.std.proofs.lemmas.List.FromFn.{length-map-range_with_len}
 use Rattle.ice_base.specs.Lots.{LotView}
-use Rattle.ice_base.specs.Spare.{has}
-use Rattle.ice_base.specs.Used.{is_data}
 use Rattle.ice_map.specs.Inodes.{inode_of}
 use Rattle.ice_map.specs.Maps.{times}
-use Rattle.ice_map.proofs.ListLaws.{times-append, has-none}
+use Rattle.ice_map.proofs.ListLaws.{times-append}
 use Rattle.ice_file.specs.Files.{FileSet, byte_of}
-use Rattle.ice_file.specs.Own.{own, file_bytes}
+use Rattle.ice_file.specs.Own.{own}
 use Rattle.ice_file.proofs.ByteLaws.{all_bytes}
-use Rattle.tree_spec.specs.Trees.{Tree, File, Dir, Entries, Found, walk, at}
+use Rattle.tree_spec.specs.Trees.{Tree, File, Found, walk, at}
 use Rattle.tree_spec.specs.Costs.{form_one}
 use Rattle.ice_reads.specs.Tables.{Map, own_in, IsFileInode}
 use Rattle.ice_reads.specs.Reads.{Reads, used_blocks, used_inodes, tree_uses, inode_on}
 use Rattle.ice_reads.specs.Recovers.{MapRecovers}
-use Rattle.ice_reads.proofs.Frames.{SameAt, times-here}
+use Rattle.ice_reads.proofs.Frames.{times-here}
 use Rattle.ice_reads.proofs.Focus.{SameOutside, Reads-at, uses-at, uses-part}
-use Rattle.ice_reads.proofs.Steps.{SameBut}
 use Rattle.ice_steps.specs.Beside.{Beside}
 use Rattle.ice_steps.proofs.Recovers.{beside_recovers, recovers_beside}
-use Rattle.ice_steps.proofs.Made.{beside_part, inode-first}
-use Rattle.ice_steps.proofs.Others.{Loose, loose-none, loose-tree, all, all-once, tree-once, beside_but}
+use Rattle.ice_steps.proofs.Made.{beside_part}
+use Rattle.ice_steps.proofs.Others.{loose-none, all, tree-once, beside_but}
 use Rattle.ice_steps.proofs.Sets.{Adds, set-inode, dir-after, beside-set}
 
 -- the size of a file that was set
@@ -52,10 +48,12 @@ module _ (mode : ℕ) (lot : LotView) (m m' : Map) (t : Tree) (k : ℕ) (q : Lis
   in-all = let e = times-append (used_inodes form_one (own_in form_one m) 0 t) [] here in let i = in-tree in omega arith
 
   outside : SameOutside (own_in form_one m) (own_in form_one m') (used_inodes form_one (own 64 m) here (File bytes)) (used_inodes form_one (own 64 m) 0 t)
-  outside = record { at = λ x h.
-      (beside_but mode lot m t k [] [] b (loose-none lot m) m' here set.set in-all).at x
-      (λ e. let o = tree-once mode lot m t k [] [] b x in let n = ap (λ y. times (y ∷ []) x) (sym e) in let s = times-here x [] in absurd (omega arith))
-      (let e = times-append (used_inodes form_one (own_in form_one m) 0 t) [] x in omega arith) }
+  outside = record {
+    at = λ x h.
+        (beside_but mode lot m t k [] [] b (loose-none lot m) m' here set.set in-all).at x
+        (λ e. let o = tree-once mode lot m t k [] [] b x in let n = ap (λ y. times (y ∷ []) x) (sym e) in let s = times-here x [] in absurd (omega arith))
+        (let e = times-append (used_inodes form_one (own_in form_one m) 0 t) [] x in omega arith);
+  }
 
   new-file : Reads form_one lot (own_in form_one m') here (0 + length q) (change (File bytes))
   new-file =
@@ -75,15 +73,15 @@ module _ (mode : ℕ) (lot : LotView) (m m' : Map) (t : Tree) (k : ℕ) (q : Lis
       (dir-after q change t (File bytes) found b.dir (λ e. absurd cc))
       (Reads-at form_one lot (own_in form_one m) (own_in form_one m') q 0 0 change t (File bytes) found b.reads new-file outside)
       (λ measure adds.
-        let e = moves (λ i. (own 64 m i).uses) (λ i. (own 64 m' i).uses) (λ x e. ap (λ o. o.uses) e) measure adds in
-        let c = adds (used_blocks form_one (own_in form_one m') 0 (at q change t)) [] in
-        let d = adds (used_blocks form_one (own_in form_one m) 0 t) [] in
-        omega arith)
+      let e = moves (λ i. (own 64 m i).uses) (λ i. (own 64 m' i).uses) (λ x e. ap (λ o. o.uses) e) measure adds in
+      let c = adds (used_blocks form_one (own_in form_one m') 0 (at q change t)) [] in
+      let d = adds (used_blocks form_one (own_in form_one m) 0 t) [] in
+      omega arith)
       (λ measure adds.
-        let e = moves (λ i. i ∷ []) (λ i. i ∷ []) (λ x e. refl) measure adds in
-        let c = adds (used_inodes form_one (own_in form_one m') 0 (at q change t)) [] in
-        let d = adds (used_inodes form_one (own_in form_one m) 0 t) [] in
-        omega arith)
+      let e = moves (λ i. i ∷ []) (λ i. i ∷ []) (λ x e. refl) measure adds in
+      let c = adds (used_inodes form_one (own_in form_one m') 0 (at q change t)) [] in
+      let d = adds (used_inodes form_one (own_in form_one m) 0 t) [] in
+      omega arith)
       b.more_data b.others_small
 
 -- a file of the tree was set

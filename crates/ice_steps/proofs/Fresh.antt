@@ -1,41 +1,36 @@
 -- A loose inode: one that was just made, and a file that was cut to nothing.
-use Rattle.std.proofs.Common.{◌≡◌, ◌≢◌, ◌≤◌, ◌<◌, ◌+◌, ◌*◌, ◌%◌, ◌==◌, ℕ, suc, T, Bool, cond, true, false, List, [], ◌∷◌, ◌++◌, map, length, length-append, slice_index, replicate, ◌∙◌, sym, refl, ap, subst, arith}
+use Rattle.std.proofs.Common.{◌≡◌, ◌≤◌, ◌<◌, ◌+◌, ◌*◌, ◌==◌, ℕ, Bool, cond, true, false, List, [], ◌∷◌, ◌++◌, map, length, slice_index, replicate, ◌∙◌, sym, refl, ap, subst, arith}
 use Rattle.std.specs.Prelude.{All, is_some}
 use Rattle.std.specs.List.{IsDistinct}
 use Rattle.std.specs.Ordering.{eq_by_cmp}
 use Rattle.std.specs.FinMap.{find}
-use Rattle.std.proofs.lemmas.Bool.Decides.{nat_tests}
 use Rattle.std.proofs.lemmas.List.{get_or-replicate}
 use Rattle.std.proofs.lemmas.List.Elements.{All-nil}
 use Rattle.ice_base.specs.Fields.{word_at}
 use Rattle.ice_base.specs.Inodes.{inode_address}
 use Rattle.ice_base.specs.Lots.{LotView, sub_address}
 use Rattle.ice_base.specs.Spare.{has}
-use Rattle.ice_base.specs.Used.{used_block, used_inode, is_data}
 use Rattle.ice_map.specs.declared.codec.Inode.{Inode}
 use Rattle.ice_map.specs.Inodes.{inode_of, InodeSet}
 use Rattle.ice_map.specs.Maps.{times, uses}
-use Rattle.ice_map.proofs.ListLaws.{times-append, has-none, has-head}
+use Rattle.ice_map.proofs.ListLaws.{has-none}
 use Rattle.ice_map.proofs.MarkLaws.{used-same}
 use Rattle.ice_map.proofs.GrowLaws.{inode_not_bitmap, inode_not_sub}
-use Rattle.ice_file.specs.Own.{own, file_bytes, mark, map_length, blocks_for, WellMade}
-use Rattle.ice_file.specs.Files.{FileSet, bytes_from}
-use Rattle.ice_file.proofs.ByteLaws.{file_length, all_bytes}
+use Rattle.ice_file.specs.Own.{own, mark, map_length, blocks_for, WellMade}
+use Rattle.ice_file.specs.Files.{bytes_from}
+use Rattle.ice_file.proofs.ByteLaws.{all_bytes}
 use Rattle.ice_dir.specs.Rows.{Row}
-use Rattle.ice_dir.proofs.DirLaws.{dir-length}
-use Rattle.tree_spec.specs.Trees.{Tree, File, Dir, Entries, Nil, by_bytes}
+use Rattle.tree_spec.specs.Trees.{Tree, File, Dir, Nil, by_bytes}
 use Rattle.tree_spec.specs.Costs.{form_one}
 use Rattle.tree_spec.specs.Answers.{deepest}
-use Rattle.ice_reads.specs.Tables.{Map, Table, own_in, rows_in, IsInode, IsNameOf, RestIsZero}
+use Rattle.ice_reads.specs.Tables.{Map, rows_in, IsInode, IsNameOf}
 use Rattle.ice_reads.specs.Reads.{Reads, used_blocks, used_inodes}
-use Rattle.ice_reads.proofs.Frames.{SameAt, Reads-frame, uses-frame}
+use Rattle.ice_reads.proofs.Frames.{SameAt}
 use Rattle.ice_reads.proofs.Losses.{length-rows_in}
 use Rattle.ice_steps.specs.Beside.{Beside, OnlyAt}
 use Rattle.ice_steps.proofs.Counts.{times-same}
-use Rattle.ice_steps.proofs.Files.{set-size}
 use Rattle.ice_steps.proofs.Keeps.{only-one, put-own}
-use Rattle.ice_steps.proofs.Others.{Loose, loose-tree, all, all-apart, beside_but}
-use Rattle.ice_steps.proofs.Sets.{Adds, beside-set}
+use Rattle.ice_steps.proofs.Others.{all-apart}
 use Rattle.ice_steps.proofs.Still.{beside-still, used-places}
 use Rattle.ice_steps.proofs.SubLaws.{says-same}
 
@@ -88,8 +83,8 @@ IsDistinct-nil = tt
 module _ (lot : LotView) (m : Map) (j h : ℕ) (deep : h ≤ deepest) (small : j < 64 * length lot.groups) where
   pub fresh_dir : IsFresh 2 (inode_of m j) → Reads form_one lot (own 64 m) j h (Dir Nil)
   fresh_dir f =
-      let none : rows_in form_one (own 64 m j) ≡ [] = empty (rows_in form_one (own 64 m j)) (length-rows_in form_one (own 64 m j) ∙ f.none) in
-      (fresh-inode lot m j h 2 deep small f,
+      let none : rows_in form_one (own 64 m j) ≡ [] = empty (rows_in form_one (own 64 m j)) (length-rows_in form_one (own 64 m j) ∙ f.none) in (
+        fresh-inode lot m j h 2 deep small f,
         record {
           is_dir = f.is;
           within = let e = f.none in omega arith;
@@ -98,16 +93,19 @@ module _ (lot : LotView) (m : Map) (j h : ℕ) (deep : h ≤ deepest) (small : j
           sorted = tt;
           maps = λ c. ap (λ rs. is_some (find by_bytes c rs)) (sym none);
           count = sym f.none;
-        }, tt)
+        },
+        tt,
+      )
 
   pub fresh_file : IsFresh 1 (inode_of m j) → Reads form_one lot (own 64 m) j h (File [])
-  fresh_file f =
-      (fresh-inode lot m j h 1 deep small f,
-        record {
-          is_file = f.is;
-          within = let e = f.none in omega arith;
-          bytes_are = all_bytes 64 m j f.is ∙ ap (bytes_from m (inode_of m j) 0) f.none;
-        })
+  fresh_file f = (
+    fresh-inode lot m j h 1 deep small f,
+    record {
+      is_file = f.is;
+      within = let e = f.none in omega arith;
+      bytes_are = all_bytes 64 m j f.is ∙ ap (bytes_from m (inode_of m j) 0) f.none;
+    },
+  )
 
 -- it uses no block, and itself alone
 pub fresh_dir_blocks : (m : Map) (j : ℕ) → IsFresh 2 (inode_of m j) → used_blocks form_one (own 64 m) j (Dir Nil) ≡ []
@@ -133,9 +131,11 @@ fresh_made lot m j kind f =
 
 -- an inode that stands loose is put: those of the tree say what they said
 pub put_stays : (mode : ℕ) (lot : LotView) (m m' : Map) (t : Tree) (k : ℕ) (xs : List ℕ) (j : ℕ) (inode : Inode) → Beside form_one mode lot m t k xs (j ∷ []) → InodeSet m m' j inode → OnlyAt (inode_address j ∷ []) m m' → SameAt (own 64 m) (own 64 m') (used_inodes form_one (own 64 m) 0 t)
-put_stays mode lot m m' t k xs j inode b set at = record { at = λ x h. put-own lot m m' j x (only-one (inode_address j) m m' at)
-    (set.others x (λ e. let o = all-apart mode lot m t k xs (j ∷ []) b x in let n = ap (λ y. times (y ∷ []) x) (sym e) in let s = times-same x x [] refl in absurd (omega arith)))
-    (used-places lot m 0 0 t b.reads x h) }
+put_stays mode lot m m' t k xs j inode b set at = record {
+  at = λ x h. put-own lot m m' j x (only-one (inode_address j) m m' at)
+      (set.others x (λ e. let o = all-apart mode lot m t k xs (j ∷ []) b x in let n = ap (λ y. times (y ∷ []) x) (sym e) in let s = times-same x x [] refl in absurd (omega arith)))
+      (used-places lot m 0 0 t b.reads x h);
+}
 
 pub put_loose : (mode : ℕ) (lot : LotView) (m m' : Map) (t : Tree) (k j : ℕ) (inode : Inode) → Beside form_one mode lot m t k [] (j ∷ []) → InodeSet m m' j inode → OnlyAt (inode_address j ∷ []) m m' → Beside form_one mode lot m' t k [] (j ∷ [])
 put_loose mode lot m m' t k j inode b set at =

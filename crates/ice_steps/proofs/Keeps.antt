@@ -1,10 +1,10 @@
 -- Inodes that say what they said, since neither they nor their blocks changed.
-use Rattle.std.proofs.Common.{◌≡◌, ◌≢◌, ◌≤◌, ◌<◌, ◌+◌, ◌*◌, ◌%◌, ◌==◌, ℕ, true, false, cond, List, [], ◌∷◌, length, ◌∙◌, sym, refl, ap, arith}
+use Rattle.std.proofs.Common.{◌≡◌, ◌≢◌, ◌≤◌, ◌*◌, ◌==◌, ℕ, true, false, List, [], ◌∷◌, length, ◌∙◌, sym, ap, arith}
 use Rattle.std.proofs.lemmas.Bool.Decides.{nat_tests}
 use Rattle.ice_base.specs.Lots.{LotView, sub_address}
 use Rattle.ice_base.specs.Inodes.{inode_address, inode_index}
 use Rattle.ice_base.specs.Spare.{has}
-use Rattle.ice_base.specs.Used.{is_data, bitmap_of}
+use Rattle.ice_base.specs.Used.{is_data}
 use Rattle.ice_map.specs.declared.codec.Inode.{Inode}
 use Rattle.ice_map.specs.Inodes.{inode_of, inode_at}
 use Rattle.ice_map.proofs.ListLaws.{has-cons, has-none, except_elim}

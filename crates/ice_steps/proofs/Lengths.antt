@@ -1,11 +1,10 @@
 -- How many blocks and inodes a tree uses.
-use Rattle.std.proofs.Common.{◌≡◌, ◌≤◌, ◌<◌, ◌+◌, ◌-◌, ◌*◌, ◌/◌, ◌%◌, ℕ, true, false, cond, List, [], ◌∷◌, ◌++◌, length, length-append, ◌∙◌, sym, refl, ap, arith, ltb}
+use Rattle.std.proofs.Common.{◌≡◌, ◌≤◌, ◌<◌, ◌+◌, ◌-◌, ◌*◌, ◌/◌, ℕ, List, [], ◌∷◌, length, length-append, ◌∙◌, sym, refl, ap, arith}
 use Rattle.std.proofs.lemmas.Bool.Decides.{nat_tests}
-use Rattle.std.proofs.lemmas.Nat.{div-add-mod', mod_below}
+use Rattle.std.proofs.lemmas.Nat.{div-add-mod'}
 use Rattle.ice_base.specs.Lots.{LotView}
-use Rattle.ice_map.specs.declared.codec.Inode.{Inode}
 use Rattle.ice_map.specs.Inodes.{inode_of}
-use Rattle.ice_file.specs.Own.{Own, own, blocks_for, map_length}
+use Rattle.ice_file.specs.Own.{own, blocks_for, map_length}
 use Rattle.ice_file.specs.Writes.{uses_of}
 use Rattle.ice_file.proofs.ByteLaws.{file_length, all_bytes}
 use Rattle.ice_file.proofs.OwnLaws.{length-uses}
@@ -13,10 +12,10 @@ use Rattle.ice_dir.specs.Rows.{Row}
 use Rattle.ice_dir.proofs.DirLaws.{dir-length}
 use Rattle.std.proofs.lemmas.List.FromFn.{length-map-range_with_len}
 use Rattle.ice_file.specs.Files.{byte_of}
-use Rattle.tree_spec.specs.Trees.{Tree, File, Dir, Entries, Nil, Entry, rows, total, total_in}
-use Rattle.tree_spec.specs.Costs.{Form, form_one, rounded_up, map_cost, file_blocks, dir_blocks, blocks, nodes}
+use Rattle.tree_spec.specs.Trees.{Tree, File, Dir, Entries, Nil, Entry, rows, total_in}
+use Rattle.tree_spec.specs.Costs.{Form, form_one, map_cost, file_blocks, dir_blocks, blocks, nodes}
 use Rattle.ice_reads.specs.Tables.{Map, Table, rows_in, own_in, inode_named, IsFileInode, IsDirInode}
-use Rattle.ice_reads.specs.Reads.{Reads, ReadsEach, tree_uses, entries_use, used_blocks, used_inodes}
+use Rattle.ice_reads.specs.Reads.{Reads, ReadsEach, entries_use, used_blocks, used_inodes}
 
 -- each file and directory has one inode
 module _ (f : Form) (o : Table) where
@@ -73,7 +72,7 @@ module _ (lot : LotView) (few : length lot.groups ≤ 64) (m : Map) where
         length-uses m (inode_of m i) (map_length 64 (inode_of m i)) ∙ uses-cost (map_length 64 (inode_of m i)) (file-short lot m i bytes r.1) ∙ ap map_cost (file-map m i bytes r.1)
     length-blocks i h (Dir es) r =
         let mine : length (own 64 m i).uses ≡ map_cost (dir_blocks form_one (length (rows es))) =
-            length-uses m (inode_of m i) (map_length 64 (inode_of m i)) ∙ uses-cost (map_length 64 (inode_of m i)) (dir-short lot m i es few r.1) ∙ ap map_cost (dir-map lot m i es r.1) in
+        length-uses m (inode_of m i) (map_length 64 (inode_of m i)) ∙ uses-cost (map_length 64 (inode_of m i)) (dir-short lot m i es few r.1) ∙ ap map_cost (dir-map lot m i es r.1) in
         let a = length-append (own 64 m i).uses (entries_use form_one (own_in form_one m) (λ i. (own 64 m i).uses) (rows_in form_one (own 64 m i)) es) in
         let s = length-blocks_in (rows_in form_one (own 64 m i)) (h + 1) es r.2 in
         omega arith

@@ -1,20 +1,18 @@
 -- A directory of the tree that lost a row: what the row named stands loose.
-use Rattle.std.proofs.Common.{◌≡◌, ◌≢◌, ◌≤◌, ◌<◌, ◌+◌, ◌*◌, ◌==◌, ℕ, suc, T, Bool, cond, true, false, List, [], ◌∷◌, ◌++◌, length, length-append, Option, None, Some, ◌∙◌, sym, refl, ap, subst, arith}
+use Rattle.std.proofs.Common.{◌≡◌, ◌≢◌, ◌≤◌, ◌<◌, ◌+◌, ◌==◌, ℕ, T, Bool, cond, true, false, List, [], ◌∷◌, ◌++◌, length, Option, None, Some, ◌∙◌, sym, refl, ap, subst, arith}
 use Rattle.std.specs.Prelude.{is_some, unwrap_or}
 use Rattle.std.specs.FinMap.{find}
 use Rattle.std.specs.Ordering.{eq_by_cmp}
 use Rattle.std.proofs.lemmas.Bool.Decides.{nat_tests}
 use Rattle.ice_base.specs.Lots.{LotView}
-use Rattle.ice_base.specs.Spare.{has}
-use Rattle.ice_base.specs.Used.{is_data}
 use Rattle.ice_map.specs.Maps.{times}
-use Rattle.ice_map.proofs.ListLaws.{times-append, has-none, has-times}
+use Rattle.ice_map.proofs.ListLaws.{times-append, has-times}
 use Rattle.ice_file.specs.Own.{own}
 use Rattle.ice_dir.specs.Rows.{rows_of, look_up, without}
 use Rattle.ice_dir.specs.Changes.{DirSet}
 use Rattle.tree_spec.specs.Trees.{Tree, File, Dir, Entries, rows, by_bytes, Found, walk, and_on, found_or_not, at, without_entry}
 use Rattle.tree_spec.specs.Costs.{Form, form_one}
-use Rattle.ice_reads.specs.Tables.{Map, Table, own_in, rows_in, IsNameOf, inode_named, IsDirInode}
+use Rattle.ice_reads.specs.Tables.{Map, Table, own_in, rows_in, inode_named, IsDirInode}
 use Rattle.ice_reads.specs.Reads.{Reads, used_blocks, used_inodes, tree_uses, entries_use, inode_on}
 use Rattle.ice_reads.specs.Recovers.{MapRecovers}
 use Rattle.ice_reads.proofs.Frames.{times-there}
@@ -28,7 +26,7 @@ use Rattle.ice_reads.proofs.Moves.{Reads-without_entry, uses-without_entry, Read
 use Rattle.ice_steps.specs.Beside.{Beside}
 use Rattle.ice_steps.proofs.Recovers.{recovers_beside}
 use Rattle.ice_steps.proofs.Made.{inode-first, beside_part}
-use Rattle.ice_steps.proofs.Others.{Loose, loose-none, all, tree-once, beside_but}
+use Rattle.ice_steps.proofs.Others.{loose-none, all, tree-once, beside_but}
 use Rattle.ice_steps.proofs.Sets.{Adds, set-inode, dir-after, beside-set}
 
 some_value : (x : Option ℕ) → is_some x ≡ true → x ≡ Some (unwrap_or x 0)
@@ -60,11 +58,10 @@ module _ (f : Form) (lot : LotView) (o p : Table) (here : ℕ) (c : List ℕ) (o
       elim (find by_bytes d (rows es)) as (λ x. find by_bytes d (rows es) ≡ x → and_on (found_or_not x) (λ w. walk to w) ≡ Found u → inode_on f p i (d ∷ to) ≡ inode_on f o i (d ∷ to)) [
         | None ↦ λ a is. absurd (Found≢NotFound _ (sym is))
         | Some w ↦ λ a is.
-            let rest = entries_use f p (λ i. i ∷ []) (rows_in f (p i)) es in
             let next = same_next i d es w (λ ne. same i ne (inode-first f p i (Dir es))) a r.1 in
             let below = entry_reads f lot p (rows_in f (p i)) (h + 1) d es w a r.2 in
             same_walk to (inode_named d (rows_in f (p i))) (h + 1) w u is below (λ x ne l. same x ne
-              (let g = uses-entry f p (λ i. i ∷ []) x (rows_in f (p i)) d es w a in let n = times-there x i (entries_use f p (λ i. i ∷ []) (rows_in f (p i)) es) in omega arith))
+            (let g = uses-entry f p (λ i. i ∷ []) x (rows_in f (p i)) d es w a in let n = times-there x i (entries_use f p (λ i. i ∷ []) (rows_in f (p i)) es) in omega arith))
             ∙ ap (λ x. inode_on f o x to) next
       ] refl e
 
@@ -90,8 +87,10 @@ module _ (mode : ℕ) (lot : LotView) (m m' : Map) (t : Tree) (k : ℕ) (q : Lis
   in-all = let e = times-append (used_inodes form_one (own_in form_one m) 0 t) [] here in let i = in-tree in omega arith
 
   but : SameBut (own_in form_one m) (own_in form_one m') here (used_inodes form_one (own_in form_one m) 0 t)
-  but = record { at = λ x ne h. (beside_but mode lot m t k [] [] b (loose-none lot m) m' here set.set in-all).at x ne
-      (let e = times-append (used_inodes form_one (own_in form_one m) 0 t) [] x in omega arith) }
+  but = record {
+    at = λ x ne h. (beside_but mode lot m t k [] [] b (loose-none lot m) m' here set.set in-all).at x ne
+        (let e = times-append (used_inodes form_one (own_in form_one m) 0 t) [] x in omega arith);
+  }
 
   is-dir : IsDirInode form_one lot (own 64 m here) es
   is-dir = (beside_part mode lot m t k [] [] b q (Dir es) found).1
@@ -134,7 +133,7 @@ module _ (mode : ℕ) (lot : LotView) (m m' : Map) (t : Tree) (k : ℕ) (q : Lis
   pub walk_left : (to : List (List ℕ)) (u : Tree) → walk to (at q (without_entry c) t) ≡ Found u → inode_on form_one (own 64 m') 0 to ≡ inode_on form_one (own 64 m) 0 to
   walk_left to u there = same_walk form_one lot (own_in form_one m) (own_in form_one m') here c loses.others to 0 0 (at q (without_entry c) t) u there after.reads
       (λ x ne h. but.at x ne
-        (let e = moves (λ i. i ∷ []) (λ i. i ∷ []) (λ x e. refl) (λ us. times us x) (λ us vs. times-append us vs x) in
-        let g = times-append (used_inodes form_one (own_in form_one m') 0 (at q (without_entry c) t)) (used_inodes form_one (own_in form_one m') gone v) x in
-        let l = times-append (used_inodes form_one (own_in form_one m) 0 t) [] x in
-        omega arith))
+      (let e = moves (λ i. i ∷ []) (λ i. i ∷ []) (λ x e. refl) (λ us. times us x) (λ us vs. times-append us vs x) in
+      let g = times-append (used_inodes form_one (own_in form_one m') 0 (at q (without_entry c) t)) (used_inodes form_one (own_in form_one m') gone v) x in
+      let l = times-append (used_inodes form_one (own_in form_one m) 0 t) [] x in
+      omega arith))

@@ -1,26 +1,22 @@
 -- The inodes of a tree are well made, and what a walk finds is what they say.
-use Rattle.std.proofs.Common.{◌≡◌, ◌≤◌, ◌<◌, ◌+◌, ◌*◌, ℕ, true, false, List, [], ◌∷◌, ◌++◌, length, length-append, ◌∙◌, sym, refl, ap, subst, arith}
+use Rattle.std.proofs.Common.{◌≡◌, ◌≤◌, ◌<◌, ◌+◌, ◌*◌, ℕ, true, false, List, [], ◌∷◌, length, refl, subst, arith}
 use Rattle.ice_base.specs.Lots.{LotView}
 use Rattle.ice_base.specs.Spare.{has}
-use Rattle.ice_base.specs.Used.{used_block, used_inode, is_data, counted, Reserved}
+use Rattle.ice_base.specs.Used.{used_block, is_data}
 use Rattle.ice_map.specs.Inodes.{inode_of}
 use Rattle.ice_map.specs.Maps.{times}
-use Rattle.ice_map.proofs.ListLaws.{times-append, has-times, has-head, has-right}
-use Rattle.ice_file.specs.Own.{own, file_bytes, mark, WellMade, map_length}
-use Rattle.ice_file.specs.Files.{ReachesTo}
+use Rattle.ice_map.proofs.ListLaws.{times-append, has-times}
+use Rattle.ice_file.specs.Own.{own, mark, WellMade, map_length}
 use Rattle.ice_file.proofs.OwnLaws.{times-none}
-use Rattle.ice_dir.specs.Rows.{IsDirectory}
-use Rattle.tree_spec.specs.Trees.{Tree, File, Dir, Entries, rows, walk, Found}
+use Rattle.tree_spec.specs.Trees.{Tree, File, Dir, walk, Found}
 use Rattle.tree_spec.specs.Costs.{Form, form_one}
 use Rattle.ice_reads.specs.Tables.{Map, Table, own_in, rows_in, RestIsZero}
-use Rattle.ice_reads.specs.Reads.{Reads, tree_uses, entries_use, used_blocks, used_inodes, inode_on}
-use Rattle.ice_reads.specs.Recovers.{MapRecovers}
+use Rattle.ice_reads.specs.Reads.{Reads, entries_use, used_blocks, used_inodes, inode_on}
 use Rattle.ice_reads.proofs.Frames.{times-here}
 use Rattle.ice_reads.proofs.Focus.{Reads-part, uses-part}
 use Rattle.ice_steps.specs.Beside.{Beside}
 use Rattle.ice_steps.proofs.Counts.{mark-small, mark-set}
-use Rattle.ice_steps.proofs.Lengths.{file-size, file-short, dir-short}
-use Rattle.ice_steps.proofs.Recovers.{recovers_beside}
+use Rattle.ice_steps.proofs.Lengths.{file-short, dir-short}
 
 -- what the inode at the top of a tree uses
 pub own-first : (f : Form) (o : Table) (i : ℕ) (s : Tree) (b : ℕ) → times (o i).uses b ≤ times (used_blocks f o i s) b
@@ -39,8 +35,6 @@ module _ (lot : LotView) (few : length lot.groups ≤ 64) (m : Map) where
   -- an inode that stands for a tree is well made where its blocks are marked, each once
   pub made-reads : (i h : ℕ) (s : Tree) → Reads form_one lot (own_in form_one m) i h s → ((b : ℕ) → is_data lot b ≡ true → times (own 64 m i).uses b ≤ mark (used_block m b)) → WellMade lot 64 m i
   made-reads i h s r marks =
-      let places : (b : ℕ) → has (own 64 m i).uses b ≡ true → is_data lot b ≡ true = own_places i h s r in
-      let rest = own_rest i h s r in
       record {
         holds = λ b u. (own_places i h s r b u, mark-set (used_block m b) (let n = has-times (own 64 m i).uses b u in let l = marks b (own_places i h s r b u) in omega arith));
         once = λ b. elim (has (own 64 m i).uses b) as (λ t. has (own 64 m i).uses b ≡ t → times (own 64 m i).uses b ≤ 1) [

@@ -1,24 +1,20 @@
 -- What the calls of the layers below need of a map with a tree and loose things, so that they answer no damage.
-use Rattle.std.proofs.Common.{◌≡◌, ◌≤◌, ◌<◌, ◌+◌, ◌*◌, ℕ, true, false, List, [], ◌∷◌, ◌++◌, length, length-append, cond, Option, None, Some, ◌∙◌, sym, refl, ap, subst, arith}
-use Rattle.std.specs.Ordering.{eq_by_cmp}
-use Rattle.std.specs.FinMap.{find}
+use Rattle.std.proofs.Common.{◌≡◌, ◌≤◌, ℕ, false, List, [], ◌∷◌, length, length-append, ◌∙◌, refl, ap, arith}
 use Rattle.ice_base.specs.Lots.{LotView}
 use Rattle.ice_base.specs.Used.{counted, Reserved}
 use Rattle.ice_map.specs.declared.codec.Inode.{Inode}
 use Rattle.ice_map.specs.Inodes.{inode_of}
-use Rattle.ice_map.specs.Maps.{times}
-use Rattle.ice_map.proofs.ListLaws.{times-append}
 use Rattle.ice_file.specs.Own.{own, blocks_for, map_length}
 use Rattle.ice_file.specs.Files.{ReachesTo}
 use Rattle.ice_file.specs.Writes.{uses_of}
 use Rattle.ice_file.proofs.ByteLaws.{file_length}
 use Rattle.ice_file.proofs.OwnLaws.{length-uses}
 use Rattle.ice_dir.specs.Changes.{HasRoom, dir_blocks}
-use Rattle.tree_spec.specs.Trees.{Tree, File, Dir, Entries, Nil, Entry, rows, by_bytes, walk, Found, at, total_in}
+use Rattle.tree_spec.specs.Trees.{Tree, File, Dir, Entries, Nil, Entry, rows, walk, Found, at, total_in}
 use Rattle.tree_spec.specs.Costs.{form_one, nodes}
 use Rattle.tree_spec.proofs.Sums.{total-at}
 use Rattle.ice_reads.specs.Tables.{Map, own_in}
-use Rattle.ice_reads.specs.Reads.{Reads, used_blocks, used_inodes, inode_on}
+use Rattle.ice_reads.specs.Reads.{used_blocks, used_inodes, inode_on}
 use Rattle.ice_reads.proofs.Focus.{uses-part}
 use Rattle.ice_reads.proofs.Numbers.{uses-flat}
 use Rattle.ice_steps.specs.Beside.{Beside}
@@ -26,7 +22,7 @@ use Rattle.ice_steps.proofs.Lengths.{length-inodes}
 use Rattle.ice_steps.proofs.Made.{inode-first}
 use Rattle.ice_steps.proofs.Others.{length-one_of}
 use Rattle.ice_steps.proofs.Quotas.{beside_free_nodes}
-use Rattle.ice_steps.proofs.Walks.{FileAt, DirAt, beside_file, beside_dir}
+use Rattle.ice_steps.proofs.Walks.{FileAt, beside_dir}
 
 -- a file of these bytes reaches to each place in them
 pub reaches_to : (m : Map) (i at : ℕ) (bytes : List ℕ) → FileAt m i bytes → at ≤ length bytes → ReachesTo at (inode_of m i)

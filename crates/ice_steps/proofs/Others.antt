@@ -1,5 +1,5 @@
 -- Where one inode was set, every other one of the tree and beside it says what it said.
-use Rattle.std.proofs.Common.{◌≡◌, ◌≢◌, ◌≤◌, ◌<◌, ◌+◌, ◌*◌, ◌==◌, ℕ, suc, zero, true, false, List, [], ◌∷◌, ◌++◌, length, length-append, ◌⊎◌, inl, inr, ⊎_elim, ◌∙◌, sym, refl, ap, subst, arith, ltb}
+use Rattle.std.proofs.Common.{◌≡◌, ◌≤◌, ◌<◌, ◌+◌, ◌*◌, ◌==◌, ℕ, true, false, List, [], ◌∷◌, ◌++◌, length, length-append, ◌∙◌, sym, refl, ap, arith, ltb}
 use Rattle.std.specs.Prelude.{flat_map}
 use Rattle.std.proofs.lemmas.Grind.{flat_map-append}
 use Rattle.std.proofs.lemmas.Bool.Decides.{nat_tests}
@@ -14,11 +14,11 @@ use Rattle.tree_spec.specs.Trees.{Tree}
 use Rattle.tree_spec.specs.Costs.{form_one}
 use Rattle.ice_reads.specs.Tables.{Map, own_in}
 use Rattle.ice_reads.specs.Reads.{Reads, used_blocks, used_inodes}
-use Rattle.ice_reads.proofs.Frames.{SameAt, times-other}
-use Rattle.ice_reads.proofs.Numbers.{uses-flat, one_of, apart, Reads-inode, Reads-number}
+use Rattle.ice_reads.proofs.Frames.{times-other}
+use Rattle.ice_reads.proofs.Numbers.{uses-flat, one_of, apart, Reads-number}
 use Rattle.ice_reads.proofs.Steps.{SameBut, IsOnce}
 use Rattle.ice_steps.specs.Beside.{Beside}
-use Rattle.ice_steps.proofs.Counts.{mark-small, mark-set, times-same}
+use Rattle.ice_steps.proofs.Counts.{mark-small, mark-set}
 use Rattle.ice_steps.proofs.Still.{used-places}
 
 -- what one of the inodes uses is part of what all of them use
@@ -103,8 +103,13 @@ module _ (mode : ℕ) (lot : LotView) (m : Map) (t : Tree) (k : ℕ) (xs is : Li
 
     -- where the inode p was set, each other one says what it said
     pub beside_but : (m' : Map) (p : ℕ) → OwnSet lot 64 m m' p → 0 < times all p → SameBut (own 64 m) (own 64 m') p all
-    beside_but m' p set here = record { at = λ x ne h. set.others x ne
-        (λ a u. (all-places x h a u, mark-set (used_block m a)
-          (let n = has-times (mine x) a u in let s = one_of mine a x all h in let e = all-marks a (all-places x h a u) in omega arith)))
-        (λ a u. times-zero (mine p) a
-          (let n = has-times (mine x) a u in let s = apart mine a x p all ne h here in let e = all-marks a (all-places x h a u) in let z = mark-small (used_block m a) in omega arith)) }
+    beside_but m' p set here = record {
+      at = λ x ne h. set.others x ne
+          (λ a u. (
+            all-places x h a u,
+            mark-set (used_block m a)
+                (let n = has-times (mine x) a u in let s = one_of mine a x all h in let e = all-marks a (all-places x h a u) in omega arith),
+          ))
+          (λ a u. times-zero (mine p) a
+          (let n = has-times (mine x) a u in let s = apart mine a x p all ne h here in let e = all-marks a (all-places x h a u) in let z = mark-small (used_block m a) in omega arith));
+    }

@@ -1,17 +1,16 @@
 -- What is free in a lot, and how great its counts are.
-use Rattle.std.proofs.Common.{◌≡◌, ◌≤◌, ◌<◌, ◌+◌, ◌*◌, ◌%◌, ◌==◌, ℕ, suc, Bool, true, false, cond, not, ◌&&◌, List, [], ◌∷◌, ◌++◌, length, length-append, ◌⊎◌, inl, inr, ⊎_elim, ◌∙◌, sym, refl, ap, arith, ltb}
+use Rattle.std.proofs.Common.{◌≡◌, ◌≤◌, ◌<◌, ◌+◌, ◌*◌, ℕ, Bool, true, false, ◌&&◌, List, [], ◌++◌, length, length-append, sym, refl, ap, arith, ltb}
 use Rattle.std.proofs.lemmas.Bool.Decides.{nat_tests}
-use Rattle.ice_base.specs.Bits.{count_below}
 use Rattle.ice_base.specs.Lots.{LotView}
 use Rattle.ice_base.specs.Spare.{has}
 use Rattle.ice_base.specs.Used.{used_block, used_inode, is_data, counted, free_count, Reserved}
 use Rattle.ice_base.proofs.UsedLaws.{group_mod, data_of, data_place, data_below}
 use Rattle.ice_base.proofs.CountLaws.{count_below-not}
 use Rattle.ice_map.specs.Maps.{times}
-use Rattle.ice_map.proofs.ListLaws.{times-append, has-append, has-times}
-use Rattle.ice_file.specs.Own.{own, mark}
+use Rattle.ice_map.proofs.ListLaws.{has-append, has-times}
+use Rattle.ice_file.specs.Own.{mark}
 use Rattle.ice_file.proofs.OwnLaws.{times-has}
-use Rattle.tree_spec.specs.Trees.{Tree, File, Dir, Entries, Nil, Entry}
+use Rattle.tree_spec.specs.Trees.{Tree}
 use Rattle.tree_spec.specs.Costs.{form_one, blocks, nodes, block_quota, node_quota}
 use Rattle.ice_reads.specs.Tables.{Map, own_in}
 use Rattle.ice_reads.specs.Reads.{used_blocks, used_inodes}
@@ -20,7 +19,7 @@ use Rattle.ice_reads.proofs.Numbers.{Reads-data}
 use Rattle.ice_steps.specs.Beside.{Beside}
 use Rattle.ice_steps.proofs.Recovers.{recovers_beside}
 use Rattle.ice_steps.proofs.Others.{all-small}
-use Rattle.ice_steps.proofs.Counts.{count-times, count-groups, mark-clear}
+use Rattle.ice_steps.proofs.Counts.{count-times, count-groups}
 use Rattle.ice_steps.proofs.Lengths.{length-inodes, length-blocks}
 
 -- the marked data places
@@ -40,11 +39,10 @@ module _ (lot : LotView) (m : Map) where
   pub blocks-counted : (xs : List ℕ) → Reserved lot m → ((b : ℕ) → has xs b ≡ true → is_data lot b ≡ true) → ((b : ℕ) → is_data lot b ≡ true → times xs b ≡ mark (used_block m b))
       → free_count false lot m + length xs ≡ 247 * length lot.groups
   blocks-counted xs reserved places marks =
-      let n : ℕ = length lot.groups in
       let groups = count-groups (used_block m) (data_used lot m) (length lot.groups)
-          (λ o j h l. reserved.set (256 * o + j) (omega arith) (let e = group_mod false o j (omega arith) in omega arith))
-          (λ o j h l. ap (λ t. t && used_block m (256 * o + j)) (not-data lot o j l))
-          (λ o j h l k. ap (λ t. t && used_block m (256 * o + j)) (sym (data_of lot (256 * o + j) (omega arith) (let e = group_mod false o j k in omega arith)))) in
+      (λ o j h l. reserved.set (256 * o + j) (omega arith) (let e = group_mod false o j (omega arith) in omega arith))
+      (λ o j h l. ap (λ t. t && used_block m (256 * o + j)) (not-data lot o j l))
+      (λ o j h l k. ap (λ t. t && used_block m (256 * o + j)) (sym (data_of lot (256 * o + j) (omega arith) (let e = group_mod false o j k in omega arith)))) in
       let listed = count-times (data_used lot m) (256 * length lot.groups) xs (λ a h. data_below lot a (places a h)) (λ a h. at a) in
       let free = count_below-not (used_block m) (256 * length lot.groups) in
       omega arith
@@ -98,10 +96,10 @@ module _ (mode : ℕ) (lot : LotView) (m : Map) (t : Tree) (k : ℕ) (xs is : Li
   beside_counts = (
     (let c = used_blocks_fill in let e = b.block_count in omega arith),
     (let e = b.inode_count in
-    let a = length-append (used_inodes form_one (own_in form_one m) 0 t) is in
-    let n = length-inodes form_one (own_in form_one m) 0 t in
-    let c = beside_free_nodes in
-    omega arith),
+        let a = length-append (used_inodes form_one (own_in form_one m) 0 t) is in
+        let n = length-inodes form_one (own_in form_one m) 0 t in
+        let c = beside_free_nodes in
+        omega arith),
   )
 
 -- what is free beside the tree

@@ -1,8 +1,7 @@
 -- A map recovers a tree where it holds the tree and nothing beside it.
-use Rattle.std.proofs.Common.{◌≡◌, ℕ, true, List, [], ◌++◌, length, ◌∙◌, sym, refl, ap, arith}
+use Rattle.std.proofs.Common.{ℕ, List, [], length, ◌∙◌, sym, ap}
 use Rattle.std.proofs.lemmas.List.{append-nil}
 use Rattle.ice_base.specs.Lots.{LotView}
-use Rattle.ice_base.specs.Spare.{has}
 use Rattle.ice_map.specs.Maps.{times}
 use Rattle.ice_map.proofs.ListLaws.{has-none}
 use Rattle.tree_spec.specs.Trees.{Tree}

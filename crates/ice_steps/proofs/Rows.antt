@@ -1,17 +1,15 @@
 -- A directory of the tree that gained a row for a tree that stood loose.
-use Rattle.std.proofs.Common.{◌≡◌, ◌≢◌, ◌≤◌, ◌<◌, ◌+◌, ◌*◌, ℕ, suc, true, false, List, [], ◌∷◌, ◌++◌, length, length-append, None, ◌∙◌, sym, refl, ap, subst, arith}
+use Rattle.std.proofs.Common.{◌≡◌, ◌<◌, ◌+◌, ℕ, List, [], ◌∷◌, ◌++◌, length, None, refl, ap, arith}
 use Rattle.std.specs.FinMap.{find}
 use Rattle.ice_base.specs.Lots.{LotView}
-use Rattle.ice_base.specs.Spare.{has}
-use Rattle.ice_base.specs.Used.{is_data}
 use Rattle.ice_map.specs.Maps.{times}
 use Rattle.ice_map.proofs.ListLaws.{times-append, has-none}
 use Rattle.ice_file.specs.Own.{own}
 use Rattle.ice_dir.specs.Rows.{rows_of}
 use Rattle.ice_dir.specs.Changes.{DirSet}
-use Rattle.tree_spec.specs.Trees.{Tree, File, Dir, Entries, rows, by_bytes, Found, walk, at, with_entry}
+use Rattle.tree_spec.specs.Trees.{Tree, Dir, Entries, rows, by_bytes, Found, walk, at, with_entry}
 use Rattle.tree_spec.specs.Costs.{form_one}
-use Rattle.ice_reads.specs.Tables.{Map, own_in, rows_in, IsNameOf}
+use Rattle.ice_reads.specs.Tables.{Map, own_in, IsNameOf}
 use Rattle.ice_reads.specs.Reads.{Reads, used_blocks, used_inodes, tree_uses, inode_on}
 use Rattle.ice_reads.proofs.Frames.{SameAt, Reads-frame, uses-frame}
 use Rattle.ice_reads.proofs.Focus.{uses-part}
@@ -54,9 +52,11 @@ module _ (mode : ℕ) (lot : LotView) (m m' : Map) (t : Tree) (k : ℕ) (q : Lis
   tree-but = record { at = λ x ne h. but.at x ne (let e = times-append (used_inodes form_one (own_in form_one m) 0 t) inodes x in omega arith) }
 
   loose-same : SameAt (own_in form_one m) (own_in form_one m') (used_inodes form_one (own_in form_one m) j v)
-  loose-same = record { at = λ x h. but.at x
-      (λ e. let a = all-apart mode lot m t k blocks inodes b x in let i = in-tree in let n = ap (λ y. times (used_inodes form_one (own_in form_one m) 0 t) y) e in absurd (omega arith))
-      (let e = times-append (used_inodes form_one (own_in form_one m) 0 t) inodes x in omega arith) }
+  loose-same = record {
+    at = λ x h. but.at x
+        (λ e. let a = all-apart mode lot m t k blocks inodes b x in let i = in-tree in let n = ap (λ y. times (used_inodes form_one (own_in form_one m) 0 t) y) e in absurd (omega arith))
+        (let e = times-append (used_inodes form_one (own_in form_one m) 0 t) inodes x in omega arith);
+  }
 
   adds : AddsRow form_one lot (own 64 m here) (own 64 m' here) here (length q) c j
   adds = adds_row form_one lot (own 64 m here) (own 64 m' here) here (length q) (set-inode lot m m' here (length q) set.set) set.is.kind set.is.few c j set.rows
@@ -75,7 +75,7 @@ module _ (mode : ℕ) (lot : LotView) (m m' : Map) (t : Tree) (k : ℕ) (q : Lis
   gains_row = beside-set mode lot m m' t (at q (with_entry c v) t) k blocks [] inodes [] here b loose in-all set.set
       (dir-after q (with_entry c v) t (Dir es) found b.dir (λ e. refl))
       (Reads-with_entry form_one lot (own_in form_one m) (own_in form_one m') q c j v t es b.reads found free name (tree-once mode lot m t k blocks inodes b) tree-but adds
-        (Reads-frame form_one lot (own_in form_one m) (own_in form_one m') j (length q + 1) v loose-same r))
+      (Reads-frame form_one lot (own_in form_one m) (own_in form_one m') j (length q + 1) v loose-same r))
       (λ measure sums. moves (λ i. (own 64 m i).uses) (λ i. (own 64 m' i).uses) (λ x e. ap (λ o. o.uses) e) measure sums)
       (λ measure sums. let e = moves (λ i. i ∷ []) (λ i. i ∷ []) (λ x e. refl) measure sums in omega arith)
       (λ a h. let n = has-none a in absurd cc)

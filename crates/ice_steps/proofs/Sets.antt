@@ -1,20 +1,19 @@
 -- What a map holds after one inode of the tree, or beside it, was set.
-use Rattle.std.proofs.Common.{◌≡◌, ◌≢◌, ◌≤◌, ◌<◌, ◌+◌, ◌*◌, ◌%◌, ℕ, true, false, List, [], ◌∷◌, ◌++◌, length, length-append, ◌∙◌, sym, refl, ap, subst, arith}
-use Rattle.ice_base.specs.Lots.{LotView, sub_address}
+use Rattle.std.proofs.Common.{◌≡◌, ◌<◌, ◌+◌, ◌*◌, ◌%◌, ℕ, true, false, List, [], ◌∷◌, ◌++◌, length, length-append, ◌∙◌, sym, refl, ap, arith}
+use Rattle.ice_base.specs.Lots.{LotView}
 use Rattle.ice_base.specs.Spare.{has}
-use Rattle.ice_base.specs.Used.{used_block, used_inode, is_data, counted, Reserved}
+use Rattle.ice_base.specs.Used.{used_block, is_data, Reserved}
 use Rattle.ice_base.proofs.UsedLaws.{data_place}
-use Rattle.ice_map.specs.Inodes.{inode_of}
 use Rattle.ice_map.specs.Maps.{times}
 use Rattle.ice_map.proofs.ListLaws.{times-append}
-use Rattle.ice_file.specs.Own.{own, mark, OwnSet, map_length}
+use Rattle.ice_file.specs.Own.{own, mark, OwnSet}
 use Rattle.ice_file.proofs.OwnLaws.{times-none}
-use Rattle.tree_spec.specs.Trees.{Tree, File, Dir, Entries, Walk, Found, walk, at, over_child}
+use Rattle.tree_spec.specs.Trees.{Tree, File, Dir, Found, walk, at}
 use Rattle.tree_spec.specs.Costs.{form_one}
 use Rattle.tree_spec.specs.Answers.{is_dir}
 use Rattle.ice_reads.specs.Tables.{Map, own_in, IsInode}
 use Rattle.ice_reads.specs.Reads.{Reads, used_blocks, used_inodes}
-use Rattle.ice_reads.proofs.Focus.{same_Found, Found≢NotDir}
+use Rattle.ice_reads.proofs.Focus.{same_Found}
 use Rattle.ice_steps.specs.Beside.{Beside}
 use Rattle.ice_steps.proofs.Counts.{mark-same}
 use Rattle.ice_steps.proofs.SubLaws.{says-beside, counted-inodes}
@@ -47,11 +46,13 @@ module _ (mode : ℕ) (lot : LotView) (m m' : Map) (t t' : Tree) (k : ℕ) (xs y
   ] refl)
 
   set-reserved : Reserved lot m'
-  set-reserved = record { set = λ a h low.
-      let e = set.marks.used a in
-      let x = not-in (own 64 m p).uses a (all-places mode lot m t k xs is b l p here) low in
-      let y = not-in (own 64 m' p).uses a (λ b u. (set.made.holds b u).0) low in
-      mark-same (used_block m' a) (used_block m a) (omega arith) ∙ b.reserved.set a h low }
+  set-reserved = record {
+    set = λ a h low.
+        let e = set.marks.used a in
+        let x = not-in (own 64 m p).uses a (all-places mode lot m t k xs is b l p here) low in
+        let y = not-in (own 64 m' p).uses a (λ b u. (set.made.holds b u).0) low in
+        mark-same (used_block m' a) (used_block m a) (omega arith) ∙ b.reserved.set a h low;
+  }
 
   pub beside-set : is_dir t' ≡ true → Reads form_one lot (own_in form_one m') 0 0 t'
       → ((measure : List ℕ → ℕ) → Adds measure → measure (used_blocks form_one (own_in form_one m') 0 t' ++ ys) + measure (own 64 m p).uses ≡ measure (used_blocks form_one (own_in form_one m) 0 t ++ xs) + measure (own 64 m' p).uses)

@@ -1,11 +1,10 @@
 -- Where the inodes of a tree say what they said, a walk comes to the inode to which it came, and that has the same rows and bytes.
-use Rattle.std.proofs.Common.{◌≡◌, ◌≤◌, ◌<◌, ◌+◌, ℕ, List, [], ◌∷◌, ◌++◌, Option, None, Some, ◌∙◌, sym, refl, ap, arith}
+use Rattle.std.proofs.Common.{◌≡◌, ◌<◌, ℕ, List, [], ◌∷◌, None, Some, ◌∙◌, sym, refl, ap, arith}
 use Rattle.std.specs.FinMap.{find}
 use Rattle.ice_map.specs.Maps.{times}
-use Rattle.ice_map.proofs.ListLaws.{times-append}
 use Rattle.ice_file.specs.Own.{own}
 use Rattle.ice_dir.specs.Rows.{rows_of}
-use Rattle.tree_spec.specs.Trees.{Tree, File, Dir, Entries, rows, by_bytes, walk, and_on, found_or_not, Found}
+use Rattle.tree_spec.specs.Trees.{Tree, File, Dir, rows, by_bytes, walk, and_on, found_or_not, Found}
 use Rattle.tree_spec.specs.Costs.{Form, form_one}
 use Rattle.ice_reads.specs.Tables.{Map, Table, own_in, rows_in, inode_named}
 use Rattle.ice_reads.specs.Reads.{used_inodes, entries_use, inode_on}
@@ -23,7 +22,7 @@ module _ (f : Form) (o p : Table) where
         | Some u ↦ λ e is.
             ap (λ x. inode_on f p (inode_named c (rows_in f x)) q) (same i (inode-first f o i (Dir es)))
             ∙ same_walk q (inode_named c (rows_in f (o i))) u s is (λ x l. same x
-              (let g = uses-entry f o (λ i. i ∷ []) x (rows_in f (o i)) c es u e in let n = times-there x i (entries_use f o (λ i. i ∷ []) (rows_in f (o i)) es) in omega arith))
+            (let g = uses-entry f o (λ i. i ∷ []) x (rows_in f (o i)) c es u e in let n = times-there x i (entries_use f o (λ i. i ∷ []) (rows_in f (o i)) es) in omega arith))
       ] refl found
 
 module _ (m m' : Map) (t : Tree) (same : SameAt (own 64 m) (own 64 m') (used_inodes form_one (own 64 m) 0 t)) (q : List (List ℕ)) (s : Tree) (found : walk q t ≡ Found s) where

@@ -1,14 +1,14 @@
 -- What a map holds beside a tree whose inodes all say what they said.
-use Rattle.std.proofs.Common.{◌≡◌, ◌≤◌, ◌<◌, ◌+◌, ◌*◌, ◌%◌, ℕ, true, false, List, [], ◌∷◌, ◌++◌, length, length-append, ◌∙◌, sym, refl, ap, subst, arith}
+use Rattle.std.proofs.Common.{◌≡◌, ◌<◌, ◌+◌, ◌*◌, ◌%◌, ℕ, true, false, List, [], ◌∷◌, length, length-append, ◌∙◌, refl, ap, arith}
 use Rattle.ice_base.specs.Lots.{LotView, sub_address}
 use Rattle.ice_base.specs.Spare.{has}
-use Rattle.ice_base.specs.Used.{used_block, used_inode, is_data, counted, Reserved}
+use Rattle.ice_base.specs.Used.{used_block, used_inode, is_data, counted}
 use Rattle.ice_map.specs.Maps.{times}
 use Rattle.ice_map.proofs.ListLaws.{times-append}
 use Rattle.ice_file.specs.Own.{own, mark}
 use Rattle.tree_spec.specs.Trees.{Tree}
 use Rattle.tree_spec.specs.Costs.{form_one}
-use Rattle.ice_reads.specs.Tables.{Map, own_in, IsInode}
+use Rattle.ice_reads.specs.Tables.{Map, own_in}
 use Rattle.ice_reads.specs.Reads.{Reads, used_blocks, used_inodes}
 use Rattle.ice_reads.specs.Recovers.{SubSays}
 use Rattle.ice_reads.proofs.Frames.{SameAt, Reads-frame, uses-frame}
@@ -28,12 +28,10 @@ module _ (mode : ℕ) (lot : LotView) (m m' : Map) (t : Tree) (k k' : ℕ) (xs y
   pub beside-still : Beside form_one mode lot m t k xs is → SubSays form_one mode lot.slot (m' sub_address) k' → SameAt (own_in form_one m) (own_in form_one m') (used_inodes form_one (own_in form_one m) 0 t)
       → ((b : ℕ) → b < 256 * length lot.groups → b % 256 < 9 → used_block m' b ≡ used_block m b) → BesideMoves lot m m' xs ys is js → Beside form_one mode lot m' t k' ys js
   beside-still b sub same reserved moves =
-      let o = own_in form_one m in
-      let p = own_in form_one m' in
       let e : used_blocks form_one (own_in form_one m') 0 t ≡ used_blocks form_one (own_in form_one m) 0 t =
-          uses-frame form_one (own_in form_one m) (own_in form_one m') (λ i. (own_in form_one m i).uses) (λ i. (own_in form_one m' i).uses) (λ i e. ap (λ x. x.uses) e) 0 t same in
+      uses-frame form_one (own_in form_one m) (own_in form_one m') (λ i. (own_in form_one m i).uses) (λ i. (own_in form_one m' i).uses) (λ i e. ap (λ x. x.uses) e) 0 t same in
       let g : used_inodes form_one (own_in form_one m') 0 t ≡ used_inodes form_one (own_in form_one m) 0 t =
-          uses-frame form_one (own_in form_one m) (own_in form_one m') (λ i. i ∷ []) (λ i. i ∷ []) (λ i e. refl) 0 t same in
+      uses-frame form_one (own_in form_one m) (own_in form_one m') (λ i. i ∷ []) (λ i. i ∷ []) (λ i e. refl) 0 t same in
       record {
         sub = sub;
         dir = b.dir;

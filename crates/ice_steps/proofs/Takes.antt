@@ -1,30 +1,25 @@
 -- An inode that was taken or given back, and a count of operations that was set.
-use Rattle.std.proofs.Common.{◌≡◌, ◌≢◌, ◌≤◌, ◌<◌, ◌+◌, ◌-◌, ◌*◌, ◌/◌, ◌%◌, ◌==◌, ℕ, true, false, cond, List, [], ◌∷◌, ◌++◌, length, length-append, ◌∙◌, sym, refl, ap, subst, arith}
+use Rattle.std.proofs.Common.{◌≡◌, ◌≢◌, ◌≤◌, ◌<◌, ◌+◌, ◌-◌, ◌*◌, ◌/◌, ◌==◌, ℕ, true, false, cond, List, [], ◌∷◌, length, length-append, ◌∙◌, sym, refl, ap, arith}
 use Rattle.std.proofs.lemmas.Bool.Decides.{nat_tests}
-use Rattle.ice_base.specs.Inodes.{inode_address}
 use Rattle.ice_base.specs.Lots.{LotView, sub_address}
 use Rattle.ice_base.specs.Pools.{TookInode, GaveInode}
-use Rattle.ice_base.specs.Spare.{has}
-use Rattle.ice_base.specs.Used.{used_block, used_inode, is_data, bitmap_of, counted}
-use Rattle.ice_map.specs.declared.codec.Inode.{Inode}
-use Rattle.ice_map.specs.Inodes.{InodeSet}
+use Rattle.ice_base.specs.Used.{used_inode, bitmap_of, counted}
 use Rattle.ice_map.specs.Maps.{times}
-use Rattle.ice_map.proofs.ListLaws.{times-append, has-cons, has-none, has-one, has-head}
+use Rattle.ice_map.proofs.ListLaws.{has-none, has-one}
 use Rattle.ice_map.proofs.MarkLaws.{used-same}
-use Rattle.ice_map.proofs.GrowLaws.{inode_not_bitmap, inode_not_sub}
 use Rattle.ice_file.specs.Own.{own, mark}
 use Rattle.tree_spec.specs.Trees.{Tree}
 use Rattle.tree_spec.specs.Costs.{form_one}
 use Rattle.ice_reads.specs.Tables.{Map, own_in}
-use Rattle.ice_reads.specs.Reads.{used_blocks, used_inodes}
+use Rattle.ice_reads.specs.Reads.{used_inodes}
 use Rattle.ice_reads.specs.Recovers.{MapRecovers}
 use Rattle.ice_reads.proofs.Frames.{SameAt}
 use Rattle.ice_steps.specs.Beside.{Beside, OnlyAt, DoneSet}
 use Rattle.ice_steps.proofs.Counts.{times-same, times-other}
-use Rattle.ice_steps.proofs.Keeps.{only-one, only-two, marks-own, sub-own, put-own}
+use Rattle.ice_steps.proofs.Keeps.{only-one, only-two, marks-own, sub-own}
 use Rattle.ice_steps.proofs.Recovers.{beside_recovers, recovers_beside}
 use Rattle.ice_steps.proofs.Still.{beside-still, used-places}
-use Rattle.ice_steps.proofs.SubLaws.{says-counted, says-done, counted-other, counted-done, says-same}
+use Rattle.ice_steps.proofs.SubLaws.{says-counted, says-done, counted-other, counted-done}
 
 -- a number alone
 mark-alone : (j i : ℕ) → i ≡ j → times (j ∷ []) i ≡ 1

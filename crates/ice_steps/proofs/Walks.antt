@@ -1,12 +1,10 @@
 -- What a walk of a recovered tree finds, and what a map with a tree and loose things holds.
-use Rattle.std.proofs.Common.{◌≡◌, ◌≤◌, ◌<◌, ◌+◌, ◌*◌, ℕ, true, false, List, [], ◌∷◌, ◌++◌, length, length-append, ◌∙◌, sym, refl, ap, subst, arith}
+use Rattle.std.proofs.Common.{◌≡◌, ◌≤◌, ◌<◌, ◌*◌, ℕ, true, List, [], ◌∷◌, length, length-append, sym, arith}
 use Rattle.ice_base.specs.Lots.{LotView}
-use Rattle.ice_base.specs.Spare.{has}
-use Rattle.ice_base.specs.Used.{used_block, used_inode, is_data, counted, Reserved}
+use Rattle.ice_base.specs.Used.{used_inode, counted, Reserved}
 use Rattle.ice_map.specs.Inodes.{inode_of}
-use Rattle.ice_map.specs.Maps.{times}
 use Rattle.ice_map.proofs.ListLaws.{times-append, has-head}
-use Rattle.ice_file.specs.Own.{own, file_bytes, mark, WellMade}
+use Rattle.ice_file.specs.Own.{own, file_bytes, WellMade}
 use Rattle.ice_dir.specs.Rows.{IsDirectory}
 use Rattle.tree_spec.specs.Trees.{Tree, File, Dir, Entries, rows, walk, Found}
 use Rattle.tree_spec.specs.Costs.{form_one}
@@ -14,7 +12,6 @@ use Rattle.ice_reads.specs.Tables.{Map, own_in}
 use Rattle.ice_reads.specs.Reads.{Reads, used_blocks, used_inodes, inode_on}
 use Rattle.ice_reads.specs.Recovers.{MapRecovers}
 use Rattle.ice_reads.proofs.Frames.{times-here}
-use Rattle.ice_reads.proofs.Focus.{uses-part}
 use Rattle.ice_steps.specs.Beside.{Beside}
 use Rattle.ice_steps.proofs.Counts.{mark-set}
 use Rattle.ice_steps.proofs.Lengths.{file-size}
