@@ -3,3 +3,4 @@ pub mod Outcomes
 pub mod Stages
 pub mod Changes
 pub mod Moves
+pub mod Renames

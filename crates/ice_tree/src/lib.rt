@@ -10,7 +10,9 @@ mod makes;
 mod paths;
 mod place;
 mod quota;
+mod renames;
 
 pub use looks::{read, stat};
 pub use makes::mkdir;
 pub use place::Place;
+pub use renames::rename;
