@@ -1,8 +1,11 @@
-pub mod Chains
-pub mod Names
-pub mod PlaceLaws
 pub mod QuotaLaws
 pub mod StageLaws
 pub mod EndLaws
+pub mod CountLaws
+pub mod MakeLaws
+pub mod Chains
+pub mod Names
+pub mod PlaceLaws
 pub mod HeightLaws
 pub mod LookLaws
+pub mod RenameLaws

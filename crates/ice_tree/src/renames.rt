@@ -4,7 +4,7 @@ ghost use Rattle.ice_base.specs.Disk.{Rose};
 ghost use Rattle.ice_base.specs.Lots.{LotView, is_sited, sub_address};
 ghost use Rattle.ice_base.specs.Views.{Looked, Spent};
 ghost use Rattle.ice_base.specs.declared.fault.OpFault.TheVariants.{Disk as FaultDisk};
-ghost use Rattle.tree_spec.specs.Answers.{answer, refusal, next, is_root, is_not_found, is_not_dir, deepest};
+ghost use Rattle.tree_spec.specs.Answers.{answer, refusal, next, is_root, is_found, is_not_found, is_not_dir, deepest};
 ghost use Rattle.tree_spec.specs.Costs.{Form, form_of, map_cost, dir_blocks};
 ghost use Rattle.tree_spec.specs.Operations.{Rename};
 ghost use Rattle.tree_spec.specs.Replies.{number_of, refused_of};
@@ -71,39 +71,42 @@ fn begins(path: &Path, to: &Path, depth: usize) -> bool
     true
 }
 
-/// Whether a walk ended at a directory without the next name.
-fn is_missing(place: Place) -> bool
-    ensures { (i : ℕ) (w : Walk) → place ≡ place_by i w → result ≡ is_not_found w }
+/// Whether one of two walks ended at a directory without the next name: that of the path, and that to the directory of the new path.
+fn is_one_missing(end: Place, parent: Place) -> bool
+    ensures { (i j : ℕ) (v w : Walk) → end ≡ place_by i v → parent ≡ place_by j w → result ≡ (is_not_found v || is_not_found (needs_dir w)) }
 {
-    match place {
+    match end {
         Place::Missing => true,
-        Place::File { .. } => false,
-        Place::Dir { .. } => false,
-        Place::Blocked => false,
+        _ => match parent {
+            Place::Missing => true,
+            _ => false,
+        },
     }
 }
 
-/// Whether a walk ended at a file with a name left.
-fn is_blocked(place: Place) -> bool
-    ensures { (i : ℕ) (w : Walk) → place ≡ place_by i w → result ≡ is_not_dir w }
+/// Whether one of them ended at a file with a name left, the second one with or without.
+fn is_one_blocked(end: Place, parent: Place) -> bool
+    ensures { (i j : ℕ) (v w : Walk) → end ≡ place_by i v → parent ≡ place_by j w → result ≡ (is_not_dir v || is_not_dir (needs_dir w)) }
 {
-    match place {
-        Place::Missing => false,
-        Place::File { .. } => false,
-        Place::Dir { .. } => false,
+    match end {
         Place::Blocked => true,
+        _ => match parent {
+            Place::Blocked => true,
+            Place::File { .. } => true,
+            _ => false,
+        },
     }
 }
 
-/// Whether a walk ended at a file, with or without a name left.
-fn is_no_dir(place: Place) -> bool
-    ensures { (i : ℕ) (w : Walk) → place ≡ place_by i w → result ≡ is_not_dir (needs_dir w) }
+/// Whether a walk found something.
+fn is_there(place: Place) -> bool
+    ensures { (i : ℕ) (w : Walk) → place ≡ place_by i w → result ≡ is_found w }
 {
     match place {
-        Place::Missing => false,
         Place::File { .. } => true,
-        Place::Dir { .. } => false,
-        Place::Blocked => true,
+        Place::Dir { .. } => true,
+        Place::Missing => false,
+        Place::Blocked => false,
     }
 }
 
@@ -159,10 +162,10 @@ fn check_ends(
     ensures set { IfErr result IsTreeRefusal }
     ensures faultless { IsErrOf result Fault → ⊥ }
 {
-    if is_missing(from.end) || is_missing(into.parent) {
+    if is_one_missing(from.end, into.parent) {
         return Err(Refusal::NotFound);
     }
-    if is_blocked(from.end) || is_no_dir(into.parent) {
+    if is_one_blocked(from.end, into.parent) {
         return Err(Refusal::NotDir);
     }
     if root {
@@ -171,7 +174,7 @@ fn check_ends(
     if same {
         return Ok(());
     }
-    if !is_missing(into.end) && !is_blocked(into.end) {
+    if is_there(into.end) {
         return Err(Refusal::Exists);
     }
     if begins {

@@ -1,0 +1,60 @@
+use Rattle.std.proofs.Common.{ℕ, List, ◌+◌, ◌^◌, ◌≤◌, ◌≡◌, ap, sym, subst, Err, length, arith}
+use Rattle.std.proofs.lemmas.Result.{err_from_is_err_and}
+use Rattle.ice_base.proofs.LotLaws.{sited-few}
+use Rattle.ice_map.specs.declared.codec.Inode.{Inode}
+use Rattle.ice_map.specs.Inodes.{InodeSet}
+use Rattle.tree_spec.specs.Costs.{form_of}
+use Rattle.ice_tree.proofs.MakeLaws.{NodePut, take_sound, spot_well, add_sound, node_recovers}
+use Rattle.ice_tree.proofs.makes.put_node.Goals as goal
+
+pub returns-in_err-number-clause-sound : goal.returns-in_err-number-clause-sound
+returns-in_err-number-clause-sound g c = λ mode k t p s takes.
+    let x = err_from_is_err_and c.from_residual.result c.from_residual.ensures.1 in
+    let e = c.in_err-number.ensures in
+    rw (x.1, x.2)
+    (take_sound (form_of g.F.Form.VERSION) (ap form_of g.F.Form.is_one.0) g.F.Form.ENTRY g.F.Form.is_one.1 mode c.args.lot.now (g.K.View.map c.args.keep.now c.args.disk.now c.args.lot.now) t k p c.args.dir c.args.spot.now c.args.name.now
+    (sited-few c.args.lot.now _ c.requires.sited) takes _ e.faults (λ q. e.none (ap (λ y. Err y) q) s) (λ q. e.full (ap (λ y. Err y) q) s))
+
+pub returns-in_err-add-clause-sound : goal.returns-in_err-add-clause-sound
+returns-in_err-add-clause-sound g c = λ mode k t p s takes.
+    let x = err_from_is_err_and c.from_residual-in_err-add.result c.from_residual-in_err-add.ensures.1 in
+    let e = c.in_err-add.ensures in
+    let s1 = c.take_inode.ensures.spent.shows s in
+    let s2 = c.put_inode.ensures.spent.shows s1 in
+    let m0 = g.K.View.map c.args.keep.now c.args.disk.now c.args.lot.now in
+    let m1 = g.K.View.map c.take_inode.new.keep c.take_inode.new.disk c.args.lot.now in
+    let m2 = g.K.View.map c.put_inode.new.keep c.put_inode.new.disk c.args.lot.now in
+    rw (x.1, x.2)
+    (add_sound (form_of g.F.Form.VERSION) (ap form_of g.F.Form.is_one.0) g.F.Form.ENTRY g.F.Form.is_one.1 mode c.args.lot.now m0 t k p c.args.dir c.args.spot.now c.args.name.now
+    (sited-few c.args.lot.now _ c.requires.sited) takes m1 m2 c.in_ok-number.number
+    (record {
+      small = c.in_ok-number.ensures.number;
+      took = c.in_ok-number.ensures.took s;
+      taken = c.in_ok-number.ensures.puts.only;
+      put = subst (λ (x : Inode). InodeSet m1 m2 c.in_ok-number.number x) c.new_node.ensures (c.in_ok-put_inode.ensures.written s1);
+      there = c.put_inode.ensures.puts.only;
+    })
+    _ e.faults (λ q. e.none (ap (λ y. Err y) q) s2) (λ q. e.full (ap (λ y. Err y) q) s2) (λ q. e.kind (ap (λ y. Err y) q) s2) (λ q. e.pointer (ap (λ y. Err y) q) s2) (λ q. e.unreserved (ap (λ y. Err y) q) s2))
+
+pub returns-clause-made : goal.returns-clause-made
+returns-clause-made g c = λ mode k t p s takes.
+    let s1 = c.take_inode.ensures.spent.shows s in
+    let s2 = c.put_inode.ensures.spent.shows s1 in
+    let m0 = g.K.View.map c.args.keep.now c.args.disk.now c.args.lot.now in
+    let m1 = g.K.View.map c.take_inode.new.keep c.take_inode.new.disk c.args.lot.now in
+    let m2 = g.K.View.map c.put_inode.new.keep c.put_inode.new.disk c.args.lot.now in
+    let f = form_of g.F.Form.VERSION in
+    let one = ap form_of g.F.Form.is_one.0 in
+    let few = sited-few c.args.lot.now _ c.requires.sited in
+    let n : NodePut c.args.lot.now m0 m1 m2 c.in_ok-number.number c.args.dir = record {
+      small = c.in_ok-number.ensures.number;
+      took = c.in_ok-number.ensures.took s;
+      taken = c.in_ok-number.ensures.puts.only;
+      put = subst (λ (x : Inode). InodeSet m1 m2 c.in_ok-number.number x) c.new_node.ensures (c.in_ok-put_inode.ensures.written s1);
+      there = c.put_inode.ensures.puts.only;
+    } in
+    let well = spot_well f one g.F.Form.ENTRY g.F.Form.is_one.1 mode c.args.lot.now m0 t k p c.args.dir c.args.spot.now c.args.name.now few takes m1 m2 c.in_ok-number.number n in
+    node_recovers f one g.F.Form.ENTRY g.F.Form.is_one.1 mode c.args.lot.now m0 t k p c.args.dir c.args.spot.now c.args.name.now few takes m1 m2 c.in_ok-number.number n
+    (let limit = g.F.Form.is_one.2 in omega (arith, c.requires.fits, limit))
+    (g.K.View.map c.add.new.keep c.add.new.disk c.args.lot.now)
+    (c.in_ok-add.ensures.added s2 well)
