@@ -9,3 +9,5 @@ pub mod PlaceLaws
 pub mod HeightLaws
 pub mod LookLaws
 pub mod RenameLaws
+pub mod RenameLawsNeeds
+pub mod RenameLawsRows

@@ -11,7 +11,7 @@ ghost use Rattle.tree_spec.specs.Replies.{number_of, refused_of};
 ghost use Rattle.tree_spec.specs.Routes.{is_prefix, is_same_name, is_same_path};
 ghost use Rattle.tree_spec.specs.Trees.{Tree, Walk, needs_dir};
 ghost use Rattle.tree_spec.specs.Why.{Why};
-ghost use Rattle.tree_spec.specs.declared.reply.Refusal.TheVariants.{Fault, Damaged};
+ghost use Rattle.tree_spec.specs.declared.reply.Refusal.TheVariants.{Fault};
 ghost use Rattle.ice_reads.specs.Tables.{Map, Table, own_in};
 ghost use Rattle.ice_reads.specs.Recovers.{MapRecovers};
 ghost use Rattle.ice_tree.specs.Changes.{IsEnds, EndsFit, Needs};
@@ -69,6 +69,22 @@ fn begins(path: &Path, to: &Path, depth: usize) -> bool
         }
     }
     true
+}
+
+/// Whether the names from `depth` on are the same.
+fn is_one_path(path: &Path, to: &Path, depth: usize) -> bool
+    requires path { depth ≤ length path.now }
+    requires to { depth ≤ length to.now }
+    ensures { result ≡ is_same_path (drop depth path.now) (drop depth to.now) }
+{
+    begins(path, to, depth) && begins(to, path, depth)
+}
+
+/// Whether one of two paths, of so many names each, is the root.
+fn has_root(here: usize, there: usize) -> bool
+    ensures { (p q : List (List ℕ)) → length p ≡ here → length q ≡ there → result ≡ (is_root p || is_root q) }
+{
+    here == 0 || there == 0
 }
 
 /// Whether one of two walks ended at a directory without the next name: that of the path, and that to the directory of the new path.
@@ -200,8 +216,10 @@ fn spot_at(place: Place) -> Option<Spot>
 
 /// The directories of both paths. Damaged, with the rule on kinds: something else stands where a walk went through.
 fn move_of(from: &Ends, into: &Ends, same: bool) -> Result<Move, Refusal>
-    ensures step { IfOk result (λ step. (from.now.parent ≡ Dir step.from.number step.from.entries) × (into.now.parent ≡ Dir step.to.number step.to.entries) × (step.same ≡ same)) }
-    ensures none { IfErr result (λ r. (r ≡ Damaged 7) × ((a b c d : ℕ) → from.now.parent ≡ Dir a b → into.now.parent ≡ Dir c d → ⊥)) }
+    ensures step { (f : Form) (o : Table) (p q : List (List ℕ)) (t : Tree) → IsEnds f o p t from.now → IsEnds f o q t into.now → same ≡ is_same_path p q → ends_refusal p q t ≡ None → MatchResult result (IsMove f o p q t) (λ r. ⊥) }
+    ensures fits { (lot : LotView) → EndsFit lot from.now → EndsFit lot into.now → IfOk result (MoveFits lot) }
+    ensures set { IfErr result IsTreeRefusal }
+    ensures faultless { IsErrOf result Fault → ⊥ }
 {
     match spot_at(from.parent) {
         None => Err(Refusal::Damaged(Rule::Kind as u8)),
@@ -253,8 +271,8 @@ fn find_move<D: Disk, V: View<D>, F: Form>(
         return Err(refusal);
     }
     let inside = begins(path, to, depth);
-    let same = inside && begins(to, path, depth);
-    if let Err(refusal) = check_ends(&from, &into, here == 0 || there == 0, inside, same) {
+    let same = is_one_path(path, to, depth);
+    if let Err(refusal) = check_ends(&from, &into, has_root(here, there), inside, same) {
         return Err(refusal);
     }
     move_of(&from, &into, same)
@@ -358,7 +376,8 @@ fn move_row<D: Disk, K: Keep<D>, P: Pool<D, K>, F: Form>(
             if number >= 64 * lot.len() as u32 {
                 return Err(OpFault::Damaged(Rule::InodeTwice));
             }
-            add::<D, K, P, F>(keep, pool, disk, lot, step.to.number, new, number)
+            add::<D, K, P, F>(keep, pool, disk, lot, step.to.number, new, number)?;
+            Ok(())
         }
     }
 }
@@ -386,10 +405,12 @@ fn put_moved<D: Disk, K: Keep<D>, P: Pool<D, K>, F: Form>(
     ensures failed { IsErrOf result FaultDisk → Rose (D.state disk.old).faults (D.state disk.new).faults }
 {
     if step.same {
-        return count_up(keep, disk, lot);
+        count_up(keep, disk, lot)?;
+        return Ok(());
     }
     move_row::<D, K, P, F>(keep, pool, disk, lot, step, name, new)?;
-    count_up(keep, disk, lot)
+    count_up(keep, disk, lot)?;
+    Ok(())
 }
 
 /// Renames a file or a directory. `depth` is the number of names of the cube's path. After a fault or damage the keep may hold part of the change.

@@ -11,8 +11,3 @@ returns-then-not-same_name c = begins-differs c.args.path.now c.args.to.now c.ar
 pub loop-i-preserved : goal.loop-i-preserved
 loop-i-preserved c = begins-step c.args.path.now c.args.to.now c.args.depth c.loop-i.i (omega arith) (omega arith) (omega arith) (sym (c.same_name.ensures []) ∙ c.if-not-same_name.false) c.loop-i.invariant
 
-pub loop-i-initial : goal.loop-i-initial
-loop-i-initial c = ?
-
-pub returns : goal.returns
-returns c = ?
