@@ -36,7 +36,8 @@ use Rattle.ice_tree.specs.Outcomes.{IsTreeRefusal, RefusedAs, refusal_by}
 use Rattle.ice_tree.specs.Places.{place_at, place_by}
 use Rattle.ice_tree.proofs.LookLaws.{ends_dir}
 use Rattle.ice_tree.proofs.StageLaws.{or_else-later}
-use Rattle.ice_tree.specs.Renames.{height_refusal, ends_refusal, move_refusal}
+use Rattle.ice_tree.specs.Renames.{height_refusal, ends_refusal, move_refusal, IsMove, Renames}
+use Rattle.ice_tree.proofs.EndLaws.{names-last}
 use Rattle.ice_tree.specs.Stages.{or_else, paths_refusal, quota_refusal}
 use Rattle.ice_tree.proofs.Chains.{refusal_rename}
 
@@ -279,3 +280,20 @@ nodes-few f one mode lot m t k r p s found =
 -- the tree after an accepted operation
 pub answer-next : (t : Tree) (k n : ℕ) (f : Form) (op : Operation) → refusal t k n f op ≡ None → next op t ≡ (answer t k n f op).1
 answer-next t k n f op h = sym (ap (λ x. (answer_by x op t).1) h)
+
+-- what the last names of the paths are
+last-is : (path : Names) (depth : ℕ) (name : List ℕ) → depth < length path → name ≡ get_or path (length path - 1) [] → name ≡ last_name (drop depth path)
+last-is path depth name below is =
+    let last = length path - 1 in
+    sym (ap last_name (names-last path depth last name (omega arith) (omega arith) is) ∙ last-more (take (last - depth) (drop depth path)) name)
+
+pub renames-are : (f : Form) (mode : ℕ) (lot : LotView) (m later : Map) (t : Tree) (k : ℕ) (path to : Names) (depth : ℕ) (step : Move) (name new : List ℕ) → later ≡ m → MapRecovers f mode lot m t k → depth < length path → depth < length to
+    → name ≡ get_or path (length path - 1) [] → new ≡ get_or to (length to - 1) []
+    → (refusal t k (length lot.groups) f (Rename (drop depth path) (drop depth to)) ≡ None) × IsMove f (own_in f m) (drop depth path) (drop depth to) t step → Renames f mode lot later t k (drop depth path) (drop depth to) step name new
+renames-are f mode lot m later t k path to depth step name new same r below below_to is_name is_new x = record {
+  recovers = subst (λ (x : Map). MapRecovers f mode lot x t k) (sym same) r;
+  move_is = subst (λ (x : Map). IsMove f (own_in f x) (drop depth path) (drop depth to) t step) (sym same) x.1;
+  name_is = last-is path depth name below is_name;
+  new_is = last-is to depth new below_to is_new;
+  accepted = x.0;
+}

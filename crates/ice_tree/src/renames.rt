@@ -82,7 +82,8 @@ fn is_one_path(path: &Path, to: &Path, depth: usize) -> bool
 
 /// Whether one of two paths, of so many names each, is the root.
 fn has_root(here: usize, there: usize) -> bool
-    ensures { (p q : List (List ℕ)) → length p ≡ here → length q ≡ there → result ≡ (is_root p || is_root q) }
+    ensures root { (p q : List (List ℕ)) → length p ≡ here → length q ≡ there → result ≡ (is_root p || is_root q) }
+    ensures below { result ≡ false → (1 ≤ here) × (1 ≤ there) }
 {
     here == 0 || there == 0
 }

@@ -49,7 +49,7 @@ returns-in-Err-check_ends-clause-found g c = λ mode k t s r.
     (subst (λ (m : Map). c.in-Ok.ends.end ≡ place_at f (own_in f m) p t) (sym (two.map ∙ one.map)) from.at_end)
     (omega (arith, c.len.ensures)) (omega (arith, c.len-2.ensures)))
     (c.in-Err-check_ends.ensures.ends f (own_in f m) p q t from (subst (λ (m : Map). IsEnds f (own_in f m) q t c.in-Ok-find_ends.ends) one.map into)
-    (c.has_root.ensures p q (omega (arith, c.len.ensures)) (omega (arith, c.len-2.ensures))) c.begins-inside.ensures c.is_one_path-same.ensures)
+    (c.has_root.ensures.root p q (omega (arith, c.len.ensures)) (omega (arith, c.len-2.ensures))) c.begins-inside.ensures c.is_one_path-same.ensures)
 
 pub returns-clause-found : goal.returns-clause-found
 returns-clause-found g c = λ mode k t s r.
@@ -67,5 +67,5 @@ returns-clause-found g c = λ mode k t s r.
           (subst (λ (m : Map). c.in-Ok.ends.end ≡ place_at f (own_in f m) p t) (sym (two.map ∙ one.map)) from.at_end)
           (omega (arith, c.len.ensures)) (omega (arith, c.len-2.ensures)) in
     let ends = c.in_default-check_ends.ensures.ends f (own_in f m) p q t from into
-          (c.has_root.ensures p q (omega (arith, c.len.ensures)) (omega (arith, c.len-2.ensures))) c.begins-inside.ensures c.is_one_path-same.ensures in
+          (c.has_root.ensures.root p q (omega (arith, c.len.ensures)) (omega (arith, c.len-2.ensures))) c.begins-inside.ensures c.is_one_path-same.ensures in
     found-move c.move_of.result _ (IsMove f (own_in f m) p q t) (none-both (height_refusal p q t) (ends_refusal p q t) high ends) (c.move_of.ensures.step f (own_in f m) p q t from into c.is_one_path-same.ensures ends)

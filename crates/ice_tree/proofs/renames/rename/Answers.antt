@@ -1,4 +1,4 @@
-use Rattle.std.proofs.Common.{ℕ, ◌≡◌, ◌≤◌, ◌+◌, ◌-◌, List, [], ◌∷◌, length, drop, take, sym, ap, ◌∙◌, arith, subst}
+use Rattle.std.proofs.Common.{ℕ, ◌≡◌, ◌≤◌, ◌+◌, ◌-◌, List, [], ◌∷◌, length, drop, take, get_or, sym, ap, ◌∙◌, arith, subst}
 use Rattle.tree_spec.specs.Costs.{form_of}
 use Rattle.tree_spec.specs.Operations.{Rename}
 use Rattle.tree_spec.specs.Answers.{answer, next, refusal}
@@ -13,7 +13,7 @@ use Rattle.ice_tree.proofs.EndLaws.{names-last}
 use Rattle.ice_tree.proofs.LookLaws.{as_model, as_accepted, fault_model, first_stage}
 use Rattle.ice_tree.proofs.Names.{name-of}
 use Rattle.ice_tree.proofs.StageLaws.{recovers-same}
-use Rattle.ice_tree.proofs.RenameLaws.{rename-stages, refusal-set, names-short, last-more, answer-next}
+use Rattle.ice_tree.proofs.RenameLaws.{rename-stages, refusal-set, names-short, renames-are, answer-next}
 use Rattle.ice_tree.proofs.renames.rename.Goals as goal
 
 pub returns-in-Err-clause-answers : goal.returns-in-Err-clause-answers
@@ -50,11 +50,31 @@ pub returns-in-Err-put_moved-clause-set : goal.returns-in-Err-put_moved-clause-s
 returns-in-Err-put_moved-clause-set g c = rw c.refusal_of.ensures (refusal-set c.in-Err-put_moved.fault)
 
 pub returns-in-Err-put_moved-clause-answers : goal.returns-in-Err-put_moved-clause-answers
-returns-in-Err-put_moved-clause-answers g c = λ mode k t s r. ?
+returns-in-Err-put_moved-clause-answers g c = λ mode k t s r.
+    let f = form_of g.F.Form.VERSION in
+    let m : Map = g.K.View.map c.args.keep.now c.args.disk.now c.args.lot.now in
+    let later : Map = g.K.View.map c.may_move.new.keep c.may_move.new.disk c.args.lot.now in
+    let below = c.in-Ok.ensures.below in
+    let x = c.in-Ok.ensures.found mode k t s r in
+    let is = renames-are f mode c.args.lot.now m later t k c.args.path.now c.args.to.now c.args.depth c.in-Ok.step c.name-name.result c.name-new.result c.may_move.ensures.looked.map r below.0 below.1
+          (c.name-name.ensures [] ∙ ap (λ n. get_or c.args.path.now (n - 1) []) c.len.ensures) (c.name-new.ensures [] ∙ ap (λ n. get_or c.args.to.now (n - 1) []) c.len-in-Ok.ensures) x in
+    fault_model _ c.in-Err-put_moved.fault _ c.refusal_of.ensures
+    (c.in-Err-put_moved.ensures.sound mode k t (drop c.args.depth c.args.path.now) (drop c.args.depth c.args.to.now) (c.may_move.ensures.looked.shows s) is)
 
 pub returns-in-Ok-put_moved-clause-answers : goal.returns-in-Ok-put_moved-clause-answers
 returns-in-Ok-put_moved-clause-answers g c = λ mode k t s r.
     as_accepted t k (length c.args.lot.now.groups) (form_of g.F.Form.VERSION) (Rename (drop c.args.depth c.args.path.now) (drop c.args.depth c.args.to.now)) (c.in-Ok.ensures.found mode k t s r).0
 
 pub returns-in-Ok-put_moved-clause-changed : goal.returns-in-Ok-put_moved-clause-changed
-returns-in-Ok-put_moved-clause-changed g c = λ mode k t s r. ?
+returns-in-Ok-put_moved-clause-changed g c = λ mode k t s r.
+    let f = form_of g.F.Form.VERSION in
+    let m : Map = g.K.View.map c.args.keep.now c.args.disk.now c.args.lot.now in
+    let later : Map = g.K.View.map c.may_move.new.keep c.may_move.new.disk c.args.lot.now in
+    let below = c.in-Ok.ensures.below in
+    let x = c.in-Ok.ensures.found mode k t s r in
+    let is = renames-are f mode c.args.lot.now m later t k c.args.path.now c.args.to.now c.args.depth c.in-Ok.step c.name-name.result c.name-new.result c.may_move.ensures.looked.map r below.0 below.1
+          (c.name-name.ensures [] ∙ ap (λ n. get_or c.args.path.now (n - 1) []) c.len.ensures) (c.name-new.ensures [] ∙ ap (λ n. get_or c.args.to.now (n - 1) []) c.len-in-Ok.ensures) x in
+    let p = drop c.args.depth c.args.path.now in
+    let q = drop c.args.depth c.args.to.now in
+    subst (λ (u : Tree). MapRecovers f mode c.args.lot.now (g.K.View.map c.put_moved.new.keep c.put_moved.new.disk c.args.lot.now) u (k + 1)) (answer-next t k (length c.args.lot.now.groups) f (Rename p q) x.0)
+    (c.in-Ok-put_moved.ensures.moved mode k t p q (c.may_move.ensures.looked.shows s) is)
