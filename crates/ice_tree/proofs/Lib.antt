@@ -11,3 +11,4 @@ pub mod LookLaws
 pub mod RenameLaws
 pub mod RenameLawsNeeds
 pub mod RenameLawsRows
+pub mod ListLaws

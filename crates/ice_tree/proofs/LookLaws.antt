@@ -1,5 +1,5 @@
 -- What a call that changes nothing answers, stage by stage.
-use Rattle.std.proofs.Common.{◌≡◌, ℕ, ◌+◌, ◌-◌, ◌*◌, ◌<◌, ◌≤◌, Bool, true, false, List, [], ◌∷◌, ◌++◌, length, take, drop, Some, None, Option, Result, Ok, Err, sym, refl, ap, ◌∙◌, subst, arith}
+use Rattle.std.proofs.Common.{◌≡◌, ℕ, ◌+◌, ◌-◌, ◌*◌, ◌<◌, ◌≤◌, Bool, true, false, List, [], ◌∷◌, ◌++◌, length, map, take, drop, Some, None, Option, Result, Ok, Err, sym, refl, ap, ◌∙◌, subst, arith}
 use Rattle.std.specs.Prelude.{nat_lt, if◌then◌else◌}
 use Rattle.ice_base.specs.declared.fault.OpFault.{OpFault}
 use Rattle.ice_base.specs.declared.fault.OpFault.TheVariants.{Disk, Damaged}
@@ -14,21 +14,23 @@ use Rattle.std.proofs.lemmas.Bool.Decides.{nat_tests}
 use Rattle.std.proofs.lemmas.Nat.{div-add-mod', mod_below}
 use Rattle.tree_spec.specs.Why.{Why}
 use Rattle.tree_spec.specs.Why as why
-use Rattle.tree_spec.specs.Replies.{Response, Accepted, Refused, Bytes, Because, Fault, Memory, refused_of}
+use Rattle.tree_spec.specs.Replies.{Response, Accepted, Refused, Bytes, Listed, Because, Fault, Memory, refused_of}
+use Rattle.tree_spec.specs.declared.reply.Entry.{Entry}
+use Rattle.tree_spec.specs.declared.reply.CubeRow.{CubeRow}
 use Rattle.tree_spec.specs.declared.reply.Refusal.{Refusal}
-use Rattle.tree_spec.specs.Operations.{Operation, Read, Stat}
+use Rattle.tree_spec.specs.Operations.{Operation, Read, Stat, ListDir}
 use Rattle.tree_spec.specs.Costs.{Form, form_one}
 use Rattle.tree_spec.specs.Trees.{Tree, Entries, rows, Walk, Found, NotFound, NotDir, walk}
 use Rattle.tree_spec.specs.Trees as tree
-use Rattle.tree_spec.specs.Answers.{refusal, answer, answer_by, accepted_value, bytes_found, tree_found, stat_value}
+use Rattle.tree_spec.specs.Answers.{refusal, answer, answer_by, accepted_value, bytes_found, tree_found, stat_value, listed, list_value}
 use Rattle.ice_tree.specs.Outcomes.{AsModel, RefusedAs, ShownBy, refusal_by}
 use Rattle.ice_reads.specs.Tables.{Table, Map, own_in}
 use Rattle.ice_reads.specs.Reads.{Reads}
 use Rattle.ice_tree.specs.Places.{place_by, place_at}
 use Rattle.ice_tree.proofs.Names.{names-all}
-use Rattle.ice_tree.proofs.Chains.{refusal_read, refusal_stat}
+use Rattle.ice_tree.proofs.Chains.{refusal_read, refusal_stat, refusal_list}
 use Rattle.ice_tree.proofs.PlaceLaws.{inode-own, length-file_bytes, places-lead, places-own, true_false}
-use Rattle.ice_tree.specs.Stages.{or_else, paths_refusal, walk_refusal, file_refusal}
+use Rattle.ice_tree.specs.Stages.{or_else, paths_refusal, walk_refusal, file_refusal, dir_refusal}
 use Rattle.ice_tree.specs.declared.place.Place.{Place}
 use Rattle.ice_tree.specs.declared.place.Place.TheVariants.{File, Dir, Missing, Blocked}
 
@@ -175,9 +177,9 @@ module _ (f : Form) (one : f ≡ form_one) (lot : LotView) (m : Map) (i h : ℕ)
       → (e ≡ Damaged Pointer → (k : ℕ) × (1024 * k < (inode_of m i).size) × (leads lot m (inode_of m i) k ≡ false)) → e ≡ Disk
   read-fails at below e faults kind pointer =
       reading-fails e faults (λ q. kind q (file-reaches at below))
-        (λ q. let p = pointer q in
-          true_false (leads lot m (inode_of m i) p.0)
-            (places-lead lot m (inode_of m i) (map_length 64 (inode_of m i)) p.0 (places-own f one lot m i h (tree.File bytes) r) (blocks-of-file (inode_of m i) p.0 (file-reaches at below).kind p.1)) p.2)
+      (λ q. let p = pointer q in
+      true_false (leads lot m (inode_of m i) p.0)
+      (places-lead lot m (inode_of m i) (map_length 64 (inode_of m i)) p.0 (places-own f one lot m i h (tree.File bytes) r) (blocks-of-file (inode_of m i) p.0 (file-reaches at below).kind p.1)) p.2)
 
 -- ---- reads
 
@@ -228,3 +230,20 @@ module _ (t : Tree) (k n : ℕ) (f : Form) (p : List (List ℕ)) where
 
     pub stat-value : (u : Tree) → w ≡ Found u → (value : Accepted) → value ≡ stat_value u → Ok value ≡ (answer t k n f (Stat p)).0
     stat-value u is value same = ap (λ x. Ok x) (same ∙ ap (λ v. stat_value (tree_found v)) (sym (ends ∙ is))) ∙ as_accepted t k n f (Stat p) (stat-stage ∙ ap walk_refusal is)
+
+-- ---- listings
+
+module _ (t : Tree) (k n : ℕ) (f : Form) (p : List (List ℕ)) where
+  pub list-paths : (r : Refused) → RefusedAs r (paths_refusal f (p ∷ [])) → AsModel (Err r) (answer t k n f (ListDir p)).0
+  list-paths r is = as_model t k n f (ListDir p) r (paths_refusal f (p ∷ [])) is (λ w h. refusal_list t k n f p ∙ first_stage (paths_refusal f (p ∷ [])) (dir_refusal (walk p t)) w h)
+
+  module _ (names : paths_refusal f (p ∷ []) ≡ None) where
+    list-stage : refusal t k n f (ListDir p) ≡ dir_refusal (walk p t)
+    list-stage = refusal_list t k n f p ∙ later_stage (paths_refusal f (p ∷ [])) (dir_refusal (walk p t)) names
+
+    pub list-walk : (r : Refused) → RefusedAs r (dir_refusal (walk p t)) → AsModel (Err r) (answer t k n f (ListDir p)).0
+    list-walk r is = as_model t k n f (ListDir p) r (dir_refusal (walk p t)) is (λ w h. list-stage ∙ h)
+
+    pub list-value : (es : Entries) → walk p t ≡ Found (tree.Dir es) → (entries : List Entry) (cubes : List CubeRow) → entries ≡ map listed (rows es) → cubes ≡ [] → Ok (Listed entries cubes) ≡ (answer t k n f (ListDir p)).0
+    list-value es found entries cubes same none =
+        (λ i. Ok (Listed (same i) (none i))) ∙ ap (λ w. Ok (list_value (tree_found w))) (sym found) ∙ as_accepted t k n f (ListDir p) (list-stage ∙ ap dir_refusal found)

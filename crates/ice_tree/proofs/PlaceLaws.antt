@@ -88,7 +88,7 @@ module _ (f : Form) (one : f ≡ form_one) (lot : LotView) (m : Map) (i h : ℕ)
   pub places-own : (t : Tree) → Reads f lot (own_in f m) i h t → (b : ℕ) → has (own 64 m i).uses b ≡ true → is_data lot b ≡ true
   places-own t r = subst (λ g. (b : ℕ) → has (own_in g m i).uses b ≡ true → is_data lot b ≡ true) one (Reads-inode t r).places
 
-  rows-own : (entry : ℕ) → entry ≡ 64 → rows_in f (own_in f m i) ≡ rows_of entry m i
+  pub rows-own : (entry : ℕ) → entry ≡ 64 → rows_in f (own_in f m i) ≡ rows_of entry m i
   rows-own entry e = ap (λ g. rows_in g (own_in g m i)) one ∙ ap (λ x. rows_of x m i) (sym e)
 
   -- the blocks of a directory that stands for a tree lead to data places

@@ -81,8 +81,8 @@ pub(crate) fn dir_at<D: Disk, V: View<D>, F: Form>(
     requires depth { depth ≤ length path.now }
     ensures found { (mode k : ℕ) (t : Tree) → V.shows lot.now view.old disk.old → MapRecovers (form_of F.VERSION) mode lot.now (V.map view.old disk.old lot.now) t k
         → MatchResult result
-          (λ dir. (es : Entries) × (walk (drop depth path.now) t ≡ Found (Dir es)) × (dir.number ≡ inode_on (form_of F.VERSION) (own_in (form_of F.VERSION) (V.map view.old disk.old lot.now)) 0 (drop depth path.now)) × (dir.size ≡ length (rows es)))
-          (λ r. RefusedAs (refused_of r) (dir_refusal (walk (drop depth path.now) t))) }
+        (λ dir. (es : Entries) × (walk (drop depth path.now) t ≡ Found (Dir es)) × (dir.number ≡ inode_on (form_of F.VERSION) (own_in (form_of F.VERSION) (V.map view.old disk.old lot.now)) 0 (drop depth path.now)) × (dir.size ≡ length (rows es)))
+        (λ r. RefusedAs (refused_of r) (dir_refusal (walk (drop depth path.now) t))) }
     ensures fits { IfOk result (λ dir. (dir.number < 64 * length lot.now.groups) × (dir.size < 64 * length lot.now.groups)) }
     ensures looked { Looked D.Disk V.View lot.now view.old disk.old view.new disk.new }
     ensures set { IfErr result IsTreeRefusal }

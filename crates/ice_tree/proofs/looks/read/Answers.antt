@@ -29,11 +29,11 @@ returns-in-Ok-read_at-clause-answers g c = λ mode k t s recovers.
     let x = c.in-Ok.ensures.found mode k t s recovers in
     let looked = c.file_at.ensures.looked in
     let r : Reads f c.args.lot.now (own_in f m) c.in-Ok.file.number (0 + length names) (File x.0) =
-          subst (λ j. Reads f c.args.lot.now (own_in f m) j (0 + length names) (File x.0)) (sym x.2) (Reads-part f c.args.lot.now (own_in f m) names 0 0 t (File x.0) x.1 recovers.holds.reads) in
+    subst (λ j. Reads f c.args.lot.now (own_in f m) j (0 + length names) (File x.0)) (sym x.2) (Reads-part f c.args.lot.now (own_in f m) names 0 0 t (File x.0) x.1 recovers.holds.reads) in
     read-value t k (length c.args.lot.now.groups) f names c.args.at c.args.len c.in_default.ensures.refusal x.0 x.1 (omega (arith, x.3)) c.read_at.new.room.bytes
-      (c.in-Ok-read_at.ensures.bytes (looked.shows s)
-        ∙ ap (λ (m : ℕ → List ℕ). take c.args.len (drop c.args.at (file_bytes (own g.F.Form.ENTRY m c.in-Ok.file.number)))) looked.map
-        ∙ ap (λ bytes. take c.args.len (drop c.args.at bytes)) (file-bytes f (ap form_of g.F.Form.is_one.0) c.args.lot.now m c.in-Ok.file.number (0 + length names) x.0 r g.F.Form.ENTRY g.F.Form.is_one.1))
+    (c.in-Ok-read_at.ensures.bytes (looked.shows s)
+    ∙ ap (λ (m : ℕ → List ℕ). take c.args.len (drop c.args.at (file_bytes (own g.F.Form.ENTRY m c.in-Ok.file.number)))) looked.map
+    ∙ ap (λ bytes. take c.args.len (drop c.args.at bytes)) (file-bytes f (ap form_of g.F.Form.is_one.0) c.args.lot.now m c.in-Ok.file.number (0 + length names) x.0 r g.F.Form.ENTRY g.F.Form.is_one.1))
 
 pub returns-in-Err-read_at-clause-answers : goal.returns-in-Err-read_at-clause-answers
 returns-in-Err-read_at-clause-answers g c = λ mode k t s recovers.
@@ -43,9 +43,9 @@ returns-in-Err-read_at-clause-answers g c = λ mode k t s recovers.
     let looked = c.file_at.ensures.looked in
     let e = c.in-Err-read_at.ensures in
     let r : (m : ℕ → List ℕ) → m ≡ g.V.View.map c.args.view.now c.args.disk.now c.args.lot.now → Reads f c.args.lot.now (own_in f m) c.in-Ok.file.number (0 + length names) (File x.0) =
-          (λ m is. subst (λ (m : ℕ → List ℕ). Reads f c.args.lot.now (own_in f m) c.in-Ok.file.number (0 + length names) (File x.0)) (sym is)
-            (subst (λ j. Reads f c.args.lot.now (own_in f (g.V.View.map c.args.view.now c.args.disk.now c.args.lot.now)) j (0 + length names) (File x.0)) (sym x.2)
-              (Reads-part f c.args.lot.now (own_in f (g.V.View.map c.args.view.now c.args.disk.now c.args.lot.now)) names 0 0 t (File x.0) x.1 recovers.holds.reads))) in
+    (λ m is. subst (λ (m : ℕ → List ℕ). Reads f c.args.lot.now (own_in f m) c.in-Ok.file.number (0 + length names) (File x.0)) (sym is)
+    (subst (λ j. Reads f c.args.lot.now (own_in f (g.V.View.map c.args.view.now c.args.disk.now c.args.lot.now)) j (0 + length names) (File x.0)) (sym x.2)
+    (Reads-part f c.args.lot.now (own_in f (g.V.View.map c.args.view.now c.args.disk.now c.args.lot.now)) names 0 0 t (File x.0) x.1 recovers.holds.reads))) in
     fault_model _ c.in-Err-read_at.fault _ c.refusal_of.ensures
-      (read-fails f (ap form_of g.F.Form.is_one.0) c.args.lot.now (g.V.View.map c.file_at.new.view c.file_at.new.disk c.args.lot.now) c.in-Ok.file.number (0 + length names) x.0 (r _ looked.map)
-        c.args.at (omega (arith, x.3)) c.in-Err-read_at.fault e.faults (λ q. e.kind (ap (λ y. Err y) q) (looked.shows s)) (λ q. e.pointer (ap (λ y. Err y) q) (looked.shows s)))
+    (read-fails f (ap form_of g.F.Form.is_one.0) c.args.lot.now (g.V.View.map c.file_at.new.view c.file_at.new.disk c.args.lot.now) c.in-Ok.file.number (0 + length names) x.0 (r _ looked.map)
+    c.args.at (omega (arith, x.3)) c.in-Err-read_at.fault e.faults (λ q. e.kind (ap (λ y. Err y) q) (looked.shows s)) (λ q. e.pointer (ap (λ y. Err y) q) (looked.shows s)))
