@@ -3,6 +3,9 @@ pub mod StageLaws
 pub mod EndLaws
 pub mod CountLaws
 pub mod MakeLaws
+pub mod SpotLaws
+pub mod ReplyLaws
+pub mod FileLaws
 pub mod Chains
 pub mod Names
 pub mod PlaceLaws

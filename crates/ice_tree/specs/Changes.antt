@@ -1,5 +1,5 @@
 -- What the changing commands find before they change anything.
-use Rattle.std.specs.Prelude.{◌≡◌, ◌<◌, ◌+◌, ◌*◌, ℕ, Bool, true, false, List, [], length, replicate, nat_lt, nat_eq, Option, Some, None, if◌then◌else◌}
+use Rattle.std.specs.Prelude.{◌≡◌, ◌≤◌, ◌<◌, ◌+◌, ◌*◌, ℕ, Bool, true, false, List, [], ◌∷◌, length, replicate, nat_lt, nat_eq, Option, Some, None, if◌then◌else◌}
 use Rattle.ice_base.specs.Lots.{LotView}
 use Rattle.tree_spec.specs.Why.{Why}
 use Rattle.tree_spec.specs.Why as why
@@ -8,7 +8,8 @@ use Rattle.tree_spec.specs.Trees as tree
 use Rattle.tree_spec.specs.Costs.{Form, nodes, blocks, node_quota, block_quota}
 use Rattle.tree_spec.specs.Names.{is_name}
 use Rattle.tree_spec.specs.Operations.{Operation, Mkdir, Make}
-use Rattle.tree_spec.specs.Answers.{most_done, is_root, is_found, refusal}
+use Rattle.tree_spec.specs.Answers.{most_done, is_root, is_found, bytes_found, refusal}
+use Rattle.ice_file.specs.Files.{longest_file}
 use Rattle.ice_map.specs.declared.codec.Inode.{Inode}
 use Rattle.ice_reads.specs.Tables.{Map, Table, own_in}
 use Rattle.ice_reads.specs.Reads.{inode_on}
@@ -16,8 +17,9 @@ use Rattle.ice_reads.specs.Recovers.{MapRecovers}
 use Rattle.ice_tree.specs.declared.quota.Need.{Need}
 use Rattle.ice_tree.specs.declared.ends.Ends.{Ends}
 use Rattle.ice_tree.specs.declared.ends.Spot.{Spot}
+use Rattle.ice_tree.specs.declared.looks.FileAt.{FileAt}
 use Rattle.ice_tree.specs.Places.{place_at, PlaceFits}
-use Rattle.ice_tree.specs.Stages.{or_else, walk_refusal}
+use Rattle.ice_tree.specs.Stages.{or_else, walk_refusal, file_refusal, paths_refusal}
 
 -- the tree that would be made has so many nodes and blocks more, and so many fewer
 pub record Needs (f : Form) (t next : Tree) (need : Need) : Type 0 where
@@ -66,6 +68,30 @@ pub record Takes (f : Form) (mode : ℕ) (lot : LotView) (m : Map) (t : Tree) (k
   pub name_is : name ≡ last_name p
   pub proper : is_name name ≡ true
   pub accepted : refusal t k (length lot.groups) f (new_operation dir p) ≡ None
+
+-- a file of the tree that reaches to a place: its inode, and its bytes
+pub record IsFile (f : Form) (o : Table) (names : List (List ℕ)) (t : Tree) (at : ℕ) (file : FileAt) : Type 0 where
+  pub bytes : List ℕ
+  pub there : walk names t ≡ Found (tree.File bytes)
+  pub number : file.number ≡ inode_on f o 0 names
+  pub size : file.size ≡ length bytes
+  pub reaches : at ≤ length bytes
+
+-- its numbers fit the lot
+pub record FileFits (lot : LotView) (at : ℕ) (file : FileAt) : Type 0 where
+  pub number : file.number < 64 * length lot.groups
+  pub size : file.size ≤ longest_file
+  pub reaches : at ≤ file.size
+
+-- the refusal of a path that has to end at a file that reaches to a place
+abbrev pub reach_refusal : Form → List (List ℕ) → ℕ → Tree → Option Why
+reach_refusal f p at t = or_else (paths_refusal f (p ∷ [])) (or_else (file_refusal (walk p t)) (if nat_lt (length (bytes_found (walk p t))) at then Some why.BeyondEnd else None))
+
+-- the map recovers a tree that takes the operation, and the inode is that of the path's file
+pub record TakesAt (f : Form) (mode : ℕ) (lot : LotView) (m : Map) (t : Tree) (k : ℕ) (p : List (List ℕ)) (op : Operation) (number : ℕ) : Type 0 where
+  pub recovers : MapRecovers f mode lot m t k
+  pub number_is : number ≡ inode_on f (own_in f m) 0 p
+  pub accepted : refusal t k (length lot.groups) f op ≡ None
 
 -- the refusal by the number of nodes of the tree that would be made
 abbrev pub nodes_refusal : ℕ → Tree → Option Why

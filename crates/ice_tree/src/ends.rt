@@ -1,19 +1,21 @@
 //! Where a path and its directory end.
-ghost use Rattle.std.specs.Prelude.{◌≡◌, ◌≤◌, ℕ, true, IfOk, IfErr, IsErrOf, length, drop};
+ghost use Rattle.std.specs.Prelude.{◌≡◌, ◌≤◌, ◌<◌, ℕ, true, [], ◌∷◌, None, IfOk, IfErr, IsErrOf, length, drop};
 ghost use Rattle.ice_base.specs.Disk.{Rose};
 ghost use Rattle.ice_base.specs.Lots.{is_sited};
 ghost use Rattle.ice_base.specs.Views.{Looked};
 ghost use Rattle.ice_base.specs.declared.fault.OpFault.TheVariants.{Disk as FaultDisk};
 ghost use Rattle.tree_spec.specs.Costs.{form_of};
-ghost use Rattle.tree_spec.specs.Trees.{Tree};
+ghost use Rattle.tree_spec.specs.Names.{is_name};
+ghost use Rattle.tree_spec.specs.Trees.{Tree, last_name};
 ghost use Rattle.ice_reads.specs.Recovers.{MapRecovers};
 ghost use Rattle.ice_reads.specs.Tables.{own_in};
 ghost use Rattle.ice_tree.specs.Changes.{IsEnds, EndsFit};
 ghost use Rattle.ice_tree.specs.Places.{IsWalkFault};
+ghost use Rattle.ice_tree.specs.Stages.{paths_refusal};
 
 use crate::place::{Place, step, walk};
 use ice_base::{Disk, Form, Lot, OpFault, View};
-use tree_spec::Path;
+use tree_spec::{Name, Path};
 
 /// The places where the walks to a path's directory and to the path itself end. Those of the root are the root.
 #[derive(Clone, Copy, Drop)]
@@ -27,6 +29,18 @@ pub struct Ends {
 pub struct Spot {
     pub number: u32,
     pub entries: u32,
+}
+
+/// The last name of a path.
+pub(crate) fn last_of<F: Form>(path: &Path, depth: usize) -> Name
+    requires { depth < length path.now }
+    ensures last { result ≡ last_name (drop depth path.now) }
+    ensures name { is_name result ≡ true }
+    ensures short { paths_refusal (form_of F.VERSION) (drop depth path.now ∷ []) ≡ None → length result ≤ F.NAME }
+{
+    let name = path.name(path.len() - 1);
+    let _ = name.bytes();
+    name
 }
 
 /// The ends of the path from `depth` on, in one walk.

@@ -1,0 +1,41 @@
+-- What a call answers that changes a tree: the refusal that was found, or the value of the accepted operation with the next tree.
+use Rattle.std.proofs.Common.{◌≡◌, ◌+◌, ℕ, true, None, Some, Option, Ok, Err, sym, refl, ap, subst, ◌∙◌}
+use Rattle.ice_base.specs.Lots.{LotView}
+use Rattle.ice_base.specs.declared.fault.OpFault.{OpFault}
+use Rattle.ice_base.specs.declared.fault.OpFault.TheVariants.{Disk, Damaged, NoSpace, NoNodes}
+use Rattle.ice_base.specs.declared.fault.Rule.TheVariants as rule
+use Rattle.tree_spec.specs.Why.{Why}
+use Rattle.tree_spec.specs.Trees.{Tree}
+use Rattle.tree_spec.specs.Costs.{Form}
+use Rattle.tree_spec.specs.Operations.{Operation, is_change}
+use Rattle.tree_spec.specs.Answers.{refusal, answer, next}
+use Rattle.tree_spec.specs.Replies.{Response, Refused, Plain, refused_of}
+use Rattle.tree_spec.specs.declared.reply.Refusal.{Refusal}
+use Rattle.tree_spec.proofs.Refusals.{answer-accepted, accepted_value-change}
+use Rattle.ice_reads.specs.Tables.{Map}
+use Rattle.ice_reads.specs.Recovers.{MapRecovers}
+use Rattle.ice_tree.specs.Outcomes.{AsModel, RefusedAs, IsTreeRefusal, refusal_by}
+use Rattle.ice_tree.proofs.LookLaws.{as_model}
+
+pub fault-set : (r : Refusal) (e : OpFault) → r ≡ refusal_by e → IsTreeRefusal r
+fault-set r e is = subst IsTreeRefusal (sym is) (by e)
+  where
+    by : (e : OpFault) → IsTreeRefusal (refusal_by e)
+    by Disk = tt
+    by (Damaged x) = (x, refl)
+    by NoSpace = (rule.Bitmap, refl)
+    by NoNodes = (rule.Bitmap, refl)
+
+module _ (t : Tree) (k n : ℕ) (f : Form) (op : Operation) where
+  -- a refusal that is the tree's
+  pub refused-model : (r : Refused) → RefusedAs r (refusal t k n f op) → AsModel (Err r) (answer t k n f op).0
+  refused-model r h = as_model t k n f op r (refusal t k n f op) h (λ w e. e)
+
+  module _ (change : is_change op ≡ true) (none : refusal t k n f op ≡ None) where
+    -- an accepted change has no value
+    pub accepted-model : Ok Plain ≡ (answer t k n f op).0
+    accepted-model = sym (ap (λ a. a.0) (answer-accepted t k n f op none) ∙ ap (λ v. Ok v) (accepted_value-change op t change))
+
+    -- and makes the next tree
+    pub accepted-recovers : (mode : ℕ) (lot : LotView) (m : Map) → MapRecovers f mode lot m (next op t) (k + 1) → MapRecovers f mode lot m (answer t k n f op).1 (k + 1)
+    accepted-recovers mode lot m r = subst (λ u. MapRecovers f mode lot m u (k + 1)) (sym (ap (λ a. a.1) (answer-accepted t k n f op none))) r

@@ -1,0 +1,63 @@
+use Rattle.std.proofs.Common.{Bool, ℕ, None, ◌≡◌, ◌+◌, ◌∙◌, Option, length, drop, sym, ap, subst, refl, arith, [], ◌∷◌}
+use Rattle.tree_spec.specs.Why.{Why}
+use Rattle.tree_spec.specs.Costs.{form_of}
+use Rattle.tree_spec.specs.Answers.{next, is_root}
+use Rattle.tree_spec.specs.Replies.{refused_of}
+use Rattle.ice_reads.specs.Tables.{own_in}
+use Rattle.ice_tree.specs.Changes.{new_operation, new_refusal}
+use Rattle.ice_tree.specs.Outcomes.{RefusedAs}
+use Rattle.ice_tree.specs.Stages.{or_else, paths_refusal, quota_refusal}
+use Rattle.ice_tree.proofs.SpotLaws.{new-stages, new-needs, root-is}
+use Rattle.ice_tree.proofs.StageLaws.{refused-now, refused-later, none-both, recovers-same}
+use Rattle.ice_tree.proofs.makes.check_new.Goals as goal
+
+pub returns-in-Err-clause-spot : goal.returns-in-Err-clause-spot
+returns-in-Err-clause-spot g c = λ dir mode k t s r.
+    let f = form_of g.F.Form.VERSION in
+    let p = drop c.args.depth c.args.path.now in
+    let n = length c.args.lot.now.groups in
+    subst (RefusedAs (refused_of c.in-Err.refusal)) (sym (new-stages dir t k n f p))
+    (refused-now (refused_of c.in-Err.refusal) (paths_refusal f (p ∷ [])) (or_else (new_refusal p t) (quota_refusal n f k (next (new_operation dir p) t))) c.in-Err.ensures.refusal)
+
+pub returns-in-Err-new_spot-clause-spot : goal.returns-in-Err-new_spot-clause-spot
+returns-in-Err-new_spot-clause-spot g c = λ dir mode k t s r.
+    let f = form_of g.F.Form.VERSION in
+    let p = drop c.args.depth c.args.path.now in
+    let n = length c.args.lot.now.groups in
+    let o = own_in f (g.K.View.map c.args.keep.now c.args.disk.now c.args.lot.now) in
+    let x = refused_of c.in-Err-new_spot.refusal in
+    let ends = c.in-Ok.ensures.found mode k t s r in
+    subst (RefusedAs x) (sym (new-stages dir t k n f p))
+    (refused-later x (paths_refusal f (p ∷ [])) (or_else (new_refusal p t) (quota_refusal n f k (next (new_operation dir p) t))) c.in_default.ensures.refusal
+    (refused-now x (new_refusal p t) (quota_refusal n f k (next (new_operation dir p) t)) (c.in-Err-new_spot.ensures.spot f o p t ends (root-is c.args.path.now c.args.depth c.len.result c.requires.depth c.len.ensures))))
+
+pub returns-in-Ok-check_quota-clause-spot : goal.returns-in-Ok-check_quota-clause-spot
+returns-in-Ok-check_quota-clause-spot g c = λ dir mode k t s r.
+    let f = form_of g.F.Form.VERSION in
+    let p = drop c.args.depth c.args.path.now in
+    let n = length c.args.lot.now.groups in
+    let o = own_in f (g.K.View.map c.args.keep.now c.args.disk.now c.args.lot.now) in
+    let ends = c.in-Ok.ensures.found mode k t s r in
+    let spot = c.in-Ok-new_spot.ensures.spot f o p t ends (root-is c.args.path.now c.args.depth c.len.result c.requires.depth c.len.ensures) in
+    let needs = new-needs f (ap form_of g.F.Form.is_one.0) o p t c.in-Ok-new_spot.spot dir spot.0 spot.1 c.dir_cost.result c.dir_cost-2.result c.dir_cost.ensures c.dir_cost-2.ensures in
+    let later = recovers-same f mode c.args.lot.now (g.K.View.map c.args.keep.now c.args.disk.now c.args.lot.now) (g.K.View.map c.find_ends.new.view c.find_ends.new.disk c.args.lot.now) t k c.find_ends.ensures.looked.map r in (
+      spot.0,
+      new-stages dir t k n f p ∙ none-both (paths_refusal f (p ∷ [])) (or_else (new_refusal p t) (quota_refusal n f k (next (new_operation dir p) t))) c.in_default.ensures.refusal
+          (none-both (new_refusal p t) (quota_refusal n f k (next (new_operation dir p) t)) spot.1 (c.in-Ok-check_quota.ensures.quota mode k t (next (new_operation dir p) t) (c.find_ends.ensures.looked.shows s) later needs)),
+    )
+
+pub returns-in-Err-check_quota-clause-spot : goal.returns-in-Err-check_quota-clause-spot
+returns-in-Err-check_quota-clause-spot g c = λ dir mode k t s r.
+    let f = form_of g.F.Form.VERSION in
+    let p = drop c.args.depth c.args.path.now in
+    let n = length c.args.lot.now.groups in
+    let o = own_in f (g.K.View.map c.args.keep.now c.args.disk.now c.args.lot.now) in
+    let x = refused_of c.in-Err-check_quota.refusal in
+    let ends = c.in-Ok.ensures.found mode k t s r in
+    let spot = c.in-Ok-new_spot.ensures.spot f o p t ends (root-is c.args.path.now c.args.depth c.len.result c.requires.depth c.len.ensures) in
+    let needs = new-needs f (ap form_of g.F.Form.is_one.0) o p t c.in-Ok-new_spot.spot dir spot.0 spot.1 c.dir_cost.result c.dir_cost-2.result c.dir_cost.ensures c.dir_cost-2.ensures in
+    let later = recovers-same f mode c.args.lot.now (g.K.View.map c.args.keep.now c.args.disk.now c.args.lot.now) (g.K.View.map c.find_ends.new.view c.find_ends.new.disk c.args.lot.now) t k c.find_ends.ensures.looked.map r in
+    subst (RefusedAs x) (sym (new-stages dir t k n f p))
+    (refused-later x (paths_refusal f (p ∷ [])) (or_else (new_refusal p t) (quota_refusal n f k (next (new_operation dir p) t))) c.in_default.ensures.refusal
+    (refused-later x (new_refusal p t) (quota_refusal n f k (next (new_operation dir p) t)) spot.1
+    (c.in-Err-check_quota.ensures.quota mode k t (next (new_operation dir p) t) (c.find_ends.ensures.looked.shows s) later needs)))

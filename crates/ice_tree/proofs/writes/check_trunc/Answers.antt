@@ -1,0 +1,50 @@
+use Rattle.std.proofs.Common.{max, ◌+◌, ◌≤◌, ◌<◌, ◌≡◌, ◌∙◌, drop, length, sym, ap, subst, refl, arith}
+use Rattle.tree_spec.specs.Costs.{form_of}
+use Rattle.tree_spec.specs.Answers.{next}
+use Rattle.tree_spec.specs.Operations.{Trunc}
+use Rattle.tree_spec.specs.Replies.{refused_of}
+use Rattle.tree_spec.specs.Why.{FileBig}
+use Rattle.tree_spec.specs.Replies.{Because}
+use Rattle.ice_tree.specs.Changes.{reach_refusal}
+use Rattle.ice_tree.specs.Outcomes.{RefusedAs}
+use Rattle.ice_tree.specs.Stages.{or_else, quota_refusal}
+use Rattle.ice_tree.proofs.FileLaws.{big, is-big, not-big, trunc-stages, reach-none, trunc-needs}
+use Rattle.ice_tree.proofs.StageLaws.{refused-now, refused-later, none-both, recovers-same}
+use Rattle.ice_tree.proofs.writes.check_trunc.Goals as goal
+
+pub returns-in-Err-clause-file : goal.returns-in-Err-clause-file
+returns-in-Err-clause-file g c = λ mode k t s r.
+    let f = form_of g.F.Form.VERSION in
+    let p = drop c.args.depth c.args.path.now in
+    let n = length c.args.lot.now.groups in
+    let x = refused_of c.in-Err.refusal in
+    subst (RefusedAs x) (sym (trunc-stages t k n f p c.args.len))
+    (refused-now x (reach_refusal f p c.args.len t) (quota_refusal n f k (next (Trunc p c.args.len) t)) (c.in-Err.ensures.found mode k t s r))
+
+pub returns-in-Ok-check_quota-clause-file : goal.returns-in-Ok-check_quota-clause-file
+returns-in-Ok-check_quota-clause-file g c = λ mode k t s r.
+    let f = form_of g.F.Form.VERSION in
+    let p = drop c.args.depth c.args.path.now in
+    let n = length c.args.lot.now.groups in
+    let file = c.in-Ok.ensures.found mode k t s r in
+    let names = c.in-Ok.ensures.names in
+    let later = recovers-same f mode c.args.lot.now (g.K.View.map c.args.keep.now c.args.disk.now c.args.lot.now) (g.K.View.map c.reach_file.new.view c.reach_file.new.disk c.args.lot.now) t k c.reach_file.ensures.looked.map r in
+    let needs = trunc-needs f p t file.bytes c.args.len file.there file.reaches c.in-Ok.file.size c.size_need-need.result file.size c.size_need-need.ensures in (
+      file.number,
+      trunc-stages t k n f p c.args.len ∙ none-both (reach_refusal f p c.args.len t) (quota_refusal n f k (next (Trunc p c.args.len) t)) (reach-none f p c.args.len t names file.bytes file.there file.reaches)
+          (c.in-Ok-check_quota.ensures.quota mode k t (next (Trunc p c.args.len) t) (c.reach_file.ensures.looked.shows s) later needs),
+    )
+
+pub returns-in-Err-check_quota-clause-file : goal.returns-in-Err-check_quota-clause-file
+returns-in-Err-check_quota-clause-file g c = λ mode k t s r.
+    let f = form_of g.F.Form.VERSION in
+    let p = drop c.args.depth c.args.path.now in
+    let n = length c.args.lot.now.groups in
+    let x = refused_of c.in-Err-check_quota.refusal in
+    let file = c.in-Ok.ensures.found mode k t s r in
+    let names = c.in-Ok.ensures.names in
+    let later = recovers-same f mode c.args.lot.now (g.K.View.map c.args.keep.now c.args.disk.now c.args.lot.now) (g.K.View.map c.reach_file.new.view c.reach_file.new.disk c.args.lot.now) t k c.reach_file.ensures.looked.map r in
+    let needs = trunc-needs f p t file.bytes c.args.len file.there file.reaches c.in-Ok.file.size c.size_need-need.result file.size c.size_need-need.ensures in
+    subst (RefusedAs x) (sym (trunc-stages t k n f p c.args.len))
+    (refused-later x (reach_refusal f p c.args.len t) (quota_refusal n f k (next (Trunc p c.args.len) t)) (reach-none f p c.args.len t names file.bytes file.there file.reaches)
+    (c.in-Err-check_quota.ensures.quota mode k t (next (Trunc p c.args.len) t) (c.reach_file.ensures.looked.shows s) later needs))

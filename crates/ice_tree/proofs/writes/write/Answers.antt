@@ -1,0 +1,40 @@
+use Rattle.std.proofs.Common.{◌+◌, drop, length, refl}
+use Rattle.tree_spec.specs.Costs.{form_of}
+use Rattle.tree_spec.specs.Answers.{answer}
+use Rattle.tree_spec.specs.Operations.{Write}
+use Rattle.tree_spec.specs.Replies.{refused_of}
+use Rattle.ice_tree.proofs.FileLaws.{takes_at-after}
+use Rattle.ice_tree.proofs.LookLaws.{fault_model}
+use Rattle.ice_tree.proofs.ReplyLaws.{fault-set, refused-model, accepted-model, accepted-recovers}
+use Rattle.ice_tree.proofs.writes.write.Goals as goal
+
+pub returns-in-Err-clause-answers : goal.returns-in-Err-clause-answers
+returns-in-Err-clause-answers g c = λ mode k t s r.
+    refused-model t k (length c.args.lot.now.groups) (form_of g.F.Form.VERSION) (Write (drop c.args.depth c.args.path.now) c.args.at c.args.bytes.now) (refused_of c.in-Err.refusal) (c.in-Err.ensures.file mode k t s r)
+
+pub returns-in-Ok-put_bytes-clause-answers : goal.returns-in-Ok-put_bytes-clause-answers
+returns-in-Ok-put_bytes-clause-answers g c = λ mode k t s r.
+    accepted-model t k (length c.args.lot.now.groups) (form_of g.F.Form.VERSION) (Write (drop c.args.depth c.args.path.now) c.args.at c.args.bytes.now) refl (c.in-Ok.ensures.file mode k t s r).1
+
+pub returns-in-Ok-put_bytes-clause-changed : goal.returns-in-Ok-put_bytes-clause-changed
+returns-in-Ok-put_bytes-clause-changed g c = λ mode k t s r.
+    let f = form_of g.F.Form.VERSION in
+    let p = drop c.args.depth c.args.path.now in
+    let lot = c.args.lot.now in
+    let file = c.in-Ok.ensures.file mode k t s r in
+    let looked = c.check_write.ensures.looked in
+    let takes = takes_at-after f mode lot (g.K.View.map c.args.keep.now c.args.disk.now lot) (g.K.View.map c.check_write.new.keep c.check_write.new.disk lot) t k p (Write p c.args.at c.args.bytes.now) c.in-Ok.number looked.map r file.0 file.1 in
+    accepted-recovers t k (length lot.groups) f (Write p c.args.at c.args.bytes.now) refl file.1 mode lot (g.K.View.map c.put_bytes.new.keep c.put_bytes.new.disk lot) (c.in-Ok-put_bytes.ensures.set mode k t p (looked.shows s) takes)
+
+pub returns-in-Err-put_bytes-clause-answers : goal.returns-in-Err-put_bytes-clause-answers
+returns-in-Err-put_bytes-clause-answers g c = λ mode k t s r.
+    let f = form_of g.F.Form.VERSION in
+    let p = drop c.args.depth c.args.path.now in
+    let lot = c.args.lot.now in
+    let file = c.in-Ok.ensures.file mode k t s r in
+    let looked = c.check_write.ensures.looked in
+    let takes = takes_at-after f mode lot (g.K.View.map c.args.keep.now c.args.disk.now lot) (g.K.View.map c.check_write.new.keep c.check_write.new.disk lot) t k p (Write p c.args.at c.args.bytes.now) c.in-Ok.number looked.map r file.0 file.1 in
+    fault_model c.refusal_of.result c.in-Err-put_bytes.fault (answer t k (length lot.groups) f (Write p c.args.at c.args.bytes.now)).0 c.refusal_of.ensures (c.in-Err-put_bytes.ensures.sound mode k t p (looked.shows s) takes)
+
+pub returns-in-Err-put_bytes-clause-set : goal.returns-in-Err-put_bytes-clause-set
+returns-in-Err-put_bytes-clause-set g c = fault-set c.refusal_of.result c.in-Err-put_bytes.fault c.refusal_of.ensures
