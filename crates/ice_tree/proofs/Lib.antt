@@ -14,4 +14,6 @@ pub mod LookLaws
 pub mod RenameLaws
 pub mod RenameLawsNeeds
 pub mod RenameLawsRows
+pub mod GoneLaws
+pub mod RemoveLaws
 pub mod ListLaws

@@ -11,6 +11,7 @@ mod makes;
 mod paths;
 mod place;
 mod quota;
+mod removes;
 mod renames;
 mod writes;
 
@@ -18,5 +19,6 @@ pub use lists::list;
 pub use looks::{read, stat};
 pub use makes::{make, mkdir};
 pub use place::Place;
+pub use removes::remove;
 pub use renames::rename;
 pub use writes::{trunc, write};

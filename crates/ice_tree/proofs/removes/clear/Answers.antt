@@ -1,0 +1,38 @@
+use Rattle.std.proofs.Common.{◌≡◌, ◌∙◌, sym, ap, Err}
+use Rattle.std.proofs.lemmas.Result.{on_ok_weaker, err_from_is_err_and}
+use Rattle.ice_base.proofs.LotLaws.{sited-few}
+use Rattle.ice_base.specs.Faults.{IsGiveFault}
+use Rattle.ice_base.specs.declared.fault.OpFault.{OpFault}
+use Rattle.ice_base.specs.declared.fault.OpFault.TheVariants.{Disk as FaultDisk}
+use Rattle.tree_spec.specs.Costs.{form_of}
+use Rattle.ice_tree.proofs.RemoveLaws.{err-is, inode-given, can-give-inode}
+use Rattle.ice_tree.proofs.removes.clear.Goals as goal
+
+pub returns-in_err-drop_bytes-clause-sound : goal.returns-in_err-drop_bytes-clause-sound
+returns-in_err-drop_bytes-clause-sound g c = λ mode k t s l.
+    let p = err_from_is_err_and c.from_residual.result c.from_residual.ensures.1 in
+    rw (p.1, p.2) (c.in_err-drop_bytes.ensures.sound mode k t s l)
+
+pub returns-clause-cleared : goal.returns-clause-cleared
+returns-clause-cleared g c = λ mode k t s l.
+    let lot = c.args.lot.now in
+    let b = c.in_ok-drop_bytes.ensures.dropped mode k t s l in
+    let one = c.drop_bytes.ensures.spent.shows s in
+    let two = c.put_inode.ensures.spent.shows one in
+    on_ok_weaker c.give_inode.result
+    (λ gave. inode-given (form_of g.F.Form.VERSION) (ap form_of g.F.Form.is_one.0) mode lot (sited-few lot _ c.requires.sited) (g.K.View.map c.drop_bytes.new.keep c.drop_bytes.new.disk lot) t k c.args.number c.args.bytes g.F.Form.ENTRY g.F.Form.is_one.1
+      (g.K.View.map c.put_inode.new.keep c.put_inode.new.disk lot) (g.K.View.map c.give_inode.new.keep c.give_inode.new.disk lot) c.free_node.result b (c.in_ok-put_inode.ensures.written one) c.put_inode.ensures.puts.only gave c.give_inode.ensures.puts.only)
+    (c.give_inode.ensures.gave two)
+
+pub returns-clause-sound : goal.returns-clause-sound
+returns-clause-sound g c = λ mode k t s l.
+    let lot = c.args.lot.now in
+    let b = c.in_ok-drop_bytes.ensures.dropped mode k t s l in
+    let one = c.drop_bytes.ensures.spent.shows s in
+    let two = c.put_inode.ensures.spent.shows one in
+    let x = c.give_inode.ensures in
+    err-is c.give_inode.result IsGiveFault FaultDisk x.faults
+    (λ e is fault.
+      can-give-inode (form_of g.F.Form.VERSION) (ap form_of g.F.Form.is_one.0) mode lot (sited-few lot _ c.requires.sited) (g.K.View.map c.drop_bytes.new.keep c.drop_bytes.new.disk lot) t k c.args.number c.args.bytes g.F.Form.ENTRY g.F.Form.is_one.1
+      (g.K.View.map c.put_inode.new.keep c.put_inode.new.disk lot) c.free_node.result b (c.in_ok-put_inode.ensures.written one) c.put_inode.ensures.puts.only
+      e fault (λ q. x.zero (is ∙ ap (λ (y : OpFault). Err y) q) two) (λ q. x.unused (is ∙ ap (λ (y : OpFault). Err y) q) two))

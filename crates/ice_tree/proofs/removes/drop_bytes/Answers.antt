@@ -1,0 +1,33 @@
+use Rattle.std.proofs.Common.{◌≡◌, ◌∙◌, sym, ap, Err}
+use Rattle.std.proofs.lemmas.Result.{on_ok_weaker}
+use Rattle.ice_base.proofs.LotLaws.{sited-few}
+use Rattle.ice_base.specs.declared.fault.OpFault.{OpFault}
+use Rattle.ice_base.specs.declared.fault.OpFault.TheVariants.{Disk as FaultDisk}
+use Rattle.ice_file.specs.Files.{IsCutToFault}
+use Rattle.tree_spec.specs.Costs.{form_of}
+use Rattle.ice_tree.proofs.RemoveLaws.{err-is, loose-made, nothing-dropped, bytes-dropped, can-drop}
+use Rattle.ice_tree.proofs.removes.drop_bytes.Goals as goal
+
+pub returns-then-bytes-eq0-clause-dropped : goal.returns-then-bytes-eq0-clause-dropped
+returns-then-bytes-eq0-clause-dropped g c = λ mode k t s l.
+    nothing-dropped (form_of g.F.Form.VERSION) (ap form_of g.F.Form.is_one.0) mode c.args.lot.now (sited-few c.args.lot.now _ c.requires.sited) (g.K.View.map c.args.keep.now c.args.disk.now c.args.lot.now) t k c.args.number c.args.bytes g.F.Form.ENTRY g.F.Form.is_one.1
+    l c.if-bytes-eq0.true
+
+pub returns-clause-dropped : goal.returns-clause-dropped
+returns-clause-dropped g c = λ mode k t s l.
+    let few = sited-few c.args.lot.now _ c.requires.sited in
+    let m = g.K.View.map c.args.keep.now c.args.disk.now c.args.lot.now in
+    on_ok_weaker c.cut_to.result
+    (bytes-dropped (form_of g.F.Form.VERSION) (ap form_of g.F.Form.is_one.0) mode c.args.lot.now few m t k c.args.number c.args.bytes g.F.Form.ENTRY g.F.Form.is_one.1
+      (g.K.View.map c.cut_to.new.keep c.cut_to.new.disk c.args.lot.now) l c.if-bytes-eq0.false)
+    (c.cut_to.ensures.cut s (loose-made (form_of g.F.Form.VERSION) (ap form_of g.F.Form.is_one.0) mode c.args.lot.now few m t k c.args.number c.args.bytes g.F.Form.ENTRY g.F.Form.is_one.1 l))
+
+pub returns-clause-sound : goal.returns-clause-sound
+returns-clause-sound g c = λ mode k t s l.
+    let few = sited-few c.args.lot.now _ c.requires.sited in
+    let m = g.K.View.map c.args.keep.now c.args.disk.now c.args.lot.now in
+    let x = c.cut_to.ensures in
+    err-is c.cut_to.result IsCutToFault FaultDisk x.faults
+    (λ e is fault.
+      can-drop (form_of g.F.Form.VERSION) (ap form_of g.F.Form.is_one.0) mode c.args.lot.now few m t k c.args.number c.args.bytes g.F.Form.ENTRY g.F.Form.is_one.1 l c.if-bytes-eq0.false
+      e fault (λ q. x.kind (is ∙ ap (λ (y : OpFault). Err y) q) s) (λ q. x.zero (is ∙ ap (λ (y : OpFault). Err y) q) s) (λ q. x.unused (is ∙ ap (λ (y : OpFault). Err y) q) s) (λ q. x.pointer (is ∙ ap (λ (y : OpFault). Err y) q) s))
