@@ -9,8 +9,11 @@ pub mod FileLaws
 pub mod Chains
 pub mod Names
 pub mod PlaceLaws
-pub mod LookLaws
 pub mod HeightLaws
+pub mod LookLaws
+pub mod RenameLaws
+pub mod RenameLawsNeeds
+pub mod RenameLawsRows
 pub mod GoneLaws
 pub mod RemoveLaws
 pub mod ListLaws

@@ -3,4 +3,5 @@ pub mod Outcomes
 pub mod Stages
 pub mod Changes
 pub mod Moves
+pub mod Renames
 pub mod Listings

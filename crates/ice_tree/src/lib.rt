@@ -12,6 +12,7 @@ mod paths;
 mod place;
 mod quota;
 mod removes;
+mod renames;
 mod writes;
 
 pub use lists::list;
@@ -19,4 +20,5 @@ pub use looks::{read, stat};
 pub use makes::{make, mkdir};
 pub use place::Place;
 pub use removes::remove;
+pub use renames::rename;
 pub use writes::{trunc, write};

@@ -1,0 +1,299 @@
+-- The stages of a rename, and names that begin a path.
+use Rattle.std.proofs.Common.{◌≡◌, ◌≢◌, ◌≤◌, ◌<◌, ◌+◌, ◌-◌, ◌*◌, ℕ, Bool, true, false, List, [], ◌∷◌, ◌++◌, length, drop, take, get_or, Option, Some, None, Result, Ok, Err, MatchResult, sym, refl, subst, ap, ◌∙◌, arith, nat_lt, nat_le, T, cond}
+use Rattle.std.specs.Prelude.{◌&&◌, ◌||◌, not, if◌then◌else◌}
+use Rattle.std.specs.List.{list_any}
+use Rattle.std.proofs.lemmas.Bool.Decides.{nat_tests}
+use Rattle.std.proofs.lemmas.List.{get_or-drop, length-drop}
+use Rattle.ice_path.proofs.Prefixes.{longer, step, differs, end}
+use Rattle.ice_base.specs.Lots.{LotView}
+use Rattle.tree_spec.specs.Why.{Why}
+use Rattle.tree_spec.specs.Why as why
+use Rattle.tree_spec.specs.Trees.{Tree, File, Dir, Walk, Found, NotFound, NotDir, walk, parent, parent_walk, last_name, rows, height, at}
+use Rattle.tree_spec.specs.Costs.{Form, form_one, nodes}
+use Rattle.tree_spec.specs.Operations.{Rename}
+use Rattle.tree_spec.specs.Routes.{is_prefix, is_same_name, is_same_path}
+use Rattle.tree_spec.specs.Answers.{refusal, answer, answer_by, next, deepest, is_found, is_not_found, is_not_dir, is_root, is_taken, tree_found, moves_too_deep, moves_into_itself}
+use Rattle.tree_spec.proofs.Sums.{total-at}
+use Rattle.ice_reads.specs.Tables.{Map, Table, own_in}
+use Rattle.ice_reads.specs.Reads.{Reads, inode_on}
+use Rattle.ice_reads.specs.Recovers.{MapRecovers}
+use Rattle.ice_reads.proofs.Focus.{Reads-part}
+use Rattle.ice_reads.proofs.Numbers.{Reads-depth}
+use Rattle.ice_base.specs.declared.fault.OpFault.{OpFault}
+use Rattle.ice_base.specs.declared.fault.OpFault.TheVariants as op
+use Rattle.ice_base.specs.declared.fault.Rule.TheVariants.{Bitmap}
+use Rattle.tree_spec.proofs.Accepted.{first_false, second_false, has_entry, tree_walk, dir_walk, IsDirWalk}
+use Rattle.ice_steps.proofs.Quotas.{free_nodes_are}
+use Rattle.tree_spec.specs.Operations.{Operation}
+use Rattle.tree_spec.specs.Replies.{refused_of}
+use Rattle.tree_spec.specs.declared.reply.Refusal.{Refusal}
+use Rattle.ice_tree.specs.declared.ends.Spot.{Spot}
+use Rattle.ice_tree.specs.declared.place.Place.{Place}
+use Rattle.ice_tree.specs.declared.place.Place.TheVariants as at_place
+use Rattle.ice_tree.specs.declared.renames.Move.{Move}
+use Rattle.ice_tree.specs.Changes.{IsSpot}
+use Rattle.ice_tree.specs.Outcomes.{IsTreeRefusal, RefusedAs, refusal_by}
+use Rattle.ice_tree.specs.Places.{place_at, place_by}
+use Rattle.ice_tree.proofs.LookLaws.{ends_dir}
+use Rattle.ice_tree.proofs.StageLaws.{or_else-later}
+use Rattle.ice_tree.specs.Renames.{height_refusal, ends_refusal, move_refusal, IsMove, Renames}
+use Rattle.ice_tree.proofs.EndLaws.{names-last}
+use Rattle.ice_tree.specs.Stages.{or_else, paths_refusal, quota_refusal}
+use Rattle.ice_tree.proofs.Chains.{refusal_rename}
+
+abbrev Names : Type 0
+Names = List (List ℕ)
+
+-- ---- names that begin a path
+
+-- the names from `depth` on begin those of the other path, as far as those from i on do
+abbrev pub BeginsFrom : Names → Names → ℕ → ℕ → Type 0
+BeginsFrom p q depth i = is_prefix (drop (i - depth) (drop depth p)) (drop (i - depth) (drop depth q)) ≡ is_prefix (drop depth p) (drop depth q)
+
+module _ (p q : Names) (depth : ℕ) where
+  pub begins-first : (i : ℕ) → i ≡ depth → BeginsFrom p q depth i
+  begins-first i e = let z : i - depth ≡ 0 = omega arith in ap (λ n. is_prefix (drop n (drop depth p)) (drop n (drop depth q))) z
+
+  pub begins-longer : depth ≤ length q → length q < length p → false ≡ is_prefix (drop depth p) (drop depth q)
+  begins-longer h l = longer (drop depth p) (drop depth q) (omega (arith, length-drop depth p, length-drop depth q))
+
+  module _ (i : ℕ) (from : depth ≤ i) (in_p : i < length p) (in_q : i < length q) where
+    here : (x : Names) → get_or (drop depth x) (i - depth) [] ≡ get_or x i []
+    here x = let at : depth + (i - depth) ≡ i = omega arith in get_or-drop depth x (i - depth) [] ∙ ap (λ n. get_or x n []) at
+
+    same-here : (b : Bool) → is_same_name (get_or p i []) (get_or q i []) ≡ b → is_same_name (get_or (drop depth p) (i - depth) []) (get_or (drop depth q) (i - depth) []) ≡ b
+    same-here b e = (λ z. is_same_name (here p z) (here q z)) ∙ e
+
+    pub begins-step : is_same_name (get_or p i []) (get_or q i []) ≡ true → BeginsFrom p q depth i → BeginsFrom p q depth (i + 1)
+    begins-step e is =
+        let one : i + 1 - depth ≡ (i - depth) + 1 = omega arith in
+        ap (λ n. is_prefix (drop n (drop depth p)) (drop n (drop depth q))) one
+        ∙ step (drop depth p) (drop depth q) (i - depth) (omega (arith, length-drop depth p)) (omega (arith, length-drop depth q)) (same-here true e) is
+
+    pub begins-differs : is_same_name (get_or p i []) (get_or q i []) ≡ false → BeginsFrom p q depth i → false ≡ is_prefix (drop depth p) (drop depth q)
+    begins-differs e is = differs (drop depth p) (drop depth q) (i - depth) (omega (arith, length-drop depth p)) (omega (arith, length-drop depth q)) (same-here false e) is
+
+  pub begins-all : (i : ℕ) → depth ≤ i → i ≡ length p → BeginsFrom p q depth i → true ≡ is_prefix (drop depth p) (drop depth q)
+  begins-all i h e is = end (drop depth p) (drop depth q) (i - depth) (omega (arith, length-drop depth p)) is
+
+-- ---- one stage after another
+
+chain : (h a b c d e q : Option Why) → or_else h (or_else a (or_else b (or_else c (or_else d (or_else e q))))) ≡ or_else (or_else h (or_else a (or_else b (or_else c (or_else d e))))) q
+chain (Some r) a b c d e q = refl
+chain None (Some r) b c d e q = refl
+chain None None (Some r) c d e q = refl
+chain None None None (Some r) d e q = refl
+chain None None None None (Some r) e q = refl
+chain None None None None None e q = refl
+
+-- the paths, what is moved and where to, and the quota
+pub rename-stages : (t : Tree) (k n : ℕ) (f : Form) (p q : Names)
+    → refusal t k n f (Rename p q) ≡ or_else (paths_refusal f (p ∷ q ∷ [])) (or_else (move_refusal p q t) (quota_refusal n f k (next (Rename p q) t)))
+rename-stages t k n f p q = refusal_rename t k n f p q ∙ ap (λ x. or_else (paths_refusal f (p ∷ q ∷ [])) x) 
+    (chain (height_refusal p q t) (if is_not_found (walk p t) || is_not_found (parent_walk q t) then Some why.NotFound else None) (if is_not_dir (walk p t) || is_not_dir (parent_walk q t) then Some why.NotDir else None)
+    (if is_root p || is_root q then Some why.IsRoot else None) (if is_taken (Rename p q) t then Some why.Exists else None) (if moves_into_itself (Rename p q) then Some why.IntoItself else None) (quota_refusal n f k (next (Rename p q) t)))
+
+-- the places, by five tests
+abbrev by_tests : Bool → Bool → Bool → Bool → Bool → Option Why
+by_tests missing blocked root taken into =
+    or_else (if missing then Some why.NotFound else None) (
+    or_else (if blocked then Some why.NotDir else None) (
+    or_else (if root then Some why.IsRoot else None) (or_else (if taken then Some why.Exists else None) (if into then Some why.IntoItself else None))))
+
+module _ (missing blocked root found same begins : Bool) where
+  pub ends-missing : missing ≡ true → by_tests missing blocked root (found && not same) (begins && not same) ≡ Some why.NotFound
+  ends-missing m = ap (λ x. by_tests x blocked root (found && not same) (begins && not same)) m
+
+  module _ (m : missing ≡ false) where
+    pub ends-blocked : blocked ≡ true → by_tests missing blocked root (found && not same) (begins && not same) ≡ Some why.NotDir
+    ends-blocked b = λ z. by_tests (m z) (b z) root (found && not same) (begins && not same)
+
+    module _ (b : blocked ≡ false) where
+      pub ends-root : root ≡ true → by_tests missing blocked root (found && not same) (begins && not same) ≡ Some why.IsRoot
+      ends-root r = λ z. by_tests (m z) (b z) (r z) (found && not same) (begins && not same)
+
+      module _ (r : root ≡ false) where
+        never : (x : Bool) → (x && false) ≡ false
+        never true = refl
+        never false = refl
+
+        pub ends-same : same ≡ true → by_tests missing blocked root (found && not same) (begins && not same) ≡ None
+        ends-same s = (λ z. by_tests (m z) (b z) (r z) (found && not (s z)) (begins && not (s z))) ∙ (λ z. by_tests false false false (never found z) (never begins z))
+
+        pub ends-taken : same ≡ false → found ≡ true → by_tests missing blocked root (found && not same) (begins && not same) ≡ Some why.Exists
+        ends-taken s f = λ z. by_tests (m z) (b z) (r z) (f z && not (s z)) (begins && not same)
+
+        pub ends-into : same ≡ false → found ≡ false → begins ≡ true → by_tests missing blocked root (found && not same) (begins && not same) ≡ Some why.IntoItself
+        ends-into s f i = λ z. by_tests (m z) (b z) (r z) (f z && not (s z)) (i z && not (s z))
+
+        pub ends-none : same ≡ false → found ≡ false → begins ≡ false → by_tests missing blocked root (found && not same) (begins && not same) ≡ None
+        ends-none s f i = λ z. by_tests (m z) (b z) (r z) (f z && not (s z)) (i z && not (s z))
+
+-- ---- heights
+
+low-walk : (w : Walk) (n : ℕ) → ((s : Tree) → w ≡ Found s → n + height s ≤ deepest) → (if is_found w && nat_lt deepest (n + height (tree_found w)) then Some why.TooDeep else None) ≡ None
+low-walk (Found s) n h =
+    let l = h s refl in
+    let e : nat_lt deepest (n + height s) ≡ false = grind (arith, nat_tests) in
+    ap (λ b. if b then Some why.TooDeep else None) e
+low-walk NotFound n h = refl
+low-walk NotDir n h = refl
+
+pub low-fits : (p q : Names) (t : Tree) → ((s : Tree) → walk p t ≡ Found s → length q + height s ≤ deepest) → height_refusal p q t ≡ None
+low-fits p q t h = low-walk (walk p t) (length q) h
+
+pub high-fails : (p q : Names) (t s : Tree) → walk p t ≡ Found s → deepest < length q + height s → height_refusal p q t ≡ Some why.TooDeep
+high-fails p q t s found h =
+    let e : nat_lt deepest (length q + height s) ≡ true = grind (arith, nat_tests) in
+    ap (λ w. if is_found w && nat_lt deepest (length q + height (tree_found w)) then Some why.TooDeep else None) found ∙ ap (λ b. if b then Some why.TooDeep else None) e
+
+-- the same by the levels that are left
+pub high-more : (p q : Names) (t s : Tree) (there : ℕ) → length q ≡ there → walk p t ≡ Found s → nat_lt (deepest - there) (height s) ≡ true → height_refusal p q t ≡ Some why.TooDeep
+high-more p q t s there e found h = let l : deepest - there < height s = grind (arith, nat_tests) in high-fails p q t s found (omega arith)
+
+pub low-more : (p q : Names) (t s : Tree) (there : ℕ) → length q ≡ there → there ≤ deepest → walk p t ≡ Found s → nat_lt (deepest - there) (height s) ≡ false → height_refusal p q t ≡ None
+low-more p q t s there e short found h =
+    let l : height s ≤ deepest - there = grind (arith, nat_tests) in
+    low-fits p q t (λ u w. let same : s ≡ u = found_same s u (sym found ∙ w) in let x = ap (λ y. height y) same in omega arith)
+  where
+    found_same : (s u : Tree) → Found s ≡ Found u → s ≡ u
+    found_same s u h = cc
+
+-- what goes no deeper fits
+pub fits-higher : (f : Form) (lot : LotView) (o : Table) (p q : Names) (t : Tree) → Reads f lot o 0 0 t → length q ≤ length p → height_refusal p q t ≡ None
+fits-higher f lot o p q t r h = low-fits p q t (λ s found. omega (arith, Reads-depth f lot o (inode_on f o 0 p) (0 + length p) s (Reads-part f lot o p 0 0 t s found r)))
+
+nodes-some : (t : Tree) → 1 ≤ nodes t
+nodes-some (File bytes) = omega arith
+nodes-some (Dir es) = omega arith
+
+-- a tree has no fewer files and directories than its part
+pub nodes-within : (p : Names) (t s : Tree) → walk p t ≡ Found s → nodes s ≤ nodes t
+nodes-within p t s found = let e = total-at (λ _. 1) (λ _. 1) p (λ _. File []) t s found in let n = nodes-some (at p (λ _. File []) t) in omega arith
+
+-- ---- the paths
+
+pub last-more : (xs : Names) (c : List ℕ) → last_name (xs ++ c ∷ []) ≡ c
+last-more [] c = refl
+last-more (x ∷ []) c = refl
+last-more (x ∷ y ∷ xs) c = last-more (y ∷ xs) c
+
+any-last : (test : List ℕ → Bool) (xs : Names) (c : List ℕ) → list_any test (xs ++ c ∷ []) ≡ false → test c ≡ false
+any-last test [] c h = first_false (test c) false h
+any-last test (x ∷ xs) c h = any-last test xs c (second_false (test x) (list_any test (xs ++ c ∷ [])) h)
+
+short-name : (longest n : ℕ) → nat_lt longest n ≡ false → n ≤ longest
+short-name longest n h = grind (arith, nat_tests)
+
+-- no name is too long
+pub names-short : (f : Form) (p q xs : Names) (c : List ℕ) → paths_refusal f (p ∷ q ∷ []) ≡ None → q ≡ xs ++ c ∷ [] → length c ≤ f.longest_name
+names-short f p q xs c h is =
+    by-two (list_any (λ x. nat_lt f.longest_name (length x)) p) (list_any (λ x. nat_lt f.longest_name (length x)) q) (list_any (λ x. nat_lt deepest (length x)) (p ∷ q ∷ [])) h
+    (λ e. short-name f.longest_name (length c) (any-last (λ x. nat_lt f.longest_name (length x)) xs c (ap (λ y. list_any (λ x. nat_lt f.longest_name (length x)) y) (sym is) ∙ e)))
+  where
+    no : Some why.NameLong ≡ None → ⊥
+    no h = cc
+
+    by-two : {A : Type 0} → (first second deep : Bool) → (if first || (second || false) then Some why.NameLong else (if deep then Some why.TooDeep else None)) ≡ None → (second ≡ false → A) → A
+    by-two true second deep h k = absurd (no h)
+    by-two false true deep h k = absurd (no h)
+    by-two false false deep h k = k refl
+
+-- a fault of the calls below is one that a tree answers
+pub refusal-set : (e : OpFault) → IsTreeRefusal (refusal_by e)
+refusal-set op.Disk = tt
+refusal-set (op.Damaged r) = (r, refl)
+refusal-set op.NoSpace = (Bitmap, refl)
+refusal-set op.NoNodes = (Bitmap, refl)
+
+-- names that the form takes are no more than 24
+pub paths-short : (f : Form) (p q : Names) → paths_refusal f (p ∷ q ∷ []) ≡ None → length q ≤ deepest
+paths-short f p q h = by-two (list_any (λ x. list_any (λ c. nat_lt f.longest_name (length c)) x) (p ∷ q ∷ [])) (nat_lt deepest (length p)) (length q) h
+  where
+    by-two : (long deep : Bool) (n : ℕ) → (if long then Some why.NameLong else (if deep || (nat_lt deepest n || false) then Some why.TooDeep else None)) ≡ None → n ≤ deepest
+    by-two true deep n h = absurd (no h)
+      where
+        no : Some why.NameLong ≡ None → ⊥
+        no h = cc
+    by-two false true n h = absurd (no h)
+      where
+        no : Some why.TooDeep ≡ None → ⊥
+        no h = cc
+    by-two false false n h = elim (nat_lt deepest n) as (λ b. nat_lt deepest n ≡ b → (if b || false then Some why.TooDeep else None) ≡ None → n ≤ deepest) [
+      | true ↦ λ e h. absurd (no h)
+      | false ↦ λ e h. grind (arith, nat_tests)
+    ] refl h
+      where
+        no : Some why.TooDeep ≡ None → ⊥
+        no h = cc
+
+-- ---- what a rename finds
+
+by-none : (missing blocked root taken into : Bool) → by_tests missing blocked root taken into ≡ None → (missing ≡ false) × (blocked ≡ false) × (root ≡ false)
+by-none true blocked root taken into h = absurd (no h)
+  where
+    no : Some why.NotFound ≡ None → ⊥
+    no h = cc
+by-none false true root taken into h = absurd (no h)
+  where
+    no : Some why.NotDir ≡ None → ⊥
+    no h = cc
+by-none false false true taken into h = absurd (no h)
+  where
+    no : Some why.IsRoot ≡ None → ⊥
+    no h = cc
+by-none false false false taken into h = (refl, refl, refl)
+
+-- where the places refuse nothing both directories are there
+pub ends-dirs : (p q : Names) (t : Tree) → ends_refusal p q t ≡ None → IsDirWalk (walk (parent p) t) × IsDirWalk (walk (parent q) t)
+ends-dirs p q t h =
+    let n = by-none (is_not_found (walk p t) || is_not_found (parent_walk q t)) (is_not_dir (walk p t) || is_not_dir (parent_walk q t)) (is_root p || is_root q) (is_taken (Rename p q) t) (moves_into_itself (Rename p q)) h in
+    let w = tree_walk (walk p t) (first_false _ _ n.0) (first_false _ _ n.1) in
+    let e = has_entry p t w.0 (first_false _ _ n.2) w.1 in
+    ((e.entries, e.there), dir_walk (walk (parent q) t) (second_false _ _ n.0) (second_false _ _ n.1))
+
+-- the directory at a place
+pub spot-is : (f : Form) (o : Table) (names : Names) (t : Tree) (place : Place) (spot : Spot) → place ≡ place_at f o names t → place ≡ at_place.Dir spot.number spot.entries → IsSpot f o names t spot
+spot-is f o names t place spot at is =
+    let e = ends_dir (inode_on f o 0 names) spot.number spot.entries (walk names t) (sym is ∙ at) in
+    record { inside = e.0; there = e.1; number = e.2; count = e.3 }
+
+pub spot-there : (f : Form) (o : Table) (names : Names) (t : Tree) (place : Place) → place ≡ place_at f o names t → IsDirWalk (walk names t) → ((number size : ℕ) → place ≢ at_place.Dir number size) → ⊥
+spot-there f o names t place at w none = none (inode_on f o 0 names) (length (rows w.0)) (at ∙ ap (λ x. place_by (inode_on f o 0 names) x) w.1)
+
+-- a move that was found
+pub found-move : (result : Result Move Refusal) (found : Option Why) (P : Move → Type 0) → found ≡ None → MatchResult result P (λ r. ⊥) → MatchResult result (λ step. (found ≡ None) × P step) (λ r. RefusedAs (refused_of r) found)
+found-move (Ok step) found P e h = (e, h)
+found-move (Err r) found P e h = absurd h
+
+-- behind the paths
+pub move-stages : (t : Tree) (k n : ℕ) (f : Form) (p q : Names) → paths_refusal f (p ∷ q ∷ []) ≡ None → refusal t k n f (Rename p q) ≡ or_else (move_refusal p q t) (quota_refusal n f k (next (Rename p q) t))
+move-stages t k n f p q names = rename-stages t k n f p q ∙ or_else-later (paths_refusal f (p ∷ q ∷ [])) (or_else (move_refusal p q t) (quota_refusal n f k (next (Rename p q) t))) names
+
+-- the files and directories below a path are no more than the lot has room for
+pub nodes-few : (f : Form) → f ≡ form_one → (mode : ℕ) (lot : LotView) (m : Map) (t : Tree) (k : ℕ) → MapRecovers f mode lot m t k → (p : Names) (s : Tree) → walk p t ≡ Found s → nodes s ≤ 64 * length lot.groups
+nodes-few f one mode lot m t k r p s found =
+    let e = free_nodes_are mode lot m t k (subst (λ (g : Form). MapRecovers g mode lot m t k) one r) in
+    let n = nodes-within p t s found in
+    omega arith
+
+-- the tree after an accepted operation
+pub answer-next : (t : Tree) (k n : ℕ) (f : Form) (op : Operation) → refusal t k n f op ≡ None → next op t ≡ (answer t k n f op).1
+answer-next t k n f op h = sym (ap (λ x. (answer_by x op t).1) h)
+
+-- what the last names of the paths are
+last-is : (path : Names) (depth : ℕ) (name : List ℕ) → depth < length path → name ≡ get_or path (length path - 1) [] → name ≡ last_name (drop depth path)
+last-is path depth name below is =
+    let last = length path - 1 in
+    sym (ap last_name (names-last path depth last name (omega arith) (omega arith) is) ∙ last-more (take (last - depth) (drop depth path)) name)
+
+pub renames-are : (f : Form) (mode : ℕ) (lot : LotView) (m later : Map) (t : Tree) (k : ℕ) (path to : Names) (depth : ℕ) (step : Move) (name new : List ℕ) → later ≡ m → MapRecovers f mode lot m t k → depth < length path → depth < length to
+    → name ≡ get_or path (length path - 1) [] → new ≡ get_or to (length to - 1) []
+    → (refusal t k (length lot.groups) f (Rename (drop depth path) (drop depth to)) ≡ None) × IsMove f (own_in f m) (drop depth path) (drop depth to) t step → Renames f mode lot later t k (drop depth path) (drop depth to) step name new
+renames-are f mode lot m later t k path to depth step name new same r below below_to is_name is_new x = record {
+  recovers = subst (λ (x : Map). MapRecovers f mode lot x t k) (sym same) r;
+  move_is = subst (λ (x : Map). IsMove f (own_in f x) (drop depth path) (drop depth to) t step) (sym same) x.1;
+  name_is = last-is path depth name below is_name;
+  new_is = last-is to depth new below_to is_new;
+  accepted = x.0;
+}

@@ -1,0 +1,56 @@
+use Rattle.std.proofs.Common.{ℕ, ◌≡◌, sym, ◌∙◌, arith, subst, drop, length}
+use Rattle.ice_base.proofs.LotLaws.{sited-few}
+use Rattle.tree_spec.specs.Costs.{form_of}
+use Rattle.tree_spec.specs.Replies.{refused_of}
+use Rattle.tree_spec.specs.Operations.{Rename}
+use Rattle.tree_spec.specs.Answers.{next}
+use Rattle.ice_tree.specs.Outcomes.{RefusedAs}
+use Rattle.ice_tree.specs.Renames.{move_refusal}
+use Rattle.ice_tree.specs.Stages.{quota_refusal}
+use Rattle.ice_tree.proofs.StageLaws.{refused-now, refused-later, none-both, recovers-same}
+use Rattle.ice_tree.proofs.RenameLaws.{move-stages}
+use Rattle.ice_tree.proofs.renames.may_move.Goals as goal
+
+pub need_of-need-requires-clause-from : goal.need_of-need-requires-clause-from
+need_of-need-requires-clause-from g c = let few = sited-few c.args.lot.now _ c.requires.sited in omega (arith, c.in-Ok.ensures.fits.from.count)
+
+pub need_of-need-requires-clause-to : goal.need_of-need-requires-clause-to
+need_of-need-requires-clause-to g c = let few = sited-few c.args.lot.now _ c.requires.sited in omega (arith, c.in-Ok.ensures.fits.to.count)
+
+pub returns-in-Err-clause-found : goal.returns-in-Err-clause-found
+returns-in-Err-clause-found g c = λ mode k t s r.
+    let f = form_of g.F.Form.VERSION in
+    let p = drop c.args.depth c.args.path.now in
+    let q = drop c.args.depth c.args.to.now in
+    let n = length c.args.lot.now.groups in
+    subst (RefusedAs (refused_of c.in-Err.refusal)) (sym (move-stages t k n f p q c.requires.names))
+    (refused-now (refused_of c.in-Err.refusal) (move_refusal p q t) (quota_refusal n f k (next (Rename p q) t)) (c.in-Err.ensures.found mode k t s r))
+
+pub returns-in-Err-check_quota-clause-found : goal.returns-in-Err-check_quota-clause-found
+returns-in-Err-check_quota-clause-found g c = λ mode k t s r.
+    let f = form_of g.F.Form.VERSION in
+    let p = drop c.args.depth c.args.path.now in
+    let q = drop c.args.depth c.args.to.now in
+    let n = length c.args.lot.now.groups in
+    let m = g.K.View.map c.args.keep.now c.args.disk.now c.args.lot.now in
+    let looked = c.find_move.ensures.looked in
+    let x = c.in-Ok.ensures.found mode k t s r in
+    let needs = c.need_of-need.ensures.needs mode k c.args.lot.now m t p q r c.requires.names x.0 x.1 in
+    subst (RefusedAs (refused_of c.in-Err-check_quota.refusal)) (sym (move-stages t k n f p q c.requires.names))
+    (refused-later (refused_of c.in-Err-check_quota.refusal) (move_refusal p q t) (quota_refusal n f k (next (Rename p q) t)) x.0
+    (c.in-Err-check_quota.ensures.quota mode k t (next (Rename p q) t) (looked.shows s) (recovers-same f mode c.args.lot.now _ _ t k looked.map r) needs))
+
+pub returns-in-Ok-check_quota-clause-found : goal.returns-in-Ok-check_quota-clause-found
+returns-in-Ok-check_quota-clause-found g c = λ mode k t s r.
+    let f = form_of g.F.Form.VERSION in
+    let p = drop c.args.depth c.args.path.now in
+    let q = drop c.args.depth c.args.to.now in
+    let n = length c.args.lot.now.groups in
+    let m = g.K.View.map c.args.keep.now c.args.disk.now c.args.lot.now in
+    let looked = c.find_move.ensures.looked in
+    let x = c.in-Ok.ensures.found mode k t s r in
+    let needs = c.need_of-need.ensures.needs mode k c.args.lot.now m t p q r c.requires.names x.0 x.1 in
+    (move-stages t k n f p q c.requires.names
+      ∙ none-both (move_refusal p q t) (quota_refusal n f k (next (Rename p q) t)) x.0
+      (c.in-Ok-check_quota.ensures.quota mode k t (next (Rename p q) t) (looked.shows s) (recovers-same f mode c.args.lot.now _ _ t k looked.map r) needs),
+    x.1)

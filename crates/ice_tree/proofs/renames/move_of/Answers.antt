@@ -1,0 +1,24 @@
+use Rattle.std.proofs.Common.{refl}
+use Rattle.ice_base.specs.declared.fault.Rule.TheVariants.{Kind}
+use Rattle.tree_spec.specs.Trees.{parent}
+use Rattle.ice_tree.proofs.RenameLaws.{ends-dirs, spot-is, spot-there}
+use Rattle.ice_tree.proofs.renames.move_of.Goals as goal
+
+pub returns-in-None-clause-set : goal.returns-in-None-clause-set
+returns-in-None-clause-set c = (Kind, refl)
+
+pub returns-in-None-spot_at-clause-set : goal.returns-in-None-spot_at-clause-set
+returns-in-None-spot_at-clause-set c = (Kind, refl)
+
+pub returns-in-None-clause-step : goal.returns-in-None-clause-step
+returns-in-None-clause-step c = λ f o p q t a b same none. spot-there f o (parent p) t _ a.at_parent (ends-dirs p q t none).0 c.in-None.ensures
+
+pub returns-in-None-spot_at-clause-step : goal.returns-in-None-spot_at-clause-step
+returns-in-None-spot_at-clause-step c = λ f o p q t a b same none. spot-there f o (parent q) t _ b.at_parent (ends-dirs p q t none).1 c.in-None-spot_at.ensures
+
+pub returns-in-Some-spot_at-clause-step : goal.returns-in-Some-spot_at-clause-step
+returns-in-Some-spot_at-clause-step c = λ f o p q t a b same none. record {
+  from_is = spot-is f o (parent p) t _ _ a.at_parent c.in-Some.ensures;
+  to_is = spot-is f o (parent q) t _ _ b.at_parent c.in-Some-spot_at.ensures;
+  same_is = same;
+}

@@ -1,0 +1,69 @@
+use Rattle.std.proofs.Common.{ℕ, ◌≡◌, ◌≤◌, ◌<◌, ◌+◌, ◌^◌, Option, Err, length, sym, ap, ◌∙◌, arith, subst, refl, IsSome}
+use Rattle.std.proofs.lemmas.Result.{err_from_is_err_and}
+use Rattle.ice_base.proofs.LotLaws.{sited-few}
+use Rattle.tree_spec.specs.Costs.{form_of}
+use Rattle.ice_tree.proofs.RenameLawsRows.{from_well, take_sound, row_there, row_small, to_well, add_sound, row_recovers}
+use Rattle.ice_tree.proofs.renames.move_row.Goals as goal
+
+pub returns-in_err-take-clause-sound : goal.returns-in_err-take-clause-sound
+returns-in_err-take-clause-sound g c = λ mode k t p q s x differ.
+    let f = form_of g.F.Form.VERSION in
+    let one = ap form_of g.F.Form.is_one.0 in
+    let m = g.K.View.map c.args.keep.now c.args.disk.now c.args.lot.now in
+    let few = sited-few c.args.lot.now _ c.requires.sited in
+    let y = err_from_is_err_and c.from_residual.result c.from_residual.ensures.1 in
+    let e = c.in_err-take.ensures in
+    rw (y.1, y.2) (take_sound f one g.F.Form.ENTRY g.F.Form.is_one.1 mode c.args.lot.now m t k p q c.args.step.now c.args.name.now c.args.new.now few x differ _ e.faults
+    (λ z. e.zero (ap (λ y. Err y) z) s) (λ z. e.kind (ap (λ y. Err y) z) s) (λ z. e.unused (ap (λ y. Err y) z) s) (λ z. e.pointer (ap (λ y. Err y) z) s))
+
+pub returns-in-None-clause-sound : goal.returns-in-None-clause-sound
+returns-in-None-clause-sound g c = λ mode k t p q s x differ.
+    let f = form_of g.F.Form.VERSION in
+    let one = ap form_of g.F.Form.is_one.0 in
+    let m = g.K.View.map c.args.keep.now c.args.disk.now c.args.lot.now in
+    let few = sited-few c.args.lot.now _ c.requires.sited in
+    absurd (row_there f one g.F.Form.ENTRY g.F.Form.is_one.1 mode c.args.lot.now m t k p q c.args.step.now c.args.name.now c.args.new.now few x differ (sym c.in-None.is ∙ c.in_ok-take.ensures.found s))
+
+pub returns-then-number-len-clause-sound : goal.returns-then-number-len-clause-sound
+returns-then-number-len-clause-sound g c = λ mode k t p q s x differ.
+    let f = form_of g.F.Form.VERSION in
+    let one = ap form_of g.F.Form.is_one.0 in
+    let m = g.K.View.map c.args.keep.now c.args.disk.now c.args.lot.now in
+    let few = sited-few c.args.lot.now _ c.requires.sited in
+    let m1 = g.K.View.map c.take.new.keep c.take.new.disk c.args.lot.now in
+    let found = sym c.in-Some.is ∙ c.in_ok-take.ensures.found s in
+    let well = from_well f one g.F.Form.ENTRY g.F.Form.is_one.1 mode c.args.lot.now m t k p q c.args.step.now c.args.name.now c.args.new.now few x differ in
+    let set = c.in_ok-take.ensures.taken s well (subst (λ (o : Option ℕ). IsSome o) (sym c.in-Some.is) refl) in
+    let small = row_small f one g.F.Form.ENTRY g.F.Form.is_one.1 mode c.args.lot.now m t k p q c.args.step.now c.args.name.now c.args.new.now few x differ m1 c.in-Some.number found set in
+    absurd (omega (arith, c.len.ensures.len, c.if-number-len.true))
+
+pub returns-in_err-add-in-Some-clause-sound : goal.returns-in_err-add-in-Some-clause-sound
+returns-in_err-add-in-Some-clause-sound g c = λ mode k t p q s x differ.
+    let f = form_of g.F.Form.VERSION in
+    let one = ap form_of g.F.Form.is_one.0 in
+    let m = g.K.View.map c.args.keep.now c.args.disk.now c.args.lot.now in
+    let few = sited-few c.args.lot.now _ c.requires.sited in
+    let m1 = g.K.View.map c.take.new.keep c.take.new.disk c.args.lot.now in
+    let found = sym c.in-Some.is ∙ c.in_ok-take.ensures.found s in
+    let well = from_well f one g.F.Form.ENTRY g.F.Form.is_one.1 mode c.args.lot.now m t k p q c.args.step.now c.args.name.now c.args.new.now few x differ in
+    let set = c.in_ok-take.ensures.taken s well (subst (λ (o : Option ℕ). IsSome o) (sym c.in-Some.is) refl) in
+    let y = err_from_is_err_and c.from_residual-in_err-add-in-Some.result c.from_residual-in_err-add-in-Some.ensures.1 in
+    let e = c.in_err-add-in-Some.ensures in
+    let s1 = c.take.ensures.spent.shows s in
+    rw (y.1, y.2) (add_sound f one g.F.Form.ENTRY g.F.Form.is_one.1 mode c.args.lot.now m t k p q c.args.step.now c.args.name.now c.args.new.now few x differ m1 c.in-Some.number found set _ e.faults
+    (λ z. e.none (ap (λ y. Err y) z) s1) (λ z. e.full (ap (λ y. Err y) z) s1) (λ z. e.kind (ap (λ y. Err y) z) s1) (λ z. e.pointer (ap (λ y. Err y) z) s1) (λ z. e.unreserved (ap (λ y. Err y) z) s1))
+
+pub returns-in_ok-add-in-Some-clause-moved : goal.returns-in_ok-add-in-Some-clause-moved
+returns-in_ok-add-in-Some-clause-moved g c = λ mode k t p q s x differ.
+    let f = form_of g.F.Form.VERSION in
+    let one = ap form_of g.F.Form.is_one.0 in
+    let m = g.K.View.map c.args.keep.now c.args.disk.now c.args.lot.now in
+    let few = sited-few c.args.lot.now _ c.requires.sited in
+    let m1 = g.K.View.map c.take.new.keep c.take.new.disk c.args.lot.now in
+    let found = sym c.in-Some.is ∙ c.in_ok-take.ensures.found s in
+    let well = from_well f one g.F.Form.ENTRY g.F.Form.is_one.1 mode c.args.lot.now m t k p q c.args.step.now c.args.name.now c.args.new.now few x differ in
+    let set = c.in_ok-take.ensures.taken s well (subst (λ (o : Option ℕ). IsSome o) (sym c.in-Some.is) refl) in
+    let s1 = c.take.ensures.spent.shows s in
+    row_recovers f one g.F.Form.ENTRY g.F.Form.is_one.1 mode c.args.lot.now m t k p q c.args.step.now c.args.name.now c.args.new.now few x differ m1 c.in-Some.number found set c.bytes-bytes.ensures.name (omega (arith, c.requires.short, g.F.Form.is_one.2))
+    (g.K.View.map c.add.new.keep c.add.new.disk c.args.lot.now)
+    (c.in_ok-add-in-Some.ensures.added s1 (to_well f one g.F.Form.ENTRY g.F.Form.is_one.1 mode c.args.lot.now m t k p q c.args.step.now c.args.name.now c.args.new.now few x differ m1 c.in-Some.number found set))

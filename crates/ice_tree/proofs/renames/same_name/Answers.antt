@@ -1,0 +1,10 @@
+use Rattle.std.proofs.Common.{◌≡◌, List, ℕ, get_or, sym, ap, ◌∙◌}
+use Rattle.std.specs.Cmp.Lexicographic.{texts_ties}
+use Rattle.tree_spec.specs.Routes.{is_same_name}
+use Rattle.ice_tree.proofs.renames.same_name.Goals as goal
+
+pub returns : goal.returns
+returns c = λ d.
+    let a : c.bytes.result.now ≡ get_or c.args.path.now c.args.i d = c.bytes.ensures.value ∙ c.name-a.ensures d in
+    let b : c.bytes-2.result.now ≡ get_or c.args.to.now c.args.i d = c.bytes-2.ensures.value ∙ c.name-b.ensures d in
+    c.eq.ensures ∙ texts_ties c.bytes.result.now c.bytes-2.result.now ∙ (λ k. is_same_name (a k) (b k))

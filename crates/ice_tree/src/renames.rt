@@ -1,0 +1,458 @@
+//! Files and directories that move.
+ghost use Rattle.std.specs.Prelude.{◌≡◌, ◌≢◌, ◌≤◌, ◌<◌, ◌+◌, ◌*◌, ◌||◌, ℕ, List, true, false, [], ◌∷◌, Some, None, OnOk, IfOk, IfErr, IsErrOf, MatchResult, MatchOption, length, drop, get_or};
+ghost use Rattle.ice_base.specs.Disk.{Rose};
+ghost use Rattle.ice_base.specs.Lots.{LotView, is_sited, sub_address};
+ghost use Rattle.ice_base.specs.Views.{Looked, Spent};
+ghost use Rattle.ice_base.specs.declared.fault.OpFault.TheVariants.{Disk as FaultDisk};
+ghost use Rattle.tree_spec.specs.Answers.{answer, refusal, next, is_root, is_found, is_not_found, is_not_dir, deepest};
+ghost use Rattle.tree_spec.specs.Costs.{Form, form_of, map_cost, dir_blocks};
+ghost use Rattle.tree_spec.specs.Operations.{Rename};
+ghost use Rattle.tree_spec.specs.Replies.{number_of, refused_of};
+ghost use Rattle.tree_spec.specs.Routes.{is_prefix, is_same_name, is_same_path};
+ghost use Rattle.tree_spec.specs.Trees.{Tree, Walk, needs_dir};
+ghost use Rattle.tree_spec.specs.Why.{Why};
+ghost use Rattle.tree_spec.specs.declared.reply.Refusal.TheVariants.{Fault};
+ghost use Rattle.ice_reads.specs.Tables.{Map, Table, own_in};
+ghost use Rattle.ice_reads.specs.Recovers.{MapRecovers};
+ghost use Rattle.ice_tree.specs.Changes.{IsEnds, EndsFit, Needs};
+ghost use Rattle.ice_tree.specs.Outcomes.{AsModel, RefusedAs, meant_plain, ShownBy, IsTreeRefusal};
+ghost use Rattle.ice_tree.specs.Places.{PlaceFits, place_at, place_by};
+ghost use Rattle.ice_tree.specs.Renames.{height_refusal, ends_refusal, move_refusal, IsMove, MoveFits, Renames};
+ghost use Rattle.ice_tree.specs.Stages.{or_else, paths_refusal, quota_refusal};
+ghost use Rattle.ice_tree.specs.declared.place.Place.TheVariants.{Dir};
+
+use crate::counts::count_up;
+use crate::ends::{Ends, Spot, find_ends};
+use crate::fault::refusal_of;
+use crate::heights::is_higher;
+use crate::paths::check_paths;
+use crate::place::Place;
+use crate::quota::{Need, check_quota, dir_cost};
+use ice_base::{Disk, Form, Keep, Lot, OpFault, Pool, Rule, View};
+use ice_dir::{add, take};
+use tree_spec::{Name, Path, Refusal};
+
+/// The most names of a path below the root.
+const DEEPEST: usize = 24;
+
+/// A rename: the directory that loses an entry, the one that gains it, and whether both paths are one, so that nothing moves.
+#[derive(Clone, Copy, Drop)]
+pub struct Move {
+    pub from: Spot,
+    pub to: Spot,
+    pub same: bool,
+}
+
+/// Whether two paths have the same name at a place.
+fn same_name(path: &Path, to: &Path, i: usize) -> bool
+    requires in_path { i < length path.now }
+    requires in_to { i < length to.now }
+    ensures { (d : List ℕ) → result ≡ is_same_name (get_or path.now i d) (get_or to.now i d) }
+{
+    let a = path.name(i);
+    let b = to.name(i);
+    a.bytes() == b.bytes()
+}
+
+/// Whether the names of the first path from `depth` on begin those of the second.
+fn begins(path: &Path, to: &Path, depth: usize) -> bool
+    requires path { depth ≤ length path.now }
+    requires to { depth ≤ length to.now }
+    ensures { result ≡ is_prefix (drop depth path.now) (drop depth to.now) }
+{
+    if path.len() > to.len() {
+        return false;
+    }
+    for i in depth..path.len() {
+        if !same_name(path, to, i) {
+            return false;
+        }
+    }
+    true
+}
+
+/// Whether the names from `depth` on are the same.
+fn is_one_path(path: &Path, to: &Path, depth: usize) -> bool
+    requires path { depth ≤ length path.now }
+    requires to { depth ≤ length to.now }
+    ensures { result ≡ is_same_path (drop depth path.now) (drop depth to.now) }
+{
+    begins(path, to, depth) && begins(to, path, depth)
+}
+
+/// Whether one of two paths, of so many names each, is the root.
+fn has_root(here: usize, there: usize) -> bool
+    ensures root { (p q : List (List ℕ)) → length p ≡ here → length q ≡ there → result ≡ (is_root p || is_root q) }
+    ensures below { result ≡ false → (1 ≤ here) × (1 ≤ there) }
+{
+    here == 0 || there == 0
+}
+
+/// Whether one of two walks ended at a directory without the next name: that of the path, and that to the directory of the new path.
+fn is_one_missing(end: Place, parent: Place) -> bool
+    ensures { (i j : ℕ) (v w : Walk) → end ≡ place_by i v → parent ≡ place_by j w → result ≡ (is_not_found v || is_not_found (needs_dir w)) }
+{
+    match end {
+        Place::Missing => true,
+        _ => match parent {
+            Place::Missing => true,
+            _ => false,
+        },
+    }
+}
+
+/// Whether one of them ended at a file with a name left, the second one with or without.
+fn is_one_blocked(end: Place, parent: Place) -> bool
+    ensures { (i j : ℕ) (v w : Walk) → end ≡ place_by i v → parent ≡ place_by j w → result ≡ (is_not_dir v || is_not_dir (needs_dir w)) }
+{
+    match end {
+        Place::Blocked => true,
+        _ => match parent {
+            Place::Blocked => true,
+            Place::File { .. } => true,
+            _ => false,
+        },
+    }
+}
+
+/// Whether a walk found something.
+fn is_there(place: Place) -> bool
+    ensures { (i : ℕ) (w : Walk) → place ≡ place_by i w → result ≡ is_found w }
+{
+    match place {
+        Place::File { .. } => true,
+        Place::Dir { .. } => true,
+        Place::Missing => false,
+        Place::Blocked => false,
+    }
+}
+
+/// The refusals by the height of what is moved: below the new path it would reach too deep. What goes no deeper than it stood is not looked at.
+fn check_height<D: Disk, V: View<D>, F: Form>(
+    view: &mut V,
+    disk: &mut D,
+    lot: &Lot,
+    place: Place,
+    here: usize,
+    there: usize,
+) -> Result<(), Refusal>
+    requires sited { is_sited lot.now (D.state disk.old).size ≡ true }
+    requires fits { PlaceFits lot.now place }
+    requires shallow { there ≤ deepest }
+    ensures height { (mode k : ℕ) (t : Tree) (p q : List (List ℕ)) → V.shows lot.now view.old disk.old → MapRecovers (form_of F.VERSION) mode lot.now (V.map view.old disk.old lot.now) t k
+        → place ≡ place_at (form_of F.VERSION) (own_in (form_of F.VERSION) (V.map view.old disk.old lot.now)) p t → length p ≡ here → length q ≡ there
+        → MatchResult result (λ u. height_refusal p q t ≡ None) (λ r. RefusedAs (refused_of r) (height_refusal p q t)) }
+    ensures looked { Looked D.Disk V.View lot.now view.old disk.old view.new disk.new }
+    ensures set { IfErr result IsTreeRefusal }
+    ensures failed { IsErrOf result Fault → Rose (D.state disk.old).faults (D.state disk.new).faults }
+{
+    if there <= here {
+        return Ok(());
+    }
+    match place {
+        Place::File { .. } => return Ok(()),
+        Place::Missing => return Ok(()),
+        Place::Blocked => return Ok(()),
+        Place::Dir { .. } => {}
+    }
+    let mut budget = 64 * lot.len() as u32;
+    let levels = (DEEPEST - there) as u32;
+    match is_higher::<D, V, F>(view, disk, lot, place, levels, &mut budget) {
+        Err(fault) => Err(refusal_of(fault)),
+        Ok(true) => Err(Refusal::TooDeep),
+        Ok(false) => Ok(()),
+    }
+}
+
+/// The refusals by what stands at the two paths: `root` where either has no names, `begins` where the first begins the second,
+/// `same` where they are one.
+fn check_ends(
+    from: &Ends,
+    into: &Ends,
+    root: bool,
+    begins: bool,
+    same: bool,
+) -> Result<(), Refusal>
+    ensures ends { (f : Form) (o : Table) (p q : List (List ℕ)) (t : Tree) → IsEnds f o p t from.now → IsEnds f o q t into.now → root ≡ (is_root p || is_root q) → begins ≡ is_prefix p q → same ≡ is_same_path p q
+        → MatchResult result (λ u. ends_refusal p q t ≡ None) (λ r. RefusedAs (refused_of r) (ends_refusal p q t)) }
+    ensures rootless { OnOk result (root ≡ false) }
+    ensures set { IfErr result IsTreeRefusal }
+    ensures faultless { IsErrOf result Fault → ⊥ }
+{
+    if is_one_missing(from.end, into.parent) {
+        return Err(Refusal::NotFound);
+    }
+    if is_one_blocked(from.end, into.parent) {
+        return Err(Refusal::NotDir);
+    }
+    if root {
+        return Err(Refusal::IsRoot);
+    }
+    if same {
+        return Ok(());
+    }
+    if is_there(into.end) {
+        return Err(Refusal::Exists);
+    }
+    if begins {
+        return Err(Refusal::IntoItself);
+    }
+    Ok(())
+}
+
+/// The directory at a place.
+fn spot_at(place: Place) -> Option<Spot>
+    ensures { MatchOption result ((number size : ℕ) → place ≢ Dir number size) (λ spot. place ≡ Dir spot.number spot.entries) }
+{
+    match place {
+        Place::Dir { number, size } => Some(Spot {
+            number,
+            entries: size,
+        }),
+        Place::File { .. } => None,
+        Place::Missing => None,
+        Place::Blocked => None,
+    }
+}
+
+/// The directories of both paths. Damaged, with the rule on kinds: something else stands where a walk went through.
+fn move_of(from: &Ends, into: &Ends, same: bool) -> Result<Move, Refusal>
+    ensures step { (f : Form) (o : Table) (p q : List (List ℕ)) (t : Tree) → IsEnds f o p t from.now → IsEnds f o q t into.now → same ≡ is_same_path p q → ends_refusal p q t ≡ None → MatchResult result (IsMove f o p q t) (λ r. ⊥) }
+    ensures fits { (lot : LotView) → EndsFit lot from.now → EndsFit lot into.now → IfOk result (MoveFits lot) }
+    ensures set { IfErr result IsTreeRefusal }
+    ensures faultless { IsErrOf result Fault → ⊥ }
+{
+    match spot_at(from.parent) {
+        None => Err(Refusal::Damaged(Rule::Kind as u8)),
+        Some(source) => match spot_at(into.parent) {
+            None => Err(Refusal::Damaged(Rule::Kind as u8)),
+            Some(target) => Ok(Move {
+                from: source,
+                to: target,
+                same,
+            }),
+        },
+    }
+}
+
+/// What the two paths lead to. Damaged, with the rule on kinds: something else than a directory stands where a walk went through.
+fn find_move<D: Disk, V: View<D>, F: Form>(
+    view: &mut V,
+    disk: &mut D,
+    lot: &Lot,
+    path: &Path,
+    to: &Path,
+    depth: usize,
+) -> Result<Move, Refusal>
+    requires sited { is_sited lot.now (D.state disk.old).size ≡ true }
+    requires some { 1 ≤ length lot.now.groups }
+    requires depth { depth ≤ length path.now }
+    requires depth_to { depth ≤ length to.now }
+    requires shallow { length to.now ≤ depth + deepest }
+    ensures found { (mode k : ℕ) (t : Tree) → V.shows lot.now view.old disk.old → MapRecovers (form_of F.VERSION) mode lot.now (V.map view.old disk.old lot.now) t k
+        → MatchResult result (λ step. (move_refusal (drop depth path.now) (drop depth to.now) t ≡ None) × IsMove (form_of F.VERSION) (own_in (form_of F.VERSION) (V.map view.old disk.old lot.now)) (drop depth path.now) (drop depth to.now) t step)
+        (λ r. RefusedAs (refused_of r) (move_refusal (drop depth path.now) (drop depth to.now) t)) }
+    ensures fits { IfOk result (MoveFits lot.now) }
+    ensures below { OnOk result ((depth < length path.now) × (depth < length to.now)) }
+    ensures looked { Looked D.Disk V.View lot.now view.old disk.old view.new disk.new }
+    ensures set { IfErr result IsTreeRefusal }
+    ensures failed { IsErrOf result Fault → Rose (D.state disk.old).faults (D.state disk.new).faults }
+{
+    let from = match find_ends::<D, V, F>(view, disk, lot, path, depth) {
+        Err(fault) => return Err(refusal_of(fault)),
+        Ok(ends) => ends,
+    };
+    let into = match find_ends::<D, V, F>(view, disk, lot, to, depth) {
+        Err(fault) => return Err(refusal_of(fault)),
+        Ok(ends) => ends,
+    };
+    let here = path.len() - depth;
+    let there = to.len() - depth;
+    if let Err(refusal) = check_height::<D, V, F>(view, disk, lot, from.end, here, there) {
+        return Err(refusal);
+    }
+    let inside = begins(path, to, depth);
+    let same = is_one_path(path, to, depth);
+    if let Err(refusal) = check_ends(&from, &into, has_root(here, there), inside, same) {
+        return Err(refusal);
+    }
+    move_of(&from, &into, same)
+}
+
+/// The blocks of two directories of so many entries.
+fn two_costs<F: Form>(a: u32, b: u32) -> u32
+    requires a { a ≤ 4096 }
+    requires b { b ≤ 4096 }
+    ensures { result ≡ map_cost (dir_blocks (form_of F.VERSION) a) + map_cost (dir_blocks (form_of F.VERSION) b) }
+{
+    dir_cost::<F>(a) + dir_cost::<F>(b)
+}
+
+/// What a rename needs: where the directories differ, one loses an entry and the other gains one.
+fn need_of<F: Form>(step: &Move) -> Need
+    requires from { step.now.from.entries < 4096 }
+    requires to { step.now.to.entries < 4096 }
+    ensures needs { (mode k : ℕ) (lot : LotView) (m : Map) (t : Tree) (p q : List (List ℕ)) → MapRecovers (form_of F.VERSION) mode lot m t k → paths_refusal (form_of F.VERSION) (p ∷ q ∷ []) ≡ None → move_refusal p q t ≡ None
+        → IsMove (form_of F.VERSION) (own_in (form_of F.VERSION) m) p q t step.now → Needs (form_of F.VERSION) t (next (Rename p q) t) result }
+{
+    if step.same || step.from.number == step.to.number {
+        return Need {
+            nodes: 0,
+            lost: 0,
+            blocks: 0,
+            freed: 0,
+        };
+    }
+    Need {
+        nodes: 0,
+        lost: 0,
+        blocks: two_costs::<F>(step.to.entries + 1, step.from.entries.saturating_sub(1)),
+        freed: two_costs::<F>(step.to.entries, step.from.entries),
+    }
+}
+
+/// What a rename moves, where nothing but the names of the paths refuses it.
+fn may_move<D: Disk, K: Keep<D>, P: Pool<D, K>, F: Form>(
+    keep: &mut K,
+    pool: &mut P,
+    disk: &mut D,
+    lot: &Lot,
+    path: &Path,
+    to: &Path,
+    depth: usize,
+) -> Result<Move, Refusal>
+    requires sited { is_sited lot.now (D.state disk.old).size ≡ true }
+    requires some { 1 ≤ length lot.now.groups }
+    requires depth { depth ≤ length path.now }
+    requires depth_to { depth ≤ length to.now }
+    requires names { paths_refusal (form_of F.VERSION) (drop depth path.now ∷ drop depth to.now ∷ []) ≡ None }
+    ensures found { (mode k : ℕ) (t : Tree) → K.shows lot.now keep.old disk.old → MapRecovers (form_of F.VERSION) mode lot.now (K.map keep.old disk.old lot.now) t k
+        → MatchResult result
+        (λ step. (refusal t k (length lot.now.groups) (form_of F.VERSION) (Rename (drop depth path.now) (drop depth to.now)) ≡ None) × IsMove (form_of F.VERSION) (own_in (form_of F.VERSION) (K.map keep.old disk.old lot.now)) (drop depth path.now) (drop depth to.now) t step)
+        (λ r. RefusedAs (refused_of r) (refusal t k (length lot.now.groups) (form_of F.VERSION) (Rename (drop depth path.now) (drop depth to.now)))) }
+    ensures fits { IfOk result (MoveFits lot.now) }
+    ensures below { OnOk result ((depth < length path.now) × (depth < length to.now)) }
+    ensures looked { Looked D.Disk K.View lot.now keep.old disk.old keep.new disk.new }
+    ensures set { IfErr result IsTreeRefusal }
+    ensures failed { IsErrOf result Fault → Rose (D.state disk.old).faults (D.state disk.new).faults }
+{
+    match find_move::<D, K, F>(keep, disk, lot, path, to, depth) {
+        Err(refusal) => Err(refusal),
+        Ok(step) => {
+            let need = need_of::<F>(&step);
+            match check_quota::<D, K, P, F>(keep, pool, disk, lot, &need) {
+                Err(refusal) => Err(refusal),
+                Ok(()) => Ok(step),
+            }
+        }
+    }
+}
+
+/// Takes an entry from its directory, and adds it to the other under the new name. Damaged, with the rule on kinds: the directory has no such
+/// entry; with the rule on inodes: the entry names none of the lot.
+fn move_row<D: Disk, K: Keep<D>, P: Pool<D, K>, F: Form>(
+    keep: &mut K,
+    pool: &mut P,
+    disk: &mut D,
+    lot: &Lot,
+    step: &Move,
+    name: &Name,
+    new: &Name,
+) -> Result<(), OpFault>
+    requires sited { is_sited lot.now (D.state disk.old).size ≡ true }
+    requires fits { MoveFits lot.now step.now }
+    requires short { length new.now ≤ F.NAME }
+    requires room { 16 ≤ K.room keep.old }
+    ensures moved { (mode k : ℕ) (t : Tree) (p q : List (List ℕ)) → K.shows lot.now keep.old disk.old → Renames (form_of F.VERSION) mode lot.now (K.map keep.old disk.old lot.now) t k p q step.now name.now new.now → step.now.same ≡ false
+        → OnOk result (MapRecovers (form_of F.VERSION) mode lot.now (K.map keep.new disk.new lot.now) (next (Rename p q) t) k) }
+    ensures sound { (mode k : ℕ) (t : Tree) (p q : List (List ℕ)) → K.shows lot.now keep.old disk.old → Renames (form_of F.VERSION) mode lot.now (K.map keep.old disk.old lot.now) t k p q step.now name.now new.now → step.now.same ≡ false
+        → IfErr result (λ e. e ≡ FaultDisk) }
+    ensures spent { Spent D.Disk K.View lot.now 16 keep.old disk.old keep.new disk.new }
+    ensures failed { IsErrOf result FaultDisk → Rose (D.state disk.old).faults (D.state disk.new).faults }
+{
+    let _bytes = new.bytes();
+    match take::<D, K, P, F>(keep, pool, disk, lot, step.from.number, name)? {
+        None => Err(OpFault::Damaged(Rule::Kind)),
+        Some(number) => {
+            if number >= 64 * lot.len() as u32 {
+                return Err(OpFault::Damaged(Rule::InodeTwice));
+            }
+            add::<D, K, P, F>(keep, pool, disk, lot, step.to.number, new, number)?;
+            Ok(())
+        }
+    }
+}
+
+/// The same, as one more accepted operation, which moves nothing where both paths are one.
+fn put_moved<D: Disk, K: Keep<D>, P: Pool<D, K>, F: Form>(
+    keep: &mut K,
+    pool: &mut P,
+    disk: &mut D,
+    lot: &Lot,
+    step: &Move,
+    name: &Name,
+    new: &Name,
+) -> Result<(), OpFault>
+    requires sited { is_sited lot.now (D.state disk.old).size ≡ true }
+    requires fits { MoveFits lot.now step.now }
+    requires short { length new.now ≤ F.NAME }
+    requires room { 17 ≤ K.room keep.old }
+    ensures moved { (mode k : ℕ) (t : Tree) (p q : List (List ℕ)) → K.shows lot.now keep.old disk.old → Renames (form_of F.VERSION) mode lot.now (K.map keep.old disk.old lot.now) t k p q step.now name.now new.now
+        → OnOk result (MapRecovers (form_of F.VERSION) mode lot.now (K.map keep.new disk.new lot.now) (next (Rename p q) t) (k + 1)) }
+    ensures sound { (mode k : ℕ) (t : Tree) (p q : List (List ℕ)) → K.shows lot.now keep.old disk.old → Renames (form_of F.VERSION) mode lot.now (K.map keep.old disk.old lot.now) t k p q step.now name.now new.now
+        → IfErr result (λ e. e ≡ FaultDisk) }
+    ensures counted { OnOk result (K.held keep.new sub_address ≡ true) }
+    ensures spent { Spent D.Disk K.View lot.now 17 keep.old disk.old keep.new disk.new }
+    ensures failed { IsErrOf result FaultDisk → Rose (D.state disk.old).faults (D.state disk.new).faults }
+{
+    if step.same {
+        count_up(keep, disk, lot)?;
+        return Ok(());
+    }
+    move_row::<D, K, P, F>(keep, pool, disk, lot, step, name, new)?;
+    count_up(keep, disk, lot)?;
+    Ok(())
+}
+
+/// Renames a file or a directory. `depth` is the number of names of the cube's path. After a fault or damage the keep may hold part of the change.
+pub fn rename<D: Disk, K: Keep<D>, P: Pool<D, K>, F: Form>(
+    keep: &mut K,
+    pool: &mut P,
+    disk: &mut D,
+    lot: &Lot,
+    path: &Path,
+    to: &Path,
+    depth: usize,
+) -> Result<(), Refusal>
+    requires sited { is_sited lot.now (D.state disk.old).size ≡ true }
+    requires some { 1 ≤ length lot.now.groups }
+    requires depth { depth ≤ length path.now }
+    requires depth_to { depth ≤ length to.now }
+    requires room { 96 ≤ K.room keep.old }
+    ensures answers { (mode k : ℕ) (t : Tree) → K.shows lot.now keep.old disk.old → MapRecovers (form_of F.VERSION) mode lot.now (K.map keep.old disk.old lot.now) t k
+        → AsModel (meant_plain result) (answer t k (length lot.now.groups) (form_of F.VERSION) (Rename (drop depth path.now) (drop depth to.now))).0 }
+    ensures changed { (mode k : ℕ) (t : Tree) → K.shows lot.now keep.old disk.old → MapRecovers (form_of F.VERSION) mode lot.now (K.map keep.old disk.old lot.now) t k
+        → OnOk result (MapRecovers (form_of F.VERSION) mode lot.now (K.map keep.new disk.new lot.now) (answer t k (length lot.now.groups) (form_of F.VERSION) (Rename (drop depth path.now) (drop depth to.now))).1 (k + 1)) }
+    ensures counted { OnOk result (K.held keep.new sub_address ≡ true) }
+    ensures paths { ShownBy (paths_refusal (form_of F.VERSION) (drop depth path.now ∷ drop depth to.now ∷ [])) result }
+    ensures untouched { (r : Why) → paths_refusal (form_of F.VERSION) (drop depth path.now ∷ drop depth to.now ∷ []) ≡ Some r → (disk.new ≡ disk.old) × (keep.new ≡ keep.old) × (pool.new ≡ pool.old) }
+    ensures refused { IfErr result (λ r. number_of r ≤ 14 → Looked D.Disk K.View lot.now keep.old disk.old keep.new disk.new) }
+    ensures spent { Spent D.Disk K.View lot.now 96 keep.old disk.old keep.new disk.new }
+    ensures set { IfErr result IsTreeRefusal }
+    ensures failed { IsErrOf result Fault → Rose (D.state disk.old).faults (D.state disk.new).faults }
+{
+    if let Err(refusal) = check_paths::<F>(path, to, depth) {
+        return Err(refusal);
+    }
+    match may_move::<D, K, P, F>(keep, pool, disk, lot, path, to, depth) {
+        Err(refusal) => Err(refusal),
+        Ok(step) => {
+            let name = path.name(path.len() - 1);
+            let new = to.name(to.len() - 1);
+            match put_moved::<D, K, P, F>(keep, pool, disk, lot, &step, &name, &new) {
+                Err(fault) => Err(refusal_of(fault)),
+                Ok(()) => Ok(()),
+            }
+        }
+    }
+}
