@@ -51,9 +51,6 @@ abbrev pub BeginsFrom : Names → Names → ℕ → ℕ → Type 0
 BeginsFrom p q depth i = is_prefix (drop (i - depth) (drop depth p)) (drop (i - depth) (drop depth q)) ≡ is_prefix (drop depth p) (drop depth q)
 
 module _ (p q : Names) (depth : ℕ) where
-  pub begins-first : (i : ℕ) → i ≡ depth → BeginsFrom p q depth i
-  begins-first i e = let z : i - depth ≡ 0 = omega arith in ap (λ n. is_prefix (drop n (drop depth p)) (drop n (drop depth q))) z
-
   pub begins-longer : depth ≤ length q → length q < length p → false ≡ is_prefix (drop depth p) (drop depth q)
   begins-longer h l = longer (drop depth p) (drop depth q) (omega (arith, length-drop depth p, length-drop depth q))
 
@@ -72,9 +69,6 @@ module _ (p q : Names) (depth : ℕ) where
 
     pub begins-differs : is_same_name (get_or p i []) (get_or q i []) ≡ false → BeginsFrom p q depth i → false ≡ is_prefix (drop depth p) (drop depth q)
     begins-differs e is = differs (drop depth p) (drop depth q) (i - depth) (omega (arith, length-drop depth p)) (omega (arith, length-drop depth q)) (same-here false e) is
-
-  pub begins-all : (i : ℕ) → depth ≤ i → i ≡ length p → BeginsFrom p q depth i → true ≡ is_prefix (drop depth p) (drop depth q)
-  begins-all i h e is = end (drop depth p) (drop depth q) (i - depth) (omega (arith, length-drop depth p)) is
 
 -- ---- one stage after another
 
@@ -100,34 +94,13 @@ by_tests missing blocked root taken into =
     or_else (if blocked then Some why.NotDir else None) (
     or_else (if root then Some why.IsRoot else None) (or_else (if taken then Some why.Exists else None) (if into then Some why.IntoItself else None))))
 
-module _ (missing blocked root found same begins : Bool) where
-  pub ends-missing : missing ≡ true → by_tests missing blocked root (found && not same) (begins && not same) ≡ Some why.NotFound
-  ends-missing m = ap (λ x. by_tests x blocked root (found && not same) (begins && not same)) m
+never : (x : Bool) → (x && false) ≡ false
+never true = refl
+never false = refl
 
-  module _ (m : missing ≡ false) where
-    pub ends-blocked : blocked ≡ true → by_tests missing blocked root (found && not same) (begins && not same) ≡ Some why.NotDir
-    ends-blocked b = λ z. by_tests (m z) (b z) root (found && not same) (begins && not same)
-
-    module _ (b : blocked ≡ false) where
-      pub ends-root : root ≡ true → by_tests missing blocked root (found && not same) (begins && not same) ≡ Some why.IsRoot
-      ends-root r = λ z. by_tests (m z) (b z) (r z) (found && not same) (begins && not same)
-
-      module _ (r : root ≡ false) where
-        never : (x : Bool) → (x && false) ≡ false
-        never true = refl
-        never false = refl
-
-        pub ends-same : same ≡ true → by_tests missing blocked root (found && not same) (begins && not same) ≡ None
-        ends-same s = (λ z. by_tests (m z) (b z) (r z) (found && not (s z)) (begins && not (s z))) ∙ (λ z. by_tests false false false (never found z) (never begins z))
-
-        pub ends-taken : same ≡ false → found ≡ true → by_tests missing blocked root (found && not same) (begins && not same) ≡ Some why.Exists
-        ends-taken s f = λ z. by_tests (m z) (b z) (r z) (f z && not (s z)) (begins && not same)
-
-        pub ends-into : same ≡ false → found ≡ false → begins ≡ true → by_tests missing blocked root (found && not same) (begins && not same) ≡ Some why.IntoItself
-        ends-into s f i = λ z. by_tests (m z) (b z) (r z) (f z && not (s z)) (i z && not (s z))
-
-        pub ends-none : same ≡ false → found ≡ false → begins ≡ false → by_tests missing blocked root (found && not same) (begins && not same) ≡ None
-        ends-none s f i = λ z. by_tests (m z) (b z) (r z) (f z && not (s z)) (i z && not (s z))
+-- both paths are one
+pub ends-same : (missing blocked root found same begins : Bool) → missing ≡ false → blocked ≡ false → root ≡ false → same ≡ true → by_tests missing blocked root (found && not same) (begins && not same) ≡ None
+ends-same missing blocked root found same begins m b r s = (λ z. by_tests (m z) (b z) (r z) (found && not (s z)) (begins && not (s z))) ∙ (λ z. by_tests false false false (never found z) (never begins z))
 
 -- ---- heights
 
@@ -139,10 +112,10 @@ low-walk (Found s) n h =
 low-walk NotFound n h = refl
 low-walk NotDir n h = refl
 
-pub low-fits : (p q : Names) (t : Tree) → ((s : Tree) → walk p t ≡ Found s → length q + height s ≤ deepest) → height_refusal p q t ≡ None
+low-fits : (p q : Names) (t : Tree) → ((s : Tree) → walk p t ≡ Found s → length q + height s ≤ deepest) → height_refusal p q t ≡ None
 low-fits p q t h = low-walk (walk p t) (length q) h
 
-pub high-fails : (p q : Names) (t s : Tree) → walk p t ≡ Found s → deepest < length q + height s → height_refusal p q t ≡ Some why.TooDeep
+high-fails : (p q : Names) (t s : Tree) → walk p t ≡ Found s → deepest < length q + height s → height_refusal p q t ≡ Some why.TooDeep
 high-fails p q t s found h =
     let e : nat_lt deepest (length q + height s) ≡ true = grind (arith, nat_tests) in
     ap (λ w. if is_found w && nat_lt deepest (length q + height (tree_found w)) then Some why.TooDeep else None) found ∙ ap (λ b. if b then Some why.TooDeep else None) e
@@ -168,12 +141,12 @@ nodes-some (File bytes) = omega arith
 nodes-some (Dir es) = omega arith
 
 -- a tree has no fewer files and directories than its part
-pub nodes-within : (p : Names) (t s : Tree) → walk p t ≡ Found s → nodes s ≤ nodes t
+nodes-within : (p : Names) (t s : Tree) → walk p t ≡ Found s → nodes s ≤ nodes t
 nodes-within p t s found = let e = total-at (λ _. 1) (λ _. 1) p (λ _. File []) t s found in let n = nodes-some (at p (λ _. File []) t) in omega arith
 
 -- ---- the paths
 
-pub last-more : (xs : Names) (c : List ℕ) → last_name (xs ++ c ∷ []) ≡ c
+last-more : (xs : Names) (c : List ℕ) → last_name (xs ++ c ∷ []) ≡ c
 last-more [] c = refl
 last-more (x ∷ []) c = refl
 last-more (x ∷ y ∷ xs) c = last-more (y ∷ xs) c
@@ -205,27 +178,6 @@ refusal-set op.Disk = tt
 refusal-set (op.Damaged r) = (r, refl)
 refusal-set op.NoSpace = (Bitmap, refl)
 refusal-set op.NoNodes = (Bitmap, refl)
-
--- names that the form takes are no more than 24
-pub paths-short : (f : Form) (p q : Names) → paths_refusal f (p ∷ q ∷ []) ≡ None → length q ≤ deepest
-paths-short f p q h = by-two (list_any (λ x. list_any (λ c. nat_lt f.longest_name (length c)) x) (p ∷ q ∷ [])) (nat_lt deepest (length p)) (length q) h
-  where
-    by-two : (long deep : Bool) (n : ℕ) → (if long then Some why.NameLong else (if deep || (nat_lt deepest n || false) then Some why.TooDeep else None)) ≡ None → n ≤ deepest
-    by-two true deep n h = absurd (no h)
-      where
-        no : Some why.NameLong ≡ None → ⊥
-        no h = cc
-    by-two false true n h = absurd (no h)
-      where
-        no : Some why.TooDeep ≡ None → ⊥
-        no h = cc
-    by-two false false n h = elim (nat_lt deepest n) as (λ b. nat_lt deepest n ≡ b → (if b || false then Some why.TooDeep else None) ≡ None → n ≤ deepest) [
-      | true ↦ λ e h. absurd (no h)
-      | false ↦ λ e h. grind (arith, nat_tests)
-    ] refl h
-      where
-        no : Some why.TooDeep ≡ None → ⊥
-        no h = cc
 
 -- ---- what a rename finds
 

@@ -41,7 +41,7 @@ Names = List (List ℕ)
 
 -- ---- equal paths
 
-pub prefix-same : (p q : Names) → is_prefix p q ≡ true → is_prefix q p ≡ true → p ≡ q
+prefix-same : (p q : Names) → is_prefix p q ≡ true → is_prefix q p ≡ true → p ≡ q
 prefix-same [] [] a b = refl
 prefix-same [] (d ∷ q) a b = absurd (subst T (sym b) tt)
 prefix-same (c ∷ p) [] a b = absurd (subst T (sym a) tt)
@@ -55,12 +55,12 @@ prefix-same (c ∷ p) (d ∷ q) a b = λ z. same_name c d (first _ _ a) z ∷ pr
     second true y h = h
     second false y h = absurd (subst T (sym h) tt)
 
-pub prefix-refl : (p : Names) → is_prefix p p ≡ true
+prefix-refl : (p : Names) → is_prefix p p ≡ true
 prefix-refl [] = refl
 prefix-refl (c ∷ p) = λ z. is_same_name-refl c z && prefix-refl p z
 
 -- two paths are the same or they are not
-pub decide : (p q : Names) → (p ≡ q) ⊎ (p ≢ q)
+decide : (p q : Names) → (p ≡ q) ⊎ (p ≢ q)
 decide p q = elim (is_prefix p q) as (λ a. is_prefix p q ≡ a → (p ≡ q) ⊎ (p ≢ q)) [
   | true ↦ λ a. elim (is_prefix q p) as (λ b. is_prefix q p ≡ b → (p ≡ q) ⊎ (p ≢ q)) [
     | true ↦ λ b. inl (prefix-same p q a b)
@@ -75,7 +75,7 @@ decide p q = elim (is_prefix p q) as (λ a. is_prefix p q ≡ a → (p ≡ q) �
 -- ---- the entries of a directory that a loss leaves
 
 -- the number of entries of the directory found
-abbrev pub count : Walk → ℕ
+abbrev count : Walk → ℕ
 count (Found (File bytes)) = 0
 count (Found (Dir es)) = length (rows es)
 count NotFound = 0
@@ -94,7 +94,7 @@ not_both true y h e = h
 not_both false y h e = absurd (subst T (sym e) tt)
 
 -- but for the directory that loses the entry, each has as many entries as before
-pub count-left : (p : Names) (c : List ℕ) (q : Names) (t : Tree) → p ≢ q → is_prefix (p ++ c ∷ []) q ≡ false → count (walk q (at p (without_entry c) t)) ≡ count (walk q t)
+count-left : (p : Names) (c : List ℕ) (q : Names) (t : Tree) → p ≢ q → is_prefix (p ++ c ∷ []) q ≡ false → count (walk q (at p (without_entry c) t)) ≡ count (walk q t)
 count-left [] c [] t ne h = absurd (ne refl)
 count-left [] c (d ∷ q) (File bytes) ne h = refl
 count-left [] c (d ∷ q) (Dir es) ne h =
@@ -139,7 +139,7 @@ few-blocks : (x y : ℕ) → nat_lt (247 * (x + y)) y ≡ false
 few-blocks x y = grind (arith, nat_tests)
 
 -- in a lot that is great enough
-pub great-lot : (t : Tree) (f : Form) (p q : Names) → paths_refusal f (p ∷ q ∷ []) ≡ None → move_refusal p q t ≡ None → (n : ℕ) × (refusal t 0 n f (Rename p q) ≡ None)
+great-lot : (t : Tree) (f : Form) (p q : Names) → paths_refusal f (p ∷ q ∷ []) ≡ None → move_refusal p q t ≡ None → (n : ℕ) × (refusal t 0 n f (Rename p q) ≡ None)
 great-lot t f p q names ends =
     let u = next (Rename p q) t in
     let n = nodes u + blocks f u in

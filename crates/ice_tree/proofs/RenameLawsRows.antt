@@ -77,13 +77,13 @@ module _ (mode : ℕ) (lot : LotView) (m0 : Map) (t : Tree) (k : ℕ) (p q : Nam
 
   -- ---- the row that is taken
 
-  pub from_made : WellMade lot 64 m0 step.from.number
+  from_made : WellMade lot 64 m0 step.from.number
   from_made = subst (WellMade lot 64 m0) from-here (beside_made mode lot m0 t k [] [] whole few (parent p) (Dir moves.entry.entries) moves.entry.there)
 
   from_dir : IsDirectory lot (inode_of m0 step.from.number)
   from_dir = subst (λ i. IsDirectory lot (inode_of m0 i)) from-here (walk_dir mode lot m0 t k x.recovers (parent p) moves.entry.entries moves.entry.there).is
 
-  pub take_fault : (e : OpFault) → IsTakeFault e
+  take_fault : (e : OpFault) → IsTakeFault e
       → (e ≡ Damaged Counts → counted false m0 + uses_of (dir_blocks 64 ((inode_of m0 step.from.number).size - 1)) < uses_of (dir_blocks 64 (inode_of m0 step.from.number).size))
       → (e ≡ Damaged Kind → ¬ IsDirectory lot (inode_of m0 step.from.number)) → (e ≡ Damaged Bitmap → ¬ WellMade lot 64 m0 step.from.number) → (e ≡ Damaged Pointer → ¬ WellMade lot 64 m0 step.from.number) → e ≡ Disk
   take_fault e h zero kind unused pointer = take-fails e h
@@ -103,7 +103,7 @@ module _ (mode : ℕ) (lot : LotView) (m0 : Map) (t : Tree) (k : ℕ) (p q : Nam
       ∙ some_value (find by_bytes (last_name p) (rows_of 64 m0 here)) (sym (is-dir.maps (last_name p)) ∙ ap is_some moves.entry.found)
 
   -- the row is there
-  pub take_some : None ≡ look_up name (rows_of 64 m0 step.from.number) → ⊥
+  take_some : None ≡ look_up name (rows_of 64 m0 step.from.number) → ⊥
   take_some h = None≢Some gone (h ∙ named)
 
   taken-is : (j : ℕ) → Some j ≡ look_up name (rows_of 64 m0 step.from.number) → j ≡ gone
@@ -120,7 +120,7 @@ module _ (mode : ℕ) (lot : LotView) (m0 : Map) (t : Tree) (k : ℕ) (p q : Nam
     loose = loses_row mode lot m0 m1 t k (parent p) (last_name p) moves.tree moves.entry.entries x.recovers moves.entry.there moves.entry.found set-here
 
     -- its inode is one of the lot
-    pub taken_small : j < 64 * length lot.groups
+    taken_small : j < 64 * length lot.groups
     taken_small =
         let e = taken-is j found in
         let s = Reads-number form_one refl lot m1 gone (length (parent p) + 1) moves.tree loose.1 in
@@ -135,7 +135,7 @@ module _ (mode : ℕ) (lot : LotView) (m0 : Map) (t : Tree) (k : ℕ) (p q : Nam
     to-here : there ≡ step.to.number
     to-here = to-stays ∙ sym x.move_is.to_is.number
 
-    pub to_made : WellMade lot 64 m1 step.to.number
+    to_made : WellMade lot 64 m1 step.to.number
     to_made = subst (WellMade lot 64 m1) to-here
         (beside_made mode lot m1 (removed p t) k (used_blocks form_one (own 64 m1) gone moves.tree) (used_inodes form_one (own 64 m1) gone moves.tree) loose.0 few (parent q) (Dir moves.place.entries) moves.place.there)
 
@@ -149,7 +149,7 @@ module _ (mode : ℕ) (lot : LotView) (m0 : Map) (t : Tree) (k : ℕ) (p q : Nam
     fits-quota : blocks form_one (placed q moves.tree (removed p t)) ≤ block_quota (length lot.groups)
     fits-quota = subst (λ u. blocks form_one u ≤ block_quota (length lot.groups)) made (blocks-next t k (length lot.groups) form_one (Rename p q) x.accepted refl)
 
-    pub add_fault : (e : OpFault) → IsAddFault e
+    add_fault : (e : OpFault) → IsAddFault e
         → (e ≡ NoSpace → free_count false lot m1 + uses_of (dir_blocks 64 (inode_of m1 step.to.number).size) < uses_of (dir_blocks 64 ((inode_of m1 step.to.number).size + 1)))
         → (e ≡ Damaged Counts → 2 ^ 32 + uses_of (dir_blocks 64 (inode_of m1 step.to.number).size) ≤ counted false m1 + uses_of (dir_blocks 64 ((inode_of m1 step.to.number).size + 1)))
         → (e ≡ Damaged Kind → ¬ HasRoom lot (inode_of m1 step.to.number)) → (e ≡ Damaged Pointer → ¬ WellMade lot 64 m1 step.to.number) → (e ≡ Damaged Bitmap → ¬ Reserved lot m1) → e ≡ Disk
@@ -173,7 +173,7 @@ module _ (mode : ℕ) (lot : LotView) (m0 : Map) (t : Tree) (k : ℕ) (p q : Nam
           (subst (λ i. DirSet lot 64 m1 m2 step.to.number (rows_of 64 m1 step.to.number ++ (last_name q, i) ∷ [])) (taken-is j found)
           (subst (λ c. DirSet lot 64 m1 m2 step.to.number (rows_of 64 m1 step.to.number ++ (c, j) ∷ [])) x.new_is put))
 
-      pub row_put : MapRecovers form_one mode lot m2 (next (Rename p q) t) k
+      row_put : MapRecovers form_one mode lot m2 (next (Rename p q) t) k
       row_put = subst (λ u. MapRecovers form_one mode lot m2 u k) (sym made)
           (row_moved mode lot m0 m1 t k (parent p) (last_name p) moves.tree moves.entry.entries few x.recovers moves.entry.there moves.entry.found set-here
           m2 (parent q) (last_name q) moves.place.entries moves.place.there moves.place.free good (let e = length-parent q moves.place.below in let l = moves.low in omega arith) put-there)

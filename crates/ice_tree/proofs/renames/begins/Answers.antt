@@ -1,5 +1,5 @@
 use Rattle.std.proofs.Common.{[], sym, ◌∙◌, arith, length, get_or}
-use Rattle.ice_tree.proofs.RenameLaws.{begins-first, begins-longer, begins-step, begins-differs, begins-all}
+use Rattle.ice_tree.proofs.RenameLaws.{begins-longer, begins-step, begins-differs}
 use Rattle.ice_tree.proofs.renames.begins.Goals as goal
 
 pub returns-then-len : goal.returns-then-len
