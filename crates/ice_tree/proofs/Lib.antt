@@ -8,6 +8,7 @@ pub mod ReplyLaws
 pub mod Chains
 pub mod Names
 pub mod PlaceLaws
+pub mod BrokenLaws
 pub mod LookLaws
 pub mod HeightLaws
 pub mod GoneLaws
