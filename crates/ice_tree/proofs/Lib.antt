@@ -9,6 +9,8 @@ pub mod FileLaws
 pub mod Chains
 pub mod Names
 pub mod PlaceLaws
+pub mod BrokenLaws
+pub mod LookLaws
 pub mod HeightLaws
 pub mod LookLaws
 pub mod RenameLaws

@@ -1,4 +1,5 @@
 pub mod Places
+pub mod Broken
 pub mod Outcomes
 pub mod Stages
 pub mod Changes

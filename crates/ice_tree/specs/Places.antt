@@ -5,6 +5,7 @@ use Rattle.ice_base.specs.declared.fault.OpFault.{OpFault}
 use Rattle.ice_base.specs.declared.fault.OpFault.TheVariants.{Disk, Damaged}
 use Rattle.ice_base.specs.declared.fault.Rule.TheVariants.{Kind, Pointer, InodeTwice}
 use Rattle.ice_map.specs.declared.codec.Inode.{Inode}
+use Rattle.ice_map.specs.Inodes.{inode_of}
 use Rattle.ice_file.specs.Files.{longest_file}
 use Rattle.ice_dir.specs.Rows.{IsDirectory}
 use Rattle.tree_spec.specs.Trees.{Tree, Walk, Found, NotFound, NotDir, walk, rows}
@@ -36,6 +37,13 @@ PlaceFits lot (File number size) = (number < 64 * length lot.groups) × (size �
 PlaceFits lot (Dir number size) = (number < 64 * length lot.groups) × (size < 64 * length lot.groups)
 PlaceFits lot Missing = ⊤
 PlaceFits lot Blocked = ⊤
+
+-- the inode of a place is a file or a directory of that size
+abbrev pub PlaceIs : (ℕ → List ℕ) → Place → Type 0
+PlaceIs m (File number size) = ((inode_of m number).kind ≡ 1) × ((inode_of m number).size ≡ size)
+PlaceIs m (Dir number size) = ((inode_of m number).kind ≡ 2) × ((inode_of m number).size ≡ size)
+PlaceIs m Missing = ⊤
+PlaceIs m Blocked = ⊤
 
 -- the faults of a walk
 abbrev pub IsWalkFault : OpFault → Type 0

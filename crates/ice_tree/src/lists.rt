@@ -4,7 +4,9 @@ ghost use Rattle.ice_base.specs.Disk.{Rose};
 ghost use Rattle.ice_base.specs.Lots.{is_sited};
 ghost use Rattle.ice_base.specs.Views.{Looked};
 ghost use Rattle.ice_base.specs.declared.fault.OpFault.TheVariants.{Disk as FaultDisk};
-ghost use Rattle.ice_dir.specs.Rows.{Row};
+ghost use Rattle.ice_base.specs.declared.fault.Rule.{Rule};
+ghost use Rattle.ice_map.specs.Inodes.{inode_of};
+ghost use Rattle.ice_dir.specs.Rows.{Row, IsDirectory, HasEntry};
 ghost use Rattle.tree_spec.specs.Answers.{answer};
 ghost use Rattle.tree_spec.specs.Costs.{form_of};
 ghost use Rattle.tree_spec.specs.Held.{by_name, most_entries};
@@ -12,13 +14,14 @@ ghost use Rattle.tree_spec.specs.Operations.{ListDir};
 ghost use Rattle.tree_spec.specs.Replies.{meant, Tallies};
 ghost use Rattle.tree_spec.specs.Trees.{Tree, Entries, Dir, rows};
 ghost use Rattle.tree_spec.specs.Why.{Why};
-ghost use Rattle.tree_spec.specs.declared.reply.Refusal.TheVariants.{Fault};
+ghost use Rattle.tree_spec.specs.declared.reply.Refusal.TheVariants.{Fault, Damaged};
 ghost use Rattle.tree_spec.specs.declared.reply.Value.TheVariants.{Listed};
 ghost use Rattle.ice_reads.specs.Reads.{Reads};
 ghost use Rattle.ice_reads.specs.Recovers.{MapRecovers};
 ghost use Rattle.ice_reads.specs.Tables.{own_in, rows_in};
+ghost use Rattle.ice_tree.specs.Broken.{IsBroken, IsBrokenBy};
 ghost use Rattle.ice_tree.specs.Listings.{listed_as, IsListFault};
-ghost use Rattle.ice_tree.specs.Outcomes.{AsModel, ShownBy, IsTreeRefusal};
+ghost use Rattle.ice_tree.specs.Outcomes.{AsModel, ShownBy, IsTreeRefusal, rule_number};
 ghost use Rattle.ice_tree.specs.Stages.{paths_refusal};
 
 use crate::fault::refusal_of;
@@ -54,6 +57,7 @@ fn add_entry<D: Disk, V: View<D>, F: Form>(
     ensures kept { OnErr result (room.new.entries ≡ room.old.entries) }
     ensures bytes { room.new.bytes ≡ room.old.bytes }
     ensures rows { room.new.rows ≡ room.old.rows }
+    ensures broken { V.shows lot.now view.old disk.old → HasEntry lot.now k (inode_of (V.map view.old disk.old lot.now) number) → IfErr result (IsBrokenBy F.ENTRY lot.now (V.map view.old disk.old lot.now)) }
     ensures looked { Looked D.Disk V.View lot.now view.old disk.old view.new disk.new }
     ensures faults { IfErr result IsListFault }
     ensures failed { IsErrOf result FaultDisk → Rose (D.state disk.old).faults (D.state disk.new).faults }
@@ -86,6 +90,7 @@ fn add_entries<D: Disk, V: View<D>, F: Form>(
     ensures all { OnOk result (length room.new.entries ≡ count) }
     ensures bytes { room.new.bytes ≡ room.old.bytes }
     ensures rows { room.new.rows ≡ room.old.rows }
+    ensures broken { V.shows lot.now view.old disk.old → IsDirectory lot.now (inode_of (V.map view.old disk.old lot.now) number) → count ≤ (inode_of (V.map view.old disk.old lot.now) number).size → IfErr result (IsBrokenBy F.ENTRY lot.now (V.map view.old disk.old lot.now)) }
     ensures looked { Looked D.Disk V.View lot.now view.old disk.old view.new disk.new }
     ensures faults { IfErr result IsListFault }
     ensures failed { IsErrOf result FaultDisk → Rose (D.state disk.old).faults (D.state disk.new).faults }
@@ -129,6 +134,7 @@ pub fn list<D: Disk, V: View<D>, F: Form>(
     ensures paths { ShownBy (paths_refusal (form_of F.VERSION) (drop depth path.now ∷ [])) result }
     ensures untouched { (r : Why) → paths_refusal (form_of F.VERSION) (drop depth path.now ∷ []) ≡ Some r → (disk.new ≡ disk.old) × (view.new ≡ view.old) }
     ensures tallies { Tallies result room.new }
+    ensures damaged { (n : ℕ) → IsErrOf result (Damaged n) → V.shows lot.now view.old disk.old → (r : Rule) × (n ≡ rule_number r) × IsBroken F.ENTRY lot.now (V.map view.old disk.old lot.now) r }
     ensures looked { Looked D.Disk V.View lot.now view.old disk.old view.new disk.new }
     ensures set { IfErr result IsTreeRefusal }
     ensures failed { IsErrOf result Fault → Rose (D.state disk.old).faults (D.state disk.new).faults }

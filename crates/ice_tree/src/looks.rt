@@ -3,6 +3,7 @@ ghost use Rattle.std.specs.Prelude.{◌≡◌, ◌≤◌, ◌<◌, ◌*◌, ℕ,
 ghost use Rattle.ice_base.specs.Disk.{Rose};
 ghost use Rattle.ice_base.specs.Lots.{is_sited};
 ghost use Rattle.ice_base.specs.Views.{Looked};
+ghost use Rattle.ice_base.specs.declared.fault.Rule.{Rule};
 ghost use Rattle.ice_file.specs.Files.{longest_file, most_at_once};
 ghost use Rattle.tree_spec.specs.Answers.{answer};
 ghost use Rattle.tree_spec.specs.Costs.{form_of};
@@ -11,12 +12,15 @@ ghost use Rattle.tree_spec.specs.Operations.{Read, Stat};
 ghost use Rattle.tree_spec.specs.Replies.{meant, refused_of, Tallies};
 ghost use Rattle.tree_spec.specs.Trees.{Tree, Entries, Found, File, Dir, rows, walk};
 ghost use Rattle.tree_spec.specs.Why.{Why};
-ghost use Rattle.tree_spec.specs.declared.reply.Refusal.TheVariants.{Fault};
+ghost use Rattle.tree_spec.specs.declared.reply.Refusal.TheVariants.{Fault, Damaged};
 ghost use Rattle.ice_reads.specs.Reads.{inode_on};
 ghost use Rattle.ice_reads.specs.Recovers.{MapRecovers};
 ghost use Rattle.ice_reads.specs.Tables.{own_in};
-ghost use Rattle.ice_tree.specs.Outcomes.{AsModel, RefusedAs, ShownBy, IsTreeRefusal};
+ghost use Rattle.ice_tree.specs.Broken.{IsBroken};
+ghost use Rattle.ice_tree.specs.Outcomes.{AsModel, RefusedAs, ShownBy, IsTreeRefusal, rule_number};
+ghost use Rattle.ice_tree.specs.Places.{PlaceIs};
 ghost use Rattle.ice_tree.specs.Stages.{paths_refusal, file_refusal, dir_refusal};
+ghost use Rattle.ice_tree.specs.declared.place.Place.TheVariants.{File as AtFile, Dir as AtDir};
 
 use crate::fault::refusal_of;
 use crate::paths::check_path;
@@ -48,6 +52,8 @@ pub(crate) fn file_at<D: Disk, V: View<D>, F: Form>(
         (λ file. (bytes : List ℕ) × (walk (drop depth path.now) t ≡ Found (File bytes)) × (file.number ≡ inode_on (form_of F.VERSION) (own_in (form_of F.VERSION) (V.map view.old disk.old lot.now)) 0 (drop depth path.now)) × (file.size ≡ length bytes))
         (λ r. RefusedAs (refused_of r) (file_refusal (walk (drop depth path.now) t))) }
     ensures fits { IfOk result (λ file. (file.number < 64 * length lot.now.groups) × (file.size ≤ longest_file)) }
+    ensures is { V.shows lot.now view.old disk.old → IfOk result (λ file. PlaceIs (V.map view.old disk.old lot.now) (AtFile file.number file.size)) }
+    ensures damaged { (n : ℕ) → IsErrOf result (Damaged n) → V.shows lot.now view.old disk.old → (r : Rule) × (n ≡ rule_number r) × IsBroken F.ENTRY lot.now (V.map view.old disk.old lot.now) r }
     ensures looked { Looked D.Disk V.View lot.now view.old disk.old view.new disk.new }
     ensures set { IfErr result IsTreeRefusal }
     ensures failed { IsErrOf result Fault → Rose (D.state disk.old).faults (D.state disk.new).faults }
@@ -84,6 +90,8 @@ pub(crate) fn dir_at<D: Disk, V: View<D>, F: Form>(
         (λ dir. (es : Entries) × (walk (drop depth path.now) t ≡ Found (Dir es)) × (dir.number ≡ inode_on (form_of F.VERSION) (own_in (form_of F.VERSION) (V.map view.old disk.old lot.now)) 0 (drop depth path.now)) × (dir.size ≡ length (rows es)))
         (λ r. RefusedAs (refused_of r) (dir_refusal (walk (drop depth path.now) t))) }
     ensures fits { IfOk result (λ dir. (dir.number < 64 * length lot.now.groups) × (dir.size < 64 * length lot.now.groups)) }
+    ensures is { V.shows lot.now view.old disk.old → IfOk result (λ dir. PlaceIs (V.map view.old disk.old lot.now) (AtDir dir.number dir.size)) }
+    ensures damaged { (n : ℕ) → IsErrOf result (Damaged n) → V.shows lot.now view.old disk.old → (r : Rule) × (n ≡ rule_number r) × IsBroken F.ENTRY lot.now (V.map view.old disk.old lot.now) r }
     ensures looked { Looked D.Disk V.View lot.now view.old disk.old view.new disk.new }
     ensures set { IfErr result IsTreeRefusal }
     ensures failed { IsErrOf result Fault → Rose (D.state disk.old).faults (D.state disk.new).faults }
@@ -121,6 +129,7 @@ pub fn read<D: Disk, V: View<D>, F: Form>(
     ensures paths { ShownBy (paths_refusal (form_of F.VERSION) (drop depth path.now ∷ [])) result }
     ensures untouched { (r : Why) → paths_refusal (form_of F.VERSION) (drop depth path.now ∷ []) ≡ Some r → (disk.new ≡ disk.old) × (view.new ≡ view.old) }
     ensures tallies { Tallies result room.new }
+    ensures damaged { (n : ℕ) → IsErrOf result (Damaged n) → V.shows lot.now view.old disk.old → (r : Rule) × (n ≡ rule_number r) × IsBroken F.ENTRY lot.now (V.map view.old disk.old lot.now) r }
     ensures looked { Looked D.Disk V.View lot.now view.old disk.old view.new disk.new }
     ensures set { IfErr result IsTreeRefusal }
     ensures failed { IsErrOf result Fault → Rose (D.state disk.old).faults (D.state disk.new).faults }
@@ -158,6 +167,7 @@ pub fn stat<D: Disk, V: View<D>, F: Form>(
     ensures paths { ShownBy (paths_refusal (form_of F.VERSION) (drop depth path.now ∷ [])) result }
     ensures untouched { (r : Why) → paths_refusal (form_of F.VERSION) (drop depth path.now ∷ []) ≡ Some r → (disk.new ≡ disk.old) × (view.new ≡ view.old) }
     ensures tallies { (room : Held) → Tallies result room }
+    ensures damaged { (n : ℕ) → IsErrOf result (Damaged n) → V.shows lot.now view.old disk.old → (r : Rule) × (n ≡ rule_number r) × IsBroken F.ENTRY lot.now (V.map view.old disk.old lot.now) r }
     ensures looked { Looked D.Disk V.View lot.now view.old disk.old view.new disk.new }
     ensures set { IfErr result IsTreeRefusal }
     ensures failed { IsErrOf result Fault → Rose (D.state disk.old).faults (D.state disk.new).faults }

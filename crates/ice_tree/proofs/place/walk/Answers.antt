@@ -5,7 +5,8 @@ use Rattle.tree_spec.specs.Trees.{Tree, Found, child}
 use Rattle.tree_spec.specs.Costs.{form_of}
 use Rattle.ice_reads.specs.Tables.{own_in, rows_in, inode_named}
 use Rattle.ice_reads.specs.Reads.{Reads}
-use Rattle.ice_tree.specs.Places.{place_by, place_at}
+use Rattle.ice_tree.specs.Broken.{IsBrokenBy}
+use Rattle.ice_tree.specs.Places.{place_by, place_at, PlaceIs}
 use Rattle.ice_tree.proofs.Names.{names-next}
 use Rattle.ice_tree.proofs.PlaceLaws.{next-place, next-fault}
 use Rattle.ice_tree.proofs.place.walk.Goals as goal
@@ -23,6 +24,15 @@ returns-in_err-place-2-clause-sound g c = λ mode k t s recovers.
     (λ i' h u r is. e.sound i' h u (i.looked.shows s) r is))
     e.missing e.blocked)
 
+pub returns-in_err-place-2-clause-broken : goal.returns-in_err-place-2-clause-broken
+returns-in_err-place-2-clause-broken g c = λ s.
+    let p = err_from_is_err_and c.from_residual-in_err-place-2.result c.from_residual-in_err-place-2.ensures.1 in
+    let e = c.in_err-place-2.ensures in
+    let i = c.loop-k.invariant in
+    rw (p.1, p.2)
+    (subst (λ (m : ℕ → List ℕ). IsBrokenBy g.F.Form.ENTRY c.args.lot.now m c.in_err-place-2.field-0.0) i.looked.map
+    (e.broken (i.looked.shows s) (subst (λ (m : ℕ → List ℕ). PlaceIs m c.loop-k.place) (sym i.looked.map) (i.is s))))
+
 pub loop-k-preserved : goal.loop-k-preserved
 loop-k-preserved g c =
     let i = c.loop-k.invariant in
@@ -31,6 +41,7 @@ loop-k-preserved g c =
     record {
       looked = search rules;
       fits = e.fits;
+      is = λ s. subst (λ (m : ℕ → List ℕ). PlaceIs m c.in_ok-place-2.place) i.looked.map (e.is (i.looked.shows s));
       from = omega arith;
       place = λ mode done t s recovers.
           next-place f c.args.lot.now (own_in f (g.V.View.map c.args.view.now c.args.disk.now c.args.lot.now)) (take (c.loop-k.k - c.args.depth) (drop c.args.depth c.args.path.now)) c.name-name.result t c.loop-k.place c.in_ok-place-2.place
