@@ -12,7 +12,6 @@ pub mod PlaceLaws
 pub mod BrokenLaws
 pub mod LookLaws
 pub mod HeightLaws
-pub mod LookLaws
 pub mod RenameLaws
 pub mod RenameLawsNeeds
 pub mod RenameLawsRows
