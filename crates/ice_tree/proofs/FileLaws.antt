@@ -1,5 +1,5 @@
 -- What a change of a file's bytes does to a tree, and what it needs.
-use Rattle.std.proofs.Common.{◌≡◌, ◌≤◌, ◌<◌, ◌+◌, ◌*◌, ◌^◌, max, ℕ, Bool, true, false, cond, List, [], ◌∷◌, ◌++◌, length, take, drop, Option, None, Some, refl, sym, ap, subst, ◌∙◌, arith, nat_lt, if◌then◌else◌}
+use Rattle.std.proofs.Common.{◌≡◌, ◌≤◌, ◌<◌, ◌+◌, ◌^◌, max, ℕ, true, false, cond, List, [], ◌∷◌, length, take, Option, None, Some, refl, sym, ap, subst, ◌∙◌, arith, nat_lt, if◌then◌else◌}
 use Rattle.std.specs.FinMap.{find}
 use Rattle.std.specs.Ordering.{eq_by_cmp}
 use Rattle.std.proofs.lemmas.Bool.Decides.{nat_tests}
@@ -16,32 +16,31 @@ use Rattle.ice_file.specs.Writes.{uses_of, blocks_with}
 use Rattle.tree_spec.specs.Why.{Why}
 use Rattle.tree_spec.specs.Why as why
 use Rattle.tree_spec.specs.Trees.{Tree, File, Dir, Entries, Nil, Entry, rows, by_bytes, walk, and_on, found_or_not, Found, at, over_entry}
-use Rattle.tree_spec.specs.Costs.{Form, form_one, nodes, blocks, map_cost, file_blocks, dir_blocks, block_quota}
+use Rattle.tree_spec.specs.Costs.{Form, form_one, blocks, map_cost, file_blocks, dir_blocks}
 use Rattle.tree_spec.specs.Operations.{Operation, Write, Trunc}
 use Rattle.tree_spec.specs.Answers.{next, refusal, written, bytes_of, bytes_found}
-use Rattle.tree_spec.specs.Replies.{Refused, Because}
+use Rattle.tree_spec.specs.Replies.{Refused}
 use Rattle.tree_spec.proofs.Accepted.{WritesFile, accepted-write, CutsFile, accepted-trunc}
 use Rattle.tree_spec.proofs.Changes.{total-file}
 use Rattle.tree_spec.proofs.Refusals.{blocks-next}
 use Rattle.tree_spec.proofs.Writes.{length-written}
-use Rattle.ice_reads.specs.Tables.{Map, Table, own_in}
+use Rattle.ice_reads.specs.Tables.{Map, own_in}
 use Rattle.ice_reads.specs.Reads.{inode_on}
 use Rattle.ice_reads.specs.Recovers.{MapRecovers}
-use Rattle.ice_reads.proofs.Focus.{same_Some, None≢Some, Found≢NotFound, Found≢NotDir, same_Found}
+use Rattle.ice_reads.proofs.Focus.{same_Some, Found≢NotFound, same_Found}
 use Rattle.ice_steps.specs.Beside.{Beside}
-use Rattle.ice_steps.proofs.Costs.{write_counts, write_fits, cut_counts}
+use Rattle.ice_steps.proofs.Costs.{write_counts, write_fits}
 use Rattle.ice_steps.proofs.Files.{file_set}
 use Rattle.ice_steps.proofs.Needs.{reaches_to, beside_counted, file_uses}
 use Rattle.ice_steps.proofs.Recovers.{recovers_beside}
 use Rattle.ice_steps.proofs.Walks.{FileAt, walk_file, walk_made}
-use Rattle.ice_tree.specs.declared.looks.FileAt as found
 use Rattle.ice_tree.specs.declared.quota.Need.{Need}
-use Rattle.ice_tree.specs.Changes.{Needs, IsFile, TakesAt, reach_refusal}
+use Rattle.ice_tree.specs.Changes.{Needs, TakesAt, reach_refusal}
 use Rattle.ice_tree.specs.Outcomes.{RefusedAs}
 use Rattle.ice_tree.specs.Stages.{or_else, paths_refusal, file_refusal, quota_refusal}
 use Rattle.ice_tree.proofs.Chains.{refusal_write, refusal_trunc}
 use Rattle.ice_tree.proofs.SpotLaws.{chained}
-use Rattle.ice_tree.proofs.StageLaws.{or_else-later, refused-now, refused-later, none-both}
+use Rattle.ice_tree.proofs.StageLaws.{or_else-later, refused-now, refused-later}
 
 abbrev Names : Type 0
 Names = List (List ℕ)

@@ -1,7 +1,5 @@
 -- What a new directory or file does to a tree, and what it needs.
-use Rattle.std.proofs.Common.{◌≡◌, ◌≢◌, ◌≤◌, ◌<◌, ◌+◌, ◌-◌, ◌*◌, ◌^◌, ℕ, Bool, true, false, not, List, [], ◌∷◌, ◌++◌, length, Option, None, Some, sym, refl, subst, ap, ◌∙◌, arith, nat_lt, T}
-use Rattle.std.specs.Prelude.{◌&&◌, ◌||◌}
-use Rattle.std.proofs.lemmas.Bool.Decides.{nat_tests}
+use Rattle.std.proofs.Common.{◌≡◌, ◌≤◌, ◌<◌, ◌+◌, ◌-◌, ◌*◌, ◌^◌, ℕ, Bool, true, false, List, [], ◌∷◌, ◌++◌, length, None, sym, refl, subst, ◌∙◌, arith}
 use Rattle.ice_base.specs.Inodes.{inode_address}
 use Rattle.ice_base.specs.Lots.{LotView, sub_address}
 use Rattle.ice_base.specs.Pools.{TookInode}
@@ -18,20 +16,20 @@ use Rattle.ice_dir.specs.Faults.{IsAddFault}
 use Rattle.ice_dir.specs.Rows.{rows_of}
 use Rattle.tree_spec.specs.Names.{is_name}
 use Rattle.tree_spec.specs.Why as why
-use Rattle.tree_spec.specs.Trees.{Tree, File, Dir, Nil, rows, Found, walk, parent, last_name, at, with_entry}
+use Rattle.tree_spec.specs.Trees.{Tree, File, Dir, Nil, parent, last_name, at, with_entry}
 use Rattle.tree_spec.specs.Costs.{Form, form_one, nodes, blocks, node_quota, block_quota}
-use Rattle.tree_spec.specs.Operations.{Operation, Mkdir, Make, is_change}
-use Rattle.tree_spec.specs.Answers.{next, refusal, deepest, has_deep_path}
+use Rattle.tree_spec.specs.Operations.{Mkdir, Make, is_change}
+use Rattle.tree_spec.specs.Answers.{next, refusal, deepest}
 use Rattle.tree_spec.proofs.Accepted.{HasPlace, accepted-mkdir, accepted-make, length-parent, at_most, first_false}
 use Rattle.tree_spec.proofs.Changes.{total-placed}
 use Rattle.tree_spec.proofs.Refusals.{refusal-none, nodes-next, blocks-next}
-use Rattle.ice_reads.specs.Tables.{Map, own_in, IsNameOf}
+use Rattle.ice_reads.specs.Tables.{Map, IsNameOf}
 use Rattle.ice_reads.specs.Reads.{Reads, inode_on, used_blocks, used_inodes}
 use Rattle.ice_reads.specs.Recovers.{MapRecovers}
 use Rattle.ice_steps.specs.Beside.{Beside, OnlyAt}
 use Rattle.ice_steps.proofs.Chains.{dir_made, file_made}
 use Rattle.ice_steps.proofs.Costs.{inode_left, inode_counts, add_counts, add_fits}
-use Rattle.ice_steps.proofs.Fresh.{IsFresh, fresh_value, fresh_dir, fresh_file, dir_beside, file_beside, put_loose, put_stays}
+use Rattle.ice_steps.proofs.Fresh.{fresh_value, fresh_dir, fresh_file, dir_beside, file_beside, put_loose, put_stays}
 use Rattle.ice_steps.proofs.Made.{beside_made}
 use Rattle.ice_steps.proofs.Needs.{beside_room, beside_reserved}
 use Rattle.ice_steps.proofs.Recovers.{recovers_beside}

@@ -1,5 +1,5 @@
 -- One stage of refusals after another.
-use Rattle.std.proofs.Common.{◌≡◌, Bool, true, false, Option, None, Some, Result, Ok, Err, MatchResult, refl, ap, ◌∙◌, sym, subst, ℕ, nat_lt, nat_eq, length, if◌then◌else◌}
+use Rattle.std.proofs.Common.{◌≡◌, Bool, true, false, Option, None, Some, Result, MatchResult, refl, ap, ◌∙◌, sym, subst, ℕ, nat_lt, nat_eq, if◌then◌else◌}
 use Rattle.tree_spec.specs.Why.{Why}
 use Rattle.tree_spec.specs.Why as why
 use Rattle.tree_spec.specs.Trees.{Tree}
