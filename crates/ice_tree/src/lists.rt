@@ -1,5 +1,5 @@
 //! Listings of directories.
-ghost use Rattle.std.specs.Prelude.{◌≡◌, ◌≤◌, ◌<◌, ◌+◌, ◌*◌, ◌++◌, ℕ, true, [], ◌∷◌, Some, OnOk, OnErr, IfErr, IsErrOf, length, drop, map, slice_get};
+ghost use Rattle.std.specs.Prelude.{◌≡◌, ◌≤◌, ◌<◌, ◌+◌, ◌*◌, ◌++◌, ℕ, true, [], ◌∷◌, Some, OnOk, OnErr, IfErr, IsErrOf, length, drop, map, slice_get, IsPermutation, IsSorted};
 ghost use Rattle.ice_base.specs.Disk.{Rose};
 ghost use Rattle.ice_base.specs.Lots.{is_sited};
 ghost use Rattle.ice_base.specs.Views.{Looked};
@@ -7,12 +7,13 @@ ghost use Rattle.ice_base.specs.declared.fault.OpFault.TheVariants.{Disk as Faul
 ghost use Rattle.ice_dir.specs.Rows.{Row};
 ghost use Rattle.tree_spec.specs.Answers.{answer};
 ghost use Rattle.tree_spec.specs.Costs.{form_of};
-ghost use Rattle.tree_spec.specs.Held.{most_entries};
+ghost use Rattle.tree_spec.specs.Held.{by_name, most_entries};
 ghost use Rattle.tree_spec.specs.Operations.{ListDir};
 ghost use Rattle.tree_spec.specs.Replies.{meant, Tallies};
 ghost use Rattle.tree_spec.specs.Trees.{Tree, Entries, Dir, rows};
 ghost use Rattle.tree_spec.specs.Why.{Why};
 ghost use Rattle.tree_spec.specs.declared.reply.Refusal.TheVariants.{Fault};
+ghost use Rattle.tree_spec.specs.declared.reply.Value.TheVariants.{Listed};
 ghost use Rattle.ice_reads.specs.Reads.{Reads};
 ghost use Rattle.ice_reads.specs.Recovers.{MapRecovers};
 ghost use Rattle.ice_reads.specs.Tables.{own_in, rows_in};
@@ -95,6 +96,18 @@ fn add_entries<D: Disk, V: View<D>, F: Form>(
     Ok(())
 }
 
+/// Puts the entries of a room in ascending order of the bytes of their names, and answers how many there are.
+fn in_order(room: &mut Room) -> Value
+    requires { room.old.rows ≡ [] }
+    ensures permutation { IsPermutation room.old.entries room.new.entries }
+    ensures sorted { IsSorted by_name room.new.entries }
+    ensures rows { room.new.rows ≡ [] }
+    ensures number { result ≡ Listed (length room.new.entries) }
+{
+    room.sort_entries();
+    Value::Listed(room.entries().len() as u32)
+}
+
 /// Puts the entries of a directory into the room, in ascending order of the bytes of their names. `depth` is the number of names of the cube's path.
 /// NotDir: a file stands at the path's end. After a refusal any entries may stand in the room.
 pub fn list<D: Disk, V: View<D>, F: Form>(
@@ -127,10 +140,7 @@ pub fn list<D: Disk, V: View<D>, F: Form>(
         Err(refusal) => Err(refusal),
         Ok(dir) => match add_entries::<D, V, F>(view, disk, lot, dir.number, dir.size, room) {
             Err(fault) => Err(refusal_of(fault)),
-            Ok(()) => {
-                room.sort_entries();
-                Ok(Value::Listed(dir.size))
-            }
+            Ok(()) => Ok(in_order(room)),
         },
     }
 }

@@ -1,8 +1,8 @@
-use Rattle.std.proofs.Common.{ℕ, ◌+◌, ◌≡◌, List, length, map, drop, ◌∙◌, ap, sym, subst, arith}
-use Rattle.std.proofs.lemmas.List.Sorted.{length_permutation}
+use Rattle.std.proofs.Common.{ℕ, ◌+◌, ◌≡◌, List, Ok, length, map, drop, ◌∙◌, ap, sym, subst, arith}
 use Rattle.std.specs.List.Sorted.{IsPermutation}
 use Rattle.ice_base.proofs.LotLaws.{sited-few}
 use Rattle.tree_spec.specs.Costs.{form_of}
+use Rattle.tree_spec.specs.Replies.{accepted_of, Tallies}
 use Rattle.tree_spec.specs.Trees.{Dir}
 use Rattle.ice_reads.specs.Reads.{Reads}
 use Rattle.ice_reads.specs.Tables.{own_in, rows_in}
@@ -45,11 +45,11 @@ returns-in-Ok-add_entries-clause-answers g c = λ mode k t s recovers.
     subst (λ j. Reads f c.args.lot.now (own_in f m) j (0 + length names) (Dir x.0)) (sym x.2) (Reads-part f c.args.lot.now (own_in f m) names 0 0 t (Dir x.0) x.1 recovers.holds.reads) in
     let there = c.in-Ok-add_entries.ensures.listed (0 + length names) x.0 (looked.shows s) (subst (λ (m : ℕ → List ℕ). Reads f c.args.lot.now (own_in f m) c.in-Ok.dir.number (0 + length names) (Dir x.0)) (sym looked.map) r) x.3 in
     let here : c.add_entries.new.room.entries ≡ map (listed_as x.0) (rows_in f (own_in f m c.in-Ok.dir.number)) = there ∙ ap (λ (m : ℕ → List ℕ). map (listed_as x.0) (rows_in f (own_in f m c.in-Ok.dir.number))) looked.map in
-    list-value t k (length c.args.lot.now.groups) f names c.in_default.ensures.refusal x.0 x.1 c.sort_entries.new.self.entries c.sort_entries.new.self.rows
-    (sorted-listing x.0 (rows_in f (own_in f m c.in-Ok.dir.number)) c.sort_entries.new.self.entries r.1.sorted r.1.differ r.1.maps (subst (λ es. IsPermutation es c.sort_entries.new.self.entries) here c.sort_entries.ensures.permutation) c.sort_entries.ensures.sorted)
-    (c.sort_entries.ensures.rows ∙ c.add_entries.ensures.rows ∙ c.requires.rows)
+    ap (λ v. Ok (accepted_of v c.in_order.new.room)) c.in_order.ensures.number
+    ∙ list-value t k (length c.args.lot.now.groups) f names c.in_default.ensures.refusal x.0 x.1 c.in_order.new.room.entries c.in_order.new.room.rows
+    (sorted-listing x.0 (rows_in f (own_in f m c.in-Ok.dir.number)) c.in_order.new.room.entries r.1.sorted r.1.differ r.1.maps (subst (λ es. IsPermutation es c.in_order.new.room.entries) here c.in_order.ensures.permutation) c.in_order.ensures.sorted)
+    c.in_order.ensures.rows
 
 pub returns-in-Ok-add_entries-clause-tallies : goal.returns-in-Ok-add_entries-clause-tallies
 returns-in-Ok-add_entries-clause-tallies g c =
-    let all = c.in-Ok-add_entries.ensures.all in
-    omega (arith, length_permutation c.add_entries.new.room.entries c.sort_entries.new.self.entries c.sort_entries.ensures.permutation, all, ap length (c.sort_entries.ensures.rows ∙ c.add_entries.ensures.rows ∙ c.requires.rows))
+    subst (λ v. Tallies (Ok v) c.in_order.new.room) (sym c.in_order.ensures.number) (omega (arith, ap length c.in_order.ensures.rows))
