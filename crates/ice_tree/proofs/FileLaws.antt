@@ -40,7 +40,8 @@ use Rattle.ice_tree.specs.Outcomes.{RefusedAs}
 use Rattle.ice_tree.specs.Stages.{or_else, paths_refusal, file_refusal, quota_refusal}
 use Rattle.ice_tree.proofs.Chains.{refusal_write, refusal_trunc}
 use Rattle.ice_tree.proofs.SpotLaws.{chained}
-use Rattle.ice_tree.proofs.StageLaws.{or_else-later, refused-now, refused-later}
+use Rattle.ice_tree.proofs.LookLaws.{later_stage}
+use Rattle.ice_tree.proofs.StageLaws.{refused-now, refused-later}
 
 abbrev Names : Type 0
 Names = List (List ℕ)
@@ -67,7 +68,7 @@ module _ (f : Form) (p : Names) (at : ℕ) (t : Tree) (names : paths_refusal f (
   module _ (bytes : List ℕ) (found : walk p t ≡ Found (File bytes)) where
     past : reach_refusal f p at t ≡ (if nat_lt (length bytes) at then Some why.BeyondEnd else None)
     past =
-        or_else-later (paths_refusal f (p ∷ [])) (or_else (file_refusal (walk p t)) (beyond p at t)) names
+        later_stage (paths_refusal f (p ∷ [])) (or_else (file_refusal (walk p t)) (beyond p at t)) names
         ∙ ap (λ w. or_else (file_refusal w) (if nat_lt (length (bytes_found w)) at then Some why.BeyondEnd else None)) found
 
     -- the file ends before
@@ -180,26 +181,26 @@ module _ (mode : ℕ) (lot : LotView) (m : Map) (t : Tree) (k : ℕ) (p : Names)
 module _ (f : Form) (one : f ≡ form_one) (entry : ℕ) (sized : entry ≡ 64) (mode : ℕ) (lot : LotView) (m : Map) (t : Tree) (k : ℕ) (p : Names) (number : ℕ) (few : length lot.groups ≤ 64) where
   -- bytes are written
   module _ (off : ℕ) (bytes : List ℕ) (x : TakesAt f mode lot m t k p (Write p off bytes) number) where
-    xo : TakesAt form_one mode lot m t k p (Write p off bytes) number
-    xo = subst (λ g. TakesAt g mode lot m t k p (Write p off bytes) number) one x
+    write-takes : TakesAt form_one mode lot m t k p (Write p off bytes) number
+    write-takes = subst (λ g. TakesAt g mode lot m t k p (Write p off bytes) number) one x
 
-    w : WritesFile t k (length lot.groups) form_one p off bytes
-    w = accepted-write t k (length lot.groups) form_one p off bytes xo.accepted
+    writes : WritesFile t k (length lot.groups) form_one p off bytes
+    writes = accepted-write t k (length lot.groups) form_one p off bytes write-takes.accepted
 
-    long : length (written w.old off bytes) ≡ max (length w.old) (off + length bytes)
-    long = length-written w.old off bytes w.within
+    long : length (written writes.old off bytes) ≡ max (length writes.old) (off + length bytes)
+    long = length-written writes.old off bytes writes.within
 
     pub write-made : WellMade lot entry m number
-    write-made = subst (λ s. WellMade lot s m number) (sym sized) (made mode lot m t k p number few xo.recovers xo.number_is w.old w.found)
+    write-made = subst (λ s. WellMade lot s m number) (sym sized) (made mode lot m t k p number few write-takes.recovers write-takes.number_is writes.old writes.found)
 
-    short : length (written w.old off bytes) ≤ 274432
+    short : length (written writes.old off bytes) ≤ 274432
     short =
-        let d = file mode lot m t k p number few xo.recovers xo.number_is w.old w.found in
-        let l = long in let a = d.size in let b = d.within in let c = w.small in omega arith
+        let d = file mode lot m t k p number few write-takes.recovers write-takes.number_is writes.old writes.found in
+        let l = long in let a = d.size in let b = d.within in let c = writes.small in omega arith
 
     pub write-recovers : (m' : Map) → FileSet lot entry m m' number (overwritten (file_bytes (own entry m number)) off bytes) → MapRecovers f mode lot m' (next (Write p off bytes) t) k
     write-recovers m' set = subst (λ g. MapRecovers g mode lot m' (next (Write p off bytes) t) k) (sym one)
-        (put mode lot m t k p number few xo.recovers xo.number_is w.old w.found m' (λ u. written u off bytes) short
+        (put mode lot m t k p number few write-takes.recovers write-takes.number_is writes.old writes.found m' (λ u. written u off bytes) short
         (subst (λ s. FileSet lot s m m' number (overwritten (file_bytes (own s m number)) off bytes)) sized set))
 
     pub write-sound : (e : OpFault) → IsWriteFault e
@@ -207,40 +208,40 @@ module _ (f : Form) (one : f ≡ form_one) (entry : ℕ) (sized : entry ≡ 64) 
         → (e ≡ Damaged Counts → WellMade lot entry m number → uses_of (blocks_for (inode_of m number).size) ≤ counted false m → 2 ^ 32 + uses_of (blocks_for (inode_of m number).size) ≤ counted false m + uses_of (blocks_with (inode_of m number).size (off + length bytes)))
         → (e ≡ Damaged Kind → ¬ ReachesTo off (inode_of m number)) → (e ≡ Damaged Pointer → ¬ WellMade lot entry m number) → (e ≡ Damaged Bitmap → WellMade lot entry m number → ¬ Reserved lot m) → e ≡ Disk
     write-sound e h none full kind pointer unreserved =
-        let b = whole mode lot m t k p number few xo.recovers xo.number_is w.old w.found in
+        let b = whole mode lot m t k p number few write-takes.recovers write-takes.number_is writes.old writes.found in
         write-fails e h
-        (λ q. subst (λ i. ¬ (free_count false lot m + uses_of (blocks_for (inode_of m i).size) < uses_of (blocks_with (inode_of m i).size (off + length bytes)))) (sym xo.number_is)
-        (write_fits mode lot m t k few [] [] b p w.old w.found (written w.old off bytes) (off + length bytes) long w.small
-        (let l = ap (blocks form_one) (at-same p (λ s. File (written w.old off bytes)) (λ u. File (written (bytes_of u) off bytes)) t (File w.old) w.found refl) in let q = blocks-next t k (length lot.groups) form_one (Write p off bytes) xo.accepted refl in omega arith))
+        (λ q. subst (λ i. ¬ (free_count false lot m + uses_of (blocks_for (inode_of m i).size) < uses_of (blocks_with (inode_of m i).size (off + length bytes)))) (sym write-takes.number_is)
+        (write_fits mode lot m t k few [] [] b p writes.old writes.found (written writes.old off bytes) (off + length bytes) long writes.small
+        (let l = ap (blocks form_one) (at-same p (λ s. File (written writes.old off bytes)) (λ u. File (written (bytes_of u) off bytes)) t (File writes.old) writes.found refl) in let q = blocks-next t k (length lot.groups) form_one (Write p off bytes) write-takes.accepted refl in omega arith))
         (none q write-made))
-        (λ q. subst (λ i. ¬ (2 ^ 32 + uses_of (blocks_for (inode_of m i).size) ≤ counted false m + uses_of (blocks_with (inode_of m i).size (off + length bytes)))) (sym xo.number_is)
-        (write_counts mode lot m t k few [] [] b p w.old w.found (off + length bytes) w.small)
-        (full q write-made (counts mode lot m t k p number few xo.recovers xo.number_is w.old w.found)))
-        (λ q. kind q (reach mode lot m t k p number few xo.recovers xo.number_is w.old w.found off w.within))
+        (λ q. subst (λ i. ¬ (2 ^ 32 + uses_of (blocks_for (inode_of m i).size) ≤ counted false m + uses_of (blocks_with (inode_of m i).size (off + length bytes)))) (sym write-takes.number_is)
+        (write_counts mode lot m t k few [] [] b p writes.old writes.found (off + length bytes) writes.small)
+        (full q write-made (counts mode lot m t k p number few write-takes.recovers write-takes.number_is writes.old writes.found)))
+        (λ q. kind q (reach mode lot m t k p number few write-takes.recovers write-takes.number_is writes.old writes.found off writes.within))
         (λ q. pointer q write-made)
-        (λ q. unreserved q write-made xo.recovers.holds.reserved)
+        (λ q. unreserved q write-made write-takes.recovers.holds.reserved)
 
   -- the file is cut
   module _ (len : ℕ) (x : TakesAt f mode lot m t k p (Trunc p len) number) where
-    xt : TakesAt form_one mode lot m t k p (Trunc p len) number
-    xt = subst (λ g. TakesAt g mode lot m t k p (Trunc p len) number) one x
+    cut-takes : TakesAt form_one mode lot m t k p (Trunc p len) number
+    cut-takes = subst (λ g. TakesAt g mode lot m t k p (Trunc p len) number) one x
 
-    c : CutsFile t k (length lot.groups) form_one p len
-    c = accepted-trunc t k (length lot.groups) form_one p len xt.accepted
+    cuts : CutsFile t k (length lot.groups) form_one p len
+    cuts = accepted-trunc t k (length lot.groups) form_one p len cut-takes.accepted
 
     pub cut-made : WellMade lot entry m number
-    cut-made = subst (λ s. WellMade lot s m number) (sym sized) (made mode lot m t k p number few xt.recovers xt.number_is c.old c.found)
+    cut-made = subst (λ s. WellMade lot s m number) (sym sized) (made mode lot m t k p number few cut-takes.recovers cut-takes.number_is cuts.old cuts.found)
 
     pub cut-recovers : (m' : Map) → FileSet lot entry m m' number (take len (file_bytes (own entry m number))) → MapRecovers f mode lot m' (next (Trunc p len) t) k
     cut-recovers m' set = subst (λ g. MapRecovers g mode lot m' (next (Trunc p len) t) k) (sym one)
-        (put mode lot m t k p number few xt.recovers xt.number_is c.old c.found m' (λ u. take len u)
-        (let d = file mode lot m t k p number few xt.recovers xt.number_is c.old c.found in let l = length-take len c.old in let a = d.size in let b = d.within in omega arith)
+        (put mode lot m t k p number few cut-takes.recovers cut-takes.number_is cuts.old cuts.found m' (λ u. take len u)
+        (let d = file mode lot m t k p number few cut-takes.recovers cut-takes.number_is cuts.old cuts.found in let l = length-take len cuts.old in let a = d.size in let b = d.within in omega arith)
         (subst (λ s. FileSet lot s m m' number (take len (file_bytes (own s m number)))) sized set))
 
     pub cut-sound : (e : OpFault) → IsCutToFault e → (e ≡ Damaged Counts → counted false m < uses_of (blocks_for (inode_of m number).size)) → (e ≡ Damaged Kind → ¬ ReachesTo len (inode_of m number))
         → (e ≡ Damaged Pointer → ¬ WellMade lot entry m number) → (e ≡ Damaged Bitmap → ¬ WellMade lot entry m number) → e ≡ Disk
     cut-sound e h zero kind pointer unused = cut-fails e h
-        (λ q. let n = zero q in let u = counts mode lot m t k p number few xt.recovers xt.number_is c.old c.found in omega arith)
-        (λ q. kind q (reach mode lot m t k p number few xt.recovers xt.number_is c.old c.found len c.within))
+        (λ q. let n = zero q in let u = counts mode lot m t k p number few cut-takes.recovers cut-takes.number_is cuts.old cuts.found in omega arith)
+        (λ q. kind q (reach mode lot m t k p number few cut-takes.recovers cut-takes.number_is cuts.old cuts.found len cuts.within))
         (λ q. pointer q cut-made)
         (λ q. unused q cut-made)

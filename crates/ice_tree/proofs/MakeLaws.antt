@@ -134,23 +134,23 @@ module _ (mode : ℕ) (lot : LotView) (m0 : Map) (t : Tree) (k : ℕ) (p : Names
       (λ q. inode_counts mode lot m0 t k few [] [] whole (full q))
 
   module _ (m1 m2 : Map) (j : ℕ) (n : NodePut lot m0 m1 m2 j dir) where
-    b1 : Beside form_one mode lot m1 t k [] (j ∷ [])
-    b1 = took_inode mode lot m0 m1 t k [] j few whole n.took n.small n.taken
+    beside-taken : Beside form_one mode lot m1 t k [] (j ∷ [])
+    beside-taken = took_inode mode lot m0 m1 t k [] j few whole n.took n.small n.taken
 
-    b2 : Beside form_one mode lot m2 t k [] (j ∷ [])
-    b2 = put_loose mode lot m1 m2 t k j (new_inode dir) b1 n.put n.there
+    beside-put : Beside form_one mode lot m2 t k [] (j ∷ [])
+    beside-put = put_loose mode lot m1 m2 t k j (new_inode dir) beside-taken n.put n.there
 
     here : inode_on form_one (own 64 m2) 0 (parent p) ≡ spot.number
     here =
-        stays_walk m1 m2 t (put_stays mode lot m1 m2 t k [] j (new_inode dir) b1 n.put n.there) (parent p) (Dir place.entries) place.there
+        stays_walk m1 m2 t (put_stays mode lot m1 m2 t k [] j (new_inode dir) beside-taken n.put n.there) (parent p) (Dir place.entries) place.there
         ∙ stays_walk m0 m1 t (took_stays mode lot m0 m1 t k [] [] j few whole n.taken) (parent p) (Dir place.entries) place.there
         ∙ sym x.spot_is.number
 
     spot_made : WellMade lot 64 m2 spot.number
-    spot_made = subst (WellMade lot 64 m2) here (beside_made mode lot m2 t k [] (j ∷ []) b2 few (parent p) (Dir place.entries) place.there)
+    spot_made = subst (WellMade lot 64 m2) here (beside_made mode lot m2 t k [] (j ∷ []) beside-put few (parent p) (Dir place.entries) place.there)
 
     spot_room : HasRoom lot (inode_of m2 spot.number)
-    spot_room = subst (λ i. HasRoom lot (inode_of m2 i)) here (beside_room mode lot m2 t k [] (j ∷ []) b2 (omega arith) (parent p) place.entries place.there)
+    spot_room = subst (λ i. HasRoom lot (inode_of m2 i)) here (beside_room mode lot m2 t k [] (j ∷ []) beside-put (omega arith) (parent p) place.entries place.there)
 
     -- no row can be added, or none can be counted
     add_fault : (e : OpFault) → IsAddFault e
@@ -159,13 +159,13 @@ module _ (mode : ℕ) (lot : LotView) (m0 : Map) (t : Tree) (k : ℕ) (p : Names
         → (e ≡ Damaged Kind → ¬ HasRoom lot (inode_of m2 spot.number)) → (e ≡ Damaged Pointer → ¬ WellMade lot 64 m2 spot.number) → (e ≡ Damaged Bitmap → ¬ Reserved lot m2) → e ≡ Disk
     add_fault e h none full kind pointer unreserved = add-fails e h
         (λ q. subst (λ i. ¬ (free_count false lot m2 + uses_of (dir_blocks 64 (inode_of m2 i).size) < uses_of (dir_blocks 64 ((inode_of m2 i).size + 1)))) here
-        (add_fits mode lot m2 t k few j (length (parent p) + 1) (made dir) (used_inodes form_one (own 64 m2) j (made dir)) (made-beside mode lot m2 t k j dir b2 n.put.value) (made-reads lot m2 j (length (parent p) + 1) dir deep n.small n.put.value)
+        (add_fits mode lot m2 t k few j (length (parent p) + 1) (made dir) (used_inodes form_one (own 64 m2) j (made dir)) (made-beside mode lot m2 t k j dir beside-put n.put.value) (made-reads lot m2 j (length (parent p) + 1) dir deep n.small n.put.value)
         (parent p) (last_name p) place.entries place.there place.free (blocks_left t k (length lot.groups) p dir x.accepted)) (none q))
         (λ q. subst (λ i. ¬ (2 ^ 32 + uses_of (dir_blocks 64 (inode_of m2 i).size) ≤ counted false m2 + uses_of (dir_blocks 64 ((inode_of m2 i).size + 1)))) here
-        (add_counts mode lot m2 t k few [] (j ∷ []) b2 (parent p) place.entries place.there) (full q))
+        (add_counts mode lot m2 t k few [] (j ∷ []) beside-put (parent p) place.entries place.there) (full q))
         (λ q. kind q spot_room)
         (λ q. pointer q spot_made)
-        (λ q. unreserved q (beside_reserved mode lot m2 t k [] (j ∷ []) b2))
+        (λ q. unreserved q (beside_reserved mode lot m2 t k [] (j ∷ []) beside-put))
 
     -- the row was added
     module _ (short : length name ≤ 59) (m3 : Map) (set : DirSet lot 64 m2 m3 spot.number (rows_of 64 m2 spot.number ++ (name, j) ∷ [])) where

@@ -12,10 +12,6 @@ use Rattle.ice_steps.proofs.Quotas.{free_nodes_are, free_blocks_are}
 use Rattle.ice_tree.specs.declared.quota.Need.{Need}
 use Rattle.ice_tree.specs.Changes.{Needs, nodes_refusal, blocks_refusal}
 
--- what holds of the one form holds of each
-pub at_one : (P : Form → Type 0) (f : Form) → f ≡ form_one → P form_one → P f
-at_one P f e p = subst P (sym e) p
-
 few_nodes : (n x : ℕ) → x ≤ node_quota n → (t : Tree) → nodes t ≡ x → nodes_refusal n t ≡ None
 few_nodes n x h t e = grind (arith, nat_tests)
 
