@@ -18,7 +18,7 @@ ghost use Rattle.ice_reads.specs.Reads.{Reads};
 ghost use Rattle.ice_reads.specs.Recovers.{MapRecovers};
 ghost use Rattle.ice_reads.specs.Tables.{own_in, rows_in};
 ghost use Rattle.ice_tree.specs.Listings.{listed_as, IsListFault};
-ghost use Rattle.ice_tree.specs.Outcomes.{AsModel, ShownBy, IsTreeRefusal};
+ghost use Rattle.ice_tree.specs.Outcomes.{AsModel, ShownBy, IsTreeRefusal, IsLookRefusal};
 ghost use Rattle.ice_tree.specs.Stages.{paths_refusal};
 
 use crate::fault::refusal_of;
@@ -131,6 +131,7 @@ pub fn list<D: Disk, V: View<D>, F: Form>(
     ensures tallies { Tallies result room.new }
     ensures looked { Looked D.Disk V.View lot.now view.old disk.old view.new disk.new }
     ensures set { IfErr result IsTreeRefusal }
+    ensures few { IfErr result IsLookRefusal }
     ensures failed { IsErrOf result Fault → Rose (D.state disk.old).faults (D.state disk.new).faults }
 {
     if let Err(refusal) = check_path::<F>(path, depth) {

@@ -15,7 +15,7 @@ ghost use Rattle.tree_spec.specs.declared.reply.Refusal.TheVariants.{Fault};
 ghost use Rattle.ice_reads.specs.Reads.{inode_on};
 ghost use Rattle.ice_reads.specs.Recovers.{MapRecovers};
 ghost use Rattle.ice_reads.specs.Tables.{own_in};
-ghost use Rattle.ice_tree.specs.Outcomes.{AsModel, RefusedAs, ShownBy, IsTreeRefusal};
+ghost use Rattle.ice_tree.specs.Outcomes.{AsModel, RefusedAs, ShownBy, IsTreeRefusal, IsLookRefusal};
 ghost use Rattle.ice_tree.specs.Stages.{paths_refusal, file_refusal, dir_refusal};
 
 use crate::fault::refusal_of;
@@ -50,6 +50,7 @@ pub(crate) fn file_at<D: Disk, V: View<D>, F: Form>(
     ensures fits { IfOk result (λ file. (file.number < 64 * length lot.now.groups) × (file.size ≤ longest_file)) }
     ensures looked { Looked D.Disk V.View lot.now view.old disk.old view.new disk.new }
     ensures set { IfErr result IsTreeRefusal }
+    ensures few { IfErr result IsLookRefusal }
     ensures failed { IsErrOf result Fault → Rose (D.state disk.old).faults (D.state disk.new).faults }
 {
     match walk::<D, V, F>(view, disk, lot, path, depth, path.len()) {
@@ -86,6 +87,7 @@ pub(crate) fn dir_at<D: Disk, V: View<D>, F: Form>(
     ensures fits { IfOk result (λ dir. (dir.number < 64 * length lot.now.groups) × (dir.size < 64 * length lot.now.groups)) }
     ensures looked { Looked D.Disk V.View lot.now view.old disk.old view.new disk.new }
     ensures set { IfErr result IsTreeRefusal }
+    ensures few { IfErr result IsLookRefusal }
     ensures failed { IsErrOf result Fault → Rose (D.state disk.old).faults (D.state disk.new).faults }
 {
     match walk::<D, V, F>(view, disk, lot, path, depth, path.len()) {
@@ -123,6 +125,7 @@ pub fn read<D: Disk, V: View<D>, F: Form>(
     ensures tallies { Tallies result room.new }
     ensures looked { Looked D.Disk V.View lot.now view.old disk.old view.new disk.new }
     ensures set { IfErr result IsTreeRefusal }
+    ensures few { IfErr result IsLookRefusal }
     ensures failed { IsErrOf result Fault → Rose (D.state disk.old).faults (D.state disk.new).faults }
 {
     if let Err(refusal) = check_path::<F>(path, depth) {
@@ -160,6 +163,7 @@ pub fn stat<D: Disk, V: View<D>, F: Form>(
     ensures tallies { (room : Held) → Tallies result room }
     ensures looked { Looked D.Disk V.View lot.now view.old disk.old view.new disk.new }
     ensures set { IfErr result IsTreeRefusal }
+    ensures few { IfErr result IsLookRefusal }
     ensures failed { IsErrOf result Fault → Rose (D.state disk.old).faults (D.state disk.new).faults }
 {
     if let Err(refusal) = check_path::<F>(path, depth) {

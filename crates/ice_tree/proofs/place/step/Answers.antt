@@ -1,7 +1,6 @@
-use Rattle.std.proofs.Common.{IfOk, Err, ℕ, ◌+◌, ◌≡◌, ap, sym, ◌∙◌, arith, subst}
-use Rattle.std.proofs.lemmas.Result.{err_from_is_err_and, IfOk-equal}
+use Rattle.std.proofs.Common.{IfOk, Err, ◌+◌, ◌≡◌, ap, sym, ◌∙◌, subst}
+use Rattle.std.proofs.lemmas.Result.{err_from_is_err_and}
 use Rattle.tree_spec.specs.Costs.{form_of}
-use Rattle.ice_base.specs.declared.fault.OpFault.TheVariants.{Disk as FaultDisk}
 use Rattle.ice_reads.specs.Tables.{own_in}
 use Rattle.ice_reads.specs.Reads.{Reads}
 use Rattle.ice_tree.proofs.PlaceLaws.{step-none, step-some, step-fails}
