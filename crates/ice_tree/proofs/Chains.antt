@@ -1,11 +1,11 @@
 -- What refuses each operation, as a chain of stages.
 use Rattle.std.proofs.Common.{◌≡◌, ℕ, ◌+◌, Bool, true, false, List, [], ◌∷◌, length, Some, None, Option, refl}
-use Rattle.std.specs.Prelude.{◌&&◌, ◌||◌, not, nat_lt, nat_eq, if◌then◌else◌}
+use Rattle.std.specs.Prelude.{◌||◌, nat_lt, nat_eq, if◌then◌else◌}
 use Rattle.tree_spec.specs.Why.{Why}
 use Rattle.tree_spec.specs.Why as why
-use Rattle.tree_spec.specs.Trees.{Tree, File, Dir, Nil, Entry, Walk, Found, NotFound, NotDir, walk, parent_walk}
+use Rattle.tree_spec.specs.Trees.{Tree, File, Dir, Walk, Found, NotFound, NotDir, walk, parent_walk}
 use Rattle.tree_spec.specs.Costs.{Form, nodes, blocks, node_quota, block_quota}
-use Rattle.tree_spec.specs.Operations.{Operation, Mkdir, Make, Write, Read, Trunc, Remove, Rename, ListDir, Stat}
+use Rattle.tree_spec.specs.Operations.{Mkdir, Make, Write, Read, Trunc, Remove, Rename, ListDir, Stat}
 use Rattle.tree_spec.specs.Answers.{refusal, next, most_done, has_long_name, has_deep_path, is_root, is_found, is_not_found, is_not_dir, is_file_found, is_dir_found, is_full_found, bytes_found, moves_too_deep, is_taken, moves_into_itself}
 use Rattle.ice_tree.specs.Stages.{or_else, paths_refusal, walk_refusal, file_refusal, dir_refusal, quota_refusal}
 

@@ -1,5 +1,5 @@
 -- What a change of a file's bytes does to a tree, and what it needs.
-use Rattle.std.proofs.Common.{◌≡◌, ◌≤◌, ◌<◌, ◌+◌, ◌*◌, ◌^◌, max, ℕ, Bool, true, false, cond, List, [], ◌∷◌, ◌++◌, length, take, drop, Option, None, Some, refl, sym, ap, subst, ◌∙◌, arith, nat_lt, if◌then◌else◌}
+use Rattle.std.proofs.Common.{◌≡◌, ◌≤◌, ◌<◌, ◌+◌, ◌^◌, max, ℕ, true, false, cond, List, [], ◌∷◌, length, take, Option, None, Some, refl, sym, ap, subst, ◌∙◌, arith, nat_lt, if◌then◌else◌}
 use Rattle.std.specs.FinMap.{find}
 use Rattle.std.specs.Ordering.{eq_by_cmp}
 use Rattle.std.proofs.lemmas.Bool.Decides.{nat_tests}
@@ -16,32 +16,32 @@ use Rattle.ice_file.specs.Writes.{uses_of, blocks_with}
 use Rattle.tree_spec.specs.Why.{Why}
 use Rattle.tree_spec.specs.Why as why
 use Rattle.tree_spec.specs.Trees.{Tree, File, Dir, Entries, Nil, Entry, rows, by_bytes, walk, and_on, found_or_not, Found, at, over_entry}
-use Rattle.tree_spec.specs.Costs.{Form, form_one, nodes, blocks, map_cost, file_blocks, dir_blocks, block_quota}
+use Rattle.tree_spec.specs.Costs.{Form, form_one, blocks, map_cost, file_blocks, dir_blocks}
 use Rattle.tree_spec.specs.Operations.{Operation, Write, Trunc}
 use Rattle.tree_spec.specs.Answers.{next, refusal, written, bytes_of, bytes_found}
-use Rattle.tree_spec.specs.Replies.{Refused, Because}
+use Rattle.tree_spec.specs.Replies.{Refused}
 use Rattle.tree_spec.proofs.Accepted.{WritesFile, accepted-write, CutsFile, accepted-trunc}
 use Rattle.tree_spec.proofs.Changes.{total-file}
 use Rattle.tree_spec.proofs.Refusals.{blocks-next}
 use Rattle.tree_spec.proofs.Writes.{length-written}
-use Rattle.ice_reads.specs.Tables.{Map, Table, own_in}
+use Rattle.ice_reads.specs.Tables.{Map, own_in}
 use Rattle.ice_reads.specs.Reads.{inode_on}
 use Rattle.ice_reads.specs.Recovers.{MapRecovers}
-use Rattle.ice_reads.proofs.Focus.{same_Some, None≢Some, Found≢NotFound, Found≢NotDir, same_Found}
+use Rattle.ice_reads.proofs.Focus.{same_Some, Found≢NotFound, same_Found}
 use Rattle.ice_steps.specs.Beside.{Beside}
-use Rattle.ice_steps.proofs.Costs.{write_counts, write_fits, cut_counts}
+use Rattle.ice_steps.proofs.Costs.{write_counts, write_fits}
 use Rattle.ice_steps.proofs.Files.{file_set}
 use Rattle.ice_steps.proofs.Needs.{reaches_to, beside_counted, file_uses}
 use Rattle.ice_steps.proofs.Recovers.{recovers_beside}
 use Rattle.ice_steps.proofs.Walks.{FileAt, walk_file, walk_made}
-use Rattle.ice_tree.specs.declared.looks.FileAt as found
 use Rattle.ice_tree.specs.declared.quota.Need.{Need}
-use Rattle.ice_tree.specs.Changes.{Needs, IsFile, TakesAt, reach_refusal}
+use Rattle.ice_tree.specs.Changes.{Needs, TakesAt, reach_refusal}
 use Rattle.ice_tree.specs.Outcomes.{RefusedAs}
 use Rattle.ice_tree.specs.Stages.{or_else, paths_refusal, file_refusal, quota_refusal}
 use Rattle.ice_tree.proofs.Chains.{refusal_write, refusal_trunc}
 use Rattle.ice_tree.proofs.SpotLaws.{chained}
-use Rattle.ice_tree.proofs.StageLaws.{or_else-later, refused-now, refused-later, none-both}
+use Rattle.ice_tree.proofs.LookLaws.{later_stage}
+use Rattle.ice_tree.proofs.StageLaws.{refused-now, refused-later}
 
 abbrev Names : Type 0
 Names = List (List ℕ)
@@ -68,7 +68,7 @@ module _ (f : Form) (p : Names) (at : ℕ) (t : Tree) (names : paths_refusal f (
   module _ (bytes : List ℕ) (found : walk p t ≡ Found (File bytes)) where
     past : reach_refusal f p at t ≡ (if nat_lt (length bytes) at then Some why.BeyondEnd else None)
     past =
-        or_else-later (paths_refusal f (p ∷ [])) (or_else (file_refusal (walk p t)) (beyond p at t)) names
+        later_stage (paths_refusal f (p ∷ [])) (or_else (file_refusal (walk p t)) (beyond p at t)) names
         ∙ ap (λ w. or_else (file_refusal w) (if nat_lt (length (bytes_found w)) at then Some why.BeyondEnd else None)) found
 
     -- the file ends before
@@ -181,26 +181,26 @@ module _ (mode : ℕ) (lot : LotView) (m : Map) (t : Tree) (k : ℕ) (p : Names)
 module _ (f : Form) (one : f ≡ form_one) (entry : ℕ) (sized : entry ≡ 64) (mode : ℕ) (lot : LotView) (m : Map) (t : Tree) (k : ℕ) (p : Names) (number : ℕ) (few : length lot.groups ≤ 64) where
   -- bytes are written
   module _ (off : ℕ) (bytes : List ℕ) (x : TakesAt f mode lot m t k p (Write p off bytes) number) where
-    xo : TakesAt form_one mode lot m t k p (Write p off bytes) number
-    xo = subst (λ g. TakesAt g mode lot m t k p (Write p off bytes) number) one x
+    write-takes : TakesAt form_one mode lot m t k p (Write p off bytes) number
+    write-takes = subst (λ g. TakesAt g mode lot m t k p (Write p off bytes) number) one x
 
-    w : WritesFile t k (length lot.groups) form_one p off bytes
-    w = accepted-write t k (length lot.groups) form_one p off bytes xo.accepted
+    writes : WritesFile t k (length lot.groups) form_one p off bytes
+    writes = accepted-write t k (length lot.groups) form_one p off bytes write-takes.accepted
 
-    long : length (written w.old off bytes) ≡ max (length w.old) (off + length bytes)
-    long = length-written w.old off bytes w.within
+    long : length (written writes.old off bytes) ≡ max (length writes.old) (off + length bytes)
+    long = length-written writes.old off bytes writes.within
 
     pub write-made : WellMade lot entry m number
-    write-made = subst (λ s. WellMade lot s m number) (sym sized) (made mode lot m t k p number few xo.recovers xo.number_is w.old w.found)
+    write-made = subst (λ s. WellMade lot s m number) (sym sized) (made mode lot m t k p number few write-takes.recovers write-takes.number_is writes.old writes.found)
 
-    short : length (written w.old off bytes) ≤ 274432
+    short : length (written writes.old off bytes) ≤ 274432
     short =
-        let d = file mode lot m t k p number few xo.recovers xo.number_is w.old w.found in
-        let l = long in let a = d.size in let b = d.within in let c = w.small in omega arith
+        let d = file mode lot m t k p number few write-takes.recovers write-takes.number_is writes.old writes.found in
+        let l = long in let a = d.size in let b = d.within in let c = writes.small in omega arith
 
     pub write-recovers : (m' : Map) → FileSet lot entry m m' number (overwritten (file_bytes (own entry m number)) off bytes) → MapRecovers f mode lot m' (next (Write p off bytes) t) k
     write-recovers m' set = subst (λ g. MapRecovers g mode lot m' (next (Write p off bytes) t) k) (sym one)
-        (put mode lot m t k p number few xo.recovers xo.number_is w.old w.found m' (λ u. written u off bytes) short
+        (put mode lot m t k p number few write-takes.recovers write-takes.number_is writes.old writes.found m' (λ u. written u off bytes) short
         (subst (λ s. FileSet lot s m m' number (overwritten (file_bytes (own s m number)) off bytes)) sized set))
 
     pub write-sound : (e : OpFault) → IsWriteFault e
@@ -208,40 +208,40 @@ module _ (f : Form) (one : f ≡ form_one) (entry : ℕ) (sized : entry ≡ 64) 
         → (e ≡ Damaged Counts → WellMade lot entry m number → uses_of (blocks_for (inode_of m number).size) ≤ counted false m → 2 ^ 32 + uses_of (blocks_for (inode_of m number).size) ≤ counted false m + uses_of (blocks_with (inode_of m number).size (off + length bytes)))
         → (e ≡ Damaged Kind → ¬ ReachesTo off (inode_of m number)) → (e ≡ Damaged Pointer → ¬ WellMade lot entry m number) → (e ≡ Damaged Bitmap → WellMade lot entry m number → ¬ Reserved lot m) → e ≡ Disk
     write-sound e h none full kind pointer unreserved =
-        let b = whole mode lot m t k p number few xo.recovers xo.number_is w.old w.found in
+        let b = whole mode lot m t k p number few write-takes.recovers write-takes.number_is writes.old writes.found in
         write-fails e h
-        (λ q. subst (λ i. ¬ (free_count false lot m + uses_of (blocks_for (inode_of m i).size) < uses_of (blocks_with (inode_of m i).size (off + length bytes)))) (sym xo.number_is)
-        (write_fits mode lot m t k few [] [] b p w.old w.found (written w.old off bytes) (off + length bytes) long w.small
-        (let l = ap (blocks form_one) (at-same p (λ s. File (written w.old off bytes)) (λ u. File (written (bytes_of u) off bytes)) t (File w.old) w.found refl) in let q = blocks-next t k (length lot.groups) form_one (Write p off bytes) xo.accepted refl in omega arith))
+        (λ q. subst (λ i. ¬ (free_count false lot m + uses_of (blocks_for (inode_of m i).size) < uses_of (blocks_with (inode_of m i).size (off + length bytes)))) (sym write-takes.number_is)
+        (write_fits mode lot m t k few [] [] b p writes.old writes.found (written writes.old off bytes) (off + length bytes) long writes.small
+        (let l = ap (blocks form_one) (at-same p (λ s. File (written writes.old off bytes)) (λ u. File (written (bytes_of u) off bytes)) t (File writes.old) writes.found refl) in let q = blocks-next t k (length lot.groups) form_one (Write p off bytes) write-takes.accepted refl in omega arith))
         (none q write-made))
-        (λ q. subst (λ i. ¬ (2 ^ 32 + uses_of (blocks_for (inode_of m i).size) ≤ counted false m + uses_of (blocks_with (inode_of m i).size (off + length bytes)))) (sym xo.number_is)
-        (write_counts mode lot m t k few [] [] b p w.old w.found (off + length bytes) w.small)
-        (full q write-made (counts mode lot m t k p number few xo.recovers xo.number_is w.old w.found)))
-        (λ q. kind q (reach mode lot m t k p number few xo.recovers xo.number_is w.old w.found off w.within))
+        (λ q. subst (λ i. ¬ (2 ^ 32 + uses_of (blocks_for (inode_of m i).size) ≤ counted false m + uses_of (blocks_with (inode_of m i).size (off + length bytes)))) (sym write-takes.number_is)
+        (write_counts mode lot m t k few [] [] b p writes.old writes.found (off + length bytes) writes.small)
+        (full q write-made (counts mode lot m t k p number few write-takes.recovers write-takes.number_is writes.old writes.found)))
+        (λ q. kind q (reach mode lot m t k p number few write-takes.recovers write-takes.number_is writes.old writes.found off writes.within))
         (λ q. pointer q write-made)
-        (λ q. unreserved q write-made xo.recovers.holds.reserved)
+        (λ q. unreserved q write-made write-takes.recovers.holds.reserved)
 
   -- the file is cut
   module _ (len : ℕ) (x : TakesAt f mode lot m t k p (Trunc p len) number) where
-    xt : TakesAt form_one mode lot m t k p (Trunc p len) number
-    xt = subst (λ g. TakesAt g mode lot m t k p (Trunc p len) number) one x
+    cut-takes : TakesAt form_one mode lot m t k p (Trunc p len) number
+    cut-takes = subst (λ g. TakesAt g mode lot m t k p (Trunc p len) number) one x
 
-    c : CutsFile t k (length lot.groups) form_one p len
-    c = accepted-trunc t k (length lot.groups) form_one p len xt.accepted
+    cuts : CutsFile t k (length lot.groups) form_one p len
+    cuts = accepted-trunc t k (length lot.groups) form_one p len cut-takes.accepted
 
     pub cut-made : WellMade lot entry m number
-    cut-made = subst (λ s. WellMade lot s m number) (sym sized) (made mode lot m t k p number few xt.recovers xt.number_is c.old c.found)
+    cut-made = subst (λ s. WellMade lot s m number) (sym sized) (made mode lot m t k p number few cut-takes.recovers cut-takes.number_is cuts.old cuts.found)
 
     pub cut-recovers : (m' : Map) → FileSet lot entry m m' number (take len (file_bytes (own entry m number))) → MapRecovers f mode lot m' (next (Trunc p len) t) k
     cut-recovers m' set = subst (λ g. MapRecovers g mode lot m' (next (Trunc p len) t) k) (sym one)
-        (put mode lot m t k p number few xt.recovers xt.number_is c.old c.found m' (λ u. take len u)
-        (let d = file mode lot m t k p number few xt.recovers xt.number_is c.old c.found in let l = length-take len c.old in let a = d.size in let b = d.within in omega arith)
+        (put mode lot m t k p number few cut-takes.recovers cut-takes.number_is cuts.old cuts.found m' (λ u. take len u)
+        (let d = file mode lot m t k p number few cut-takes.recovers cut-takes.number_is cuts.old cuts.found in let l = length-take len cuts.old in let a = d.size in let b = d.within in omega arith)
         (subst (λ s. FileSet lot s m m' number (take len (file_bytes (own s m number)))) sized set))
 
     pub cut-sound : (e : OpFault) → IsCutToFault e → (e ≡ Damaged Counts → counted false m < uses_of (blocks_for (inode_of m number).size)) → (e ≡ Damaged Kind → ¬ ReachesTo len (inode_of m number))
         → (e ≡ Damaged Pointer → ¬ WellMade lot entry m number) → (e ≡ Damaged Bitmap → ¬ WellMade lot entry m number) → e ≡ Disk
     cut-sound e h zero kind pointer unused = cut-fails e h
-        (λ q. let n = zero q in let u = counts mode lot m t k p number few xt.recovers xt.number_is c.old c.found in omega arith)
-        (λ q. kind q (reach mode lot m t k p number few xt.recovers xt.number_is c.old c.found len c.within))
+        (λ q. let n = zero q in let u = counts mode lot m t k p number few cut-takes.recovers cut-takes.number_is cuts.old cuts.found in omega arith)
+        (λ q. kind q (reach mode lot m t k p number few cut-takes.recovers cut-takes.number_is cuts.old cuts.found len cuts.within))
         (λ q. pointer q cut-made)
         (λ q. unused q cut-made)

@@ -1,5 +1,5 @@
 -- What a call that changes nothing answers, stage by stage.
-use Rattle.std.proofs.Common.{◌≡◌, ℕ, ◌+◌, ◌-◌, ◌*◌, ◌<◌, ◌≤◌, Bool, true, false, List, [], ◌∷◌, ◌++◌, length, map, take, drop, Some, None, Option, Result, Ok, Err, sym, refl, ap, ◌∙◌, subst, arith}
+use Rattle.std.proofs.Common.{◌≡◌, ℕ, ◌+◌, ◌-◌, ◌*◌, ◌<◌, ◌≤◌, true, false, List, [], ◌∷◌, length, map, take, drop, Some, None, Option, Ok, Err, sym, refl, ap, ◌∙◌, subst, arith}
 use Rattle.std.specs.Prelude.{nat_lt, if◌then◌else◌}
 use Rattle.ice_base.specs.declared.fault.OpFault.{OpFault}
 use Rattle.ice_base.specs.declared.fault.OpFault.TheVariants.{Disk, Damaged}
@@ -23,7 +23,7 @@ use Rattle.tree_spec.specs.Costs.{Form, form_one}
 use Rattle.tree_spec.specs.Trees.{Tree, Entries, rows, Walk, Found, NotFound, NotDir, walk}
 use Rattle.tree_spec.specs.Trees as tree
 use Rattle.tree_spec.specs.Answers.{refusal, answer, answer_by, accepted_value, bytes_found, tree_found, stat_value, listed, list_value}
-use Rattle.ice_tree.specs.Outcomes.{AsModel, RefusedAs, ShownBy, refusal_by}
+use Rattle.ice_tree.specs.Outcomes.{AsModel, RefusedAs, refusal_by}
 use Rattle.ice_reads.specs.Tables.{Table, Map, own_in}
 use Rattle.ice_reads.specs.Reads.{Reads}
 use Rattle.ice_tree.specs.Places.{place_by, place_at}

@@ -1,7 +1,5 @@
 -- What a new directory or file does to a tree, and what it needs.
-use Rattle.std.proofs.Common.{◌≡◌, ◌≢◌, ◌≤◌, ◌<◌, ◌+◌, ◌-◌, ◌*◌, ◌^◌, ℕ, Bool, true, false, not, List, [], ◌∷◌, ◌++◌, length, Option, None, Some, sym, refl, subst, ap, ◌∙◌, arith, nat_lt, T}
-use Rattle.std.specs.Prelude.{◌&&◌, ◌||◌}
-use Rattle.std.proofs.lemmas.Bool.Decides.{nat_tests}
+use Rattle.std.proofs.Common.{◌≡◌, ◌≤◌, ◌<◌, ◌+◌, ◌-◌, ◌*◌, ◌^◌, ℕ, Bool, true, false, List, [], ◌∷◌, ◌++◌, length, None, sym, refl, subst, ◌∙◌, arith}
 use Rattle.ice_base.specs.Inodes.{inode_address}
 use Rattle.ice_base.specs.Lots.{LotView, sub_address}
 use Rattle.ice_base.specs.Pools.{TookInode}
@@ -18,20 +16,20 @@ use Rattle.ice_dir.specs.Faults.{IsAddFault}
 use Rattle.ice_dir.specs.Rows.{rows_of}
 use Rattle.tree_spec.specs.Names.{is_name}
 use Rattle.tree_spec.specs.Why as why
-use Rattle.tree_spec.specs.Trees.{Tree, File, Dir, Nil, rows, Found, walk, parent, last_name, at, with_entry}
+use Rattle.tree_spec.specs.Trees.{Tree, File, Dir, Nil, parent, last_name, at, with_entry}
 use Rattle.tree_spec.specs.Costs.{Form, form_one, nodes, blocks, node_quota, block_quota}
-use Rattle.tree_spec.specs.Operations.{Operation, Mkdir, Make, is_change}
-use Rattle.tree_spec.specs.Answers.{next, refusal, deepest, has_deep_path}
+use Rattle.tree_spec.specs.Operations.{Mkdir, Make, is_change}
+use Rattle.tree_spec.specs.Answers.{next, refusal, deepest}
 use Rattle.tree_spec.proofs.Accepted.{HasPlace, accepted-mkdir, accepted-make, length-parent, at_most, first_false}
 use Rattle.tree_spec.proofs.Changes.{total-placed}
 use Rattle.tree_spec.proofs.Refusals.{refusal-none, nodes-next, blocks-next}
-use Rattle.ice_reads.specs.Tables.{Map, own_in, IsNameOf}
+use Rattle.ice_reads.specs.Tables.{Map, IsNameOf}
 use Rattle.ice_reads.specs.Reads.{Reads, inode_on, used_blocks, used_inodes}
 use Rattle.ice_reads.specs.Recovers.{MapRecovers}
 use Rattle.ice_steps.specs.Beside.{Beside, OnlyAt}
 use Rattle.ice_steps.proofs.Chains.{dir_made, file_made}
 use Rattle.ice_steps.proofs.Costs.{inode_left, inode_counts, add_counts, add_fits}
-use Rattle.ice_steps.proofs.Fresh.{IsFresh, fresh_value, fresh_dir, fresh_file, dir_beside, file_beside, put_loose, put_stays}
+use Rattle.ice_steps.proofs.Fresh.{fresh_value, fresh_dir, fresh_file, dir_beside, file_beside, put_loose, put_stays}
 use Rattle.ice_steps.proofs.Made.{beside_made}
 use Rattle.ice_steps.proofs.Needs.{beside_room, beside_reserved}
 use Rattle.ice_steps.proofs.Recovers.{recovers_beside}
@@ -136,23 +134,23 @@ module _ (mode : ℕ) (lot : LotView) (m0 : Map) (t : Tree) (k : ℕ) (p : Names
       (λ q. inode_counts mode lot m0 t k few [] [] whole (full q))
 
   module _ (m1 m2 : Map) (j : ℕ) (n : NodePut lot m0 m1 m2 j dir) where
-    b1 : Beside form_one mode lot m1 t k [] (j ∷ [])
-    b1 = took_inode mode lot m0 m1 t k [] j few whole n.took n.small n.taken
+    beside-taken : Beside form_one mode lot m1 t k [] (j ∷ [])
+    beside-taken = took_inode mode lot m0 m1 t k [] j few whole n.took n.small n.taken
 
-    b2 : Beside form_one mode lot m2 t k [] (j ∷ [])
-    b2 = put_loose mode lot m1 m2 t k j (new_inode dir) b1 n.put n.there
+    beside-put : Beside form_one mode lot m2 t k [] (j ∷ [])
+    beside-put = put_loose mode lot m1 m2 t k j (new_inode dir) beside-taken n.put n.there
 
     here : inode_on form_one (own 64 m2) 0 (parent p) ≡ spot.number
     here =
-        stays_walk m1 m2 t (put_stays mode lot m1 m2 t k [] j (new_inode dir) b1 n.put n.there) (parent p) (Dir place.entries) place.there
+        stays_walk m1 m2 t (put_stays mode lot m1 m2 t k [] j (new_inode dir) beside-taken n.put n.there) (parent p) (Dir place.entries) place.there
         ∙ stays_walk m0 m1 t (took_stays mode lot m0 m1 t k [] [] j few whole n.taken) (parent p) (Dir place.entries) place.there
         ∙ sym x.spot_is.number
 
     spot_made : WellMade lot 64 m2 spot.number
-    spot_made = subst (WellMade lot 64 m2) here (beside_made mode lot m2 t k [] (j ∷ []) b2 few (parent p) (Dir place.entries) place.there)
+    spot_made = subst (WellMade lot 64 m2) here (beside_made mode lot m2 t k [] (j ∷ []) beside-put few (parent p) (Dir place.entries) place.there)
 
     spot_room : HasRoom lot (inode_of m2 spot.number)
-    spot_room = subst (λ i. HasRoom lot (inode_of m2 i)) here (beside_room mode lot m2 t k [] (j ∷ []) b2 (omega arith) (parent p) place.entries place.there)
+    spot_room = subst (λ i. HasRoom lot (inode_of m2 i)) here (beside_room mode lot m2 t k [] (j ∷ []) beside-put (omega arith) (parent p) place.entries place.there)
 
     -- no row can be added, or none can be counted
     add_fault : (e : OpFault) → IsAddFault e
@@ -161,13 +159,13 @@ module _ (mode : ℕ) (lot : LotView) (m0 : Map) (t : Tree) (k : ℕ) (p : Names
         → (e ≡ Damaged Kind → ¬ HasRoom lot (inode_of m2 spot.number)) → (e ≡ Damaged Pointer → ¬ WellMade lot 64 m2 spot.number) → (e ≡ Damaged Bitmap → ¬ Reserved lot m2) → e ≡ Disk
     add_fault e h none full kind pointer unreserved = add-fails e h
         (λ q. subst (λ i. ¬ (free_count false lot m2 + uses_of (dir_blocks 64 (inode_of m2 i).size) < uses_of (dir_blocks 64 ((inode_of m2 i).size + 1)))) here
-        (add_fits mode lot m2 t k few j (length (parent p) + 1) (made dir) (used_inodes form_one (own 64 m2) j (made dir)) (made-beside mode lot m2 t k j dir b2 n.put.value) (made-reads lot m2 j (length (parent p) + 1) dir deep n.small n.put.value)
+        (add_fits mode lot m2 t k few j (length (parent p) + 1) (made dir) (used_inodes form_one (own 64 m2) j (made dir)) (made-beside mode lot m2 t k j dir beside-put n.put.value) (made-reads lot m2 j (length (parent p) + 1) dir deep n.small n.put.value)
         (parent p) (last_name p) place.entries place.there place.free (blocks_left t k (length lot.groups) p dir x.accepted)) (none q))
         (λ q. subst (λ i. ¬ (2 ^ 32 + uses_of (dir_blocks 64 (inode_of m2 i).size) ≤ counted false m2 + uses_of (dir_blocks 64 ((inode_of m2 i).size + 1)))) here
-        (add_counts mode lot m2 t k few [] (j ∷ []) b2 (parent p) place.entries place.there) (full q))
+        (add_counts mode lot m2 t k few [] (j ∷ []) beside-put (parent p) place.entries place.there) (full q))
         (λ q. kind q spot_room)
         (λ q. pointer q spot_made)
-        (λ q. unreserved q (beside_reserved mode lot m2 t k [] (j ∷ []) b2))
+        (λ q. unreserved q (beside_reserved mode lot m2 t k [] (j ∷ []) beside-put))
 
     -- the row was added
     module _ (short : length name ≤ 59) (m3 : Map) (set : DirSet lot 64 m2 m3 spot.number (rows_of 64 m2 spot.number ++ (name, j) ∷ [])) where

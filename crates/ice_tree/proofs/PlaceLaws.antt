@@ -1,5 +1,5 @@
 -- Where walks end, by what the inodes of a lot say.
-use Rattle.std.proofs.Common.{◌≡◌, ℕ, suc, ◌+◌, ◌-◌, ◌*◌, ◌/◌, ◌<◌, ◌≤◌, Bool, true, false, List, [], ◌∷◌, ◌++◌, length, Some, None, Option, Result, Ok, Err, sym, refl, ap, ◌∙◌, subst, arith, inl, inr}
+use Rattle.std.proofs.Common.{◌≡◌, ℕ, ◌+◌, ◌*◌, ◌<◌, ◌≤◌, Bool, true, false, List, [], ◌∷◌, ◌++◌, length, Some, None, Result, Ok, Err, sym, refl, ap, ◌∙◌, subst, arith, inl, inr}
 use Rattle.std.proofs.lemmas.Bool.Decides.{nat_tests}
 use Rattle.std.proofs.lemmas.Nat.{div-add-mod', mod_below}
 use Rattle.std.proofs.lemmas.List.FromFn.{length-map-range_with_len}
@@ -22,12 +22,12 @@ use Rattle.ice_dir.specs.Rows.{IsDirectory, look_up, rows_of, per_block}
 use Rattle.tree_spec.specs.Trees.{Tree, Entries, rows, Walk, Found, NotFound, NotDir, child, walk, and_on}
 use Rattle.tree_spec.specs.Trees as tree
 use Rattle.tree_spec.proofs.Trees.{walk-append}
-use Rattle.tree_spec.specs.Costs.{Form, form_one, form_of}
+use Rattle.tree_spec.specs.Costs.{Form, form_one}
 use Rattle.ice_reads.specs.Tables.{Map, Table, own_in, rows_in, inode_named, IsInode}
 use Rattle.ice_reads.specs.Reads.{Reads, inode_on}
 use Rattle.ice_reads.proofs.Focus.{Reads-part}
 use Rattle.ice_reads.proofs.LookUps.{child-found, child-none}
-use Rattle.ice_tree.specs.Places.{place_by, place_at, IsNode, PlaceFits}
+use Rattle.ice_tree.specs.Places.{place_by, place_at, IsNode}
 use Rattle.ice_tree.specs.declared.place.Place.{Place}
 use Rattle.ice_tree.specs.declared.place.Place.TheVariants.{File, Dir, Missing, Blocked}
 

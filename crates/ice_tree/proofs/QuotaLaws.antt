@@ -1,23 +1,16 @@
 -- What free nodes and blocks say of a quota, and how its stages follow one another.
-use Rattle.std.proofs.Common.{◌≡◌, ◌≤◌, ◌<◌, ◌+◌, ◌-◌, ◌*◌, ℕ, Bool, true, false, None, Some, length, refl, sym, subst, ap, arith, nat_lt, nat_eq}
+use Rattle.std.proofs.Common.{◌≡◌, ◌≤◌, ◌<◌, ◌+◌, ◌-◌, ℕ, true, false, None, Some, length, refl, sym, subst, arith}
 use Rattle.std.proofs.lemmas.Bool.Decides.{nat_tests}
 use Rattle.ice_base.specs.Lots.{LotView}
 use Rattle.ice_base.specs.Used.{free_count}
 use Rattle.tree_spec.specs.Why as why
 use Rattle.tree_spec.specs.Trees.{Tree}
-use Rattle.tree_spec.specs.Costs.{Form, form_of, form_one, nodes, blocks, node_quota, block_quota}
-use Rattle.tree_spec.specs.Replies.{Refused, Because, Fault, Memory}
+use Rattle.tree_spec.specs.Costs.{Form, form_one, nodes, blocks, node_quota, block_quota}
 use Rattle.ice_reads.specs.Tables.{Map}
 use Rattle.ice_reads.specs.Recovers.{MapRecovers}
 use Rattle.ice_steps.proofs.Quotas.{free_nodes_are, free_blocks_are}
 use Rattle.ice_tree.specs.declared.quota.Need.{Need}
-use Rattle.ice_tree.specs.Changes.{Needs, nodes_refusal, blocks_refusal, done_refusal}
-use Rattle.ice_tree.specs.Outcomes.{RefusedAs}
-use Rattle.ice_tree.specs.Stages.{quota_refusal}
-
--- what holds of the one form holds of each
-pub at_one : (P : Form → Type 0) (f : Form) → f ≡ form_one → P form_one → P f
-at_one P f e p = subst P (sym e) p
+use Rattle.ice_tree.specs.Changes.{Needs, nodes_refusal, blocks_refusal}
 
 few_nodes : (n x : ℕ) → x ≤ node_quota n → (t : Tree) → nodes t ≡ x → nodes_refusal n t ≡ None
 few_nodes n x h t e = grind (arith, nat_tests)

@@ -1,15 +1,14 @@
 -- What a call answers that changes a tree: the refusal that was found, or the value of the accepted operation with the next tree.
-use Rattle.std.proofs.Common.{◌≡◌, ◌+◌, ℕ, true, None, Some, Option, Ok, Err, sym, refl, ap, subst, ◌∙◌}
+use Rattle.std.proofs.Common.{◌≡◌, ◌+◌, ℕ, true, None, Ok, Err, sym, refl, ap, subst, ◌∙◌}
 use Rattle.ice_base.specs.Lots.{LotView}
 use Rattle.ice_base.specs.declared.fault.OpFault.{OpFault}
 use Rattle.ice_base.specs.declared.fault.OpFault.TheVariants.{Disk, Damaged, NoSpace, NoNodes}
 use Rattle.ice_base.specs.declared.fault.Rule.TheVariants as rule
-use Rattle.tree_spec.specs.Why.{Why}
 use Rattle.tree_spec.specs.Trees.{Tree}
 use Rattle.tree_spec.specs.Costs.{Form}
 use Rattle.tree_spec.specs.Operations.{Operation, is_change}
 use Rattle.tree_spec.specs.Answers.{refusal, answer, next}
-use Rattle.tree_spec.specs.Replies.{Response, Refused, Plain, refused_of}
+use Rattle.tree_spec.specs.Replies.{Refused, Plain}
 use Rattle.tree_spec.specs.declared.reply.Refusal.{Refusal}
 use Rattle.tree_spec.proofs.Refusals.{answer-accepted, accepted_value-change}
 use Rattle.ice_reads.specs.Tables.{Map}

@@ -1,6 +1,5 @@
 -- The place where something new is to stand, stage by stage.
-use Rattle.std.proofs.Common.{◌≡◌, ◌≤◌, ◌<◌, ◌+◌, ◌-◌, ℕ, Bool, true, false, List, [], ◌∷◌, ◌++◌, length, drop, take, get_or, Option, None, Some, refl, sym, ap, subst, ◌∙◌, arith, nat_lt, nat_eq, if◌then◌else◌}
-use Rattle.std.specs.Prelude.{◌||◌}
+use Rattle.std.proofs.Common.{◌≡◌, ◌≤◌, ◌+◌, ◌-◌, ℕ, Bool, true, false, List, [], ◌∷◌, ◌++◌, length, drop, take, get_or, Option, None, Some, refl, sym, ap, subst, ◌∙◌, arith, nat_lt, nat_eq, if◌then◌else◌}
 use Rattle.std.specs.List.{list_any}
 use Rattle.std.specs.FinMap.{find}
 use Rattle.std.proofs.lemmas.Bool.Decides.{nat_tests}
@@ -11,18 +10,16 @@ use Rattle.tree_spec.specs.Why.{Why}
 use Rattle.tree_spec.specs.Why as why
 use Rattle.tree_spec.specs.Trees.{Tree, Walk, Found, NotFound, NotDir, walk, parent, last_name, parent_walk, needs_dir, rows, by_bytes, and_on, found_or_not}
 use Rattle.tree_spec.specs.Trees as tree
-use Rattle.tree_spec.specs.Costs.{Form, form_one, form_of, nodes, blocks, map_cost, file_blocks, dir_blocks}
-use Rattle.tree_spec.specs.Answers.{is_root, is_found, refusal, next, deepest}
-use Rattle.tree_spec.proofs.Accepted.{HasPlace, has_place, walk-last, first_false, second_false}
+use Rattle.tree_spec.specs.Costs.{Form, form_one, nodes, blocks, map_cost, file_blocks, dir_blocks}
+use Rattle.tree_spec.specs.Answers.{is_root, is_found, refusal, next}
+use Rattle.tree_spec.proofs.Accepted.{has_place, walk-last, first_false, second_false}
 use Rattle.tree_spec.proofs.Changes.{total-placed}
 use Rattle.ice_reads.specs.Tables.{Map, Table, own_in}
 use Rattle.ice_reads.specs.Reads.{inode_on}
 use Rattle.ice_reads.specs.Recovers.{MapRecovers}
 use Rattle.ice_tree.specs.declared.ends.Ends.{Ends}
 use Rattle.ice_tree.specs.declared.ends.Spot.{Spot}
-use Rattle.ice_tree.specs.declared.place.Place.{Place}
 use Rattle.ice_tree.specs.declared.place.Place.TheVariants.{File, Dir, Missing, Blocked}
-use Rattle.ice_tree.specs.declared.quota.Need.{Need}
 use Rattle.ice_tree.specs.Changes.{IsEnds, IsSpot, Needs, Takes, new_operation, new_refusal}
 use Rattle.ice_tree.specs.Places.{place_by}
 use Rattle.ice_tree.specs.Stages.{or_else, walk_refusal, paths_refusal, quota_refusal}

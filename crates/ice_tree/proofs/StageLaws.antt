@@ -1,5 +1,5 @@
 -- One stage of refusals after another.
-use Rattle.std.proofs.Common.{◌≡◌, Bool, true, false, Option, None, Some, Result, Ok, Err, MatchResult, refl, ap, ◌∙◌, sym, subst, ℕ, nat_lt, nat_eq, length, if◌then◌else◌}
+use Rattle.std.proofs.Common.{◌≡◌, Bool, true, false, Option, None, Some, Result, MatchResult, refl, ap, ◌∙◌, sym, subst, ℕ, nat_lt, nat_eq, if◌then◌else◌}
 use Rattle.tree_spec.specs.Why.{Why}
 use Rattle.tree_spec.specs.Why as why
 use Rattle.tree_spec.specs.Trees.{Tree}
@@ -13,9 +13,7 @@ use Rattle.ice_reads.specs.Recovers.{MapRecovers}
 use Rattle.ice_tree.specs.Changes.{nodes_refusal, blocks_refusal, done_refusal}
 use Rattle.ice_tree.specs.Outcomes.{RefusedAs}
 use Rattle.ice_tree.specs.Stages.{or_else, quota_refusal}
-
-pub or_else-later : (a b : Option Why) → a ≡ None → or_else a b ≡ b
-or_else-later a b e = ap (λ (x : Option Why). or_else x b) e
+use Rattle.ice_tree.proofs.LookLaws.{later_stage}
 
 -- a stage that refuses decides
 pub refused-now : (x : Refused) (a b : Option Why) → RefusedAs x a → RefusedAs x (or_else a b)
@@ -25,17 +23,17 @@ refused-now (Because r) a b h = ap (λ (y : Option Why). or_else y b) h
 
 -- and one that doesn't leaves it to the later ones
 pub refused-later : (x : Refused) (a b : Option Why) → a ≡ None → RefusedAs x b → RefusedAs x (or_else a b)
-refused-later x a b e h = subst (RefusedAs x) (sym (or_else-later a b e)) h
+refused-later x a b e h = subst (RefusedAs x) (sym (later_stage a b e)) h
 
 pub none-both : (a b : Option Why) → a ≡ None → b ≡ None → or_else a b ≡ None
-none-both a b e f = or_else-later a b e ∙ f
+none-both a b e f = later_stage a b e ∙ f
 
 -- a call finds the refusal, or that there is none
 abbrev pub Finds : {A : Type 0} → Result A Refusal → Option Why → Type 0
 Finds result found = MatchResult result (λ u. found ≡ None) (λ r. RefusedAs (refused_of r) found)
 
 pub finds-later : {A : Type 0} (result : Result A Refusal) (a b : Option Why) → a ≡ None → Finds result b → Finds result (or_else a b)
-finds-later {A} result a b e h = subst (λ (o : Option Why). Finds result o) (sym (or_else-later a b e)) h
+finds-later {A} result a b e h = subst (λ (o : Option Why). Finds result o) (sym (later_stage a b e)) h
 
 by_stages : (few full spent : Bool) → (if few then Some why.NoNodes else (if full then Some why.NoSpace else (if spent then Some why.Spent else None)))
     ≡ or_else (if few then Some why.NoNodes else None) (or_else (if full then Some why.NoSpace else None) (if spent then Some why.Spent else None))

@@ -1,5 +1,4 @@
 -- Listings of directories.
-use Rattle.std.specs.Prelude.{ℕ, List, map}
 use Rattle.ice_base.specs.declared.fault.OpFault.{OpFault}
 use Rattle.ice_base.specs.declared.fault.OpFault.TheVariants.{Disk, Damaged}
 use Rattle.ice_base.specs.declared.fault.Rule.TheVariants.{Kind, Pointer, InodeTwice, Name}

@@ -1,5 +1,5 @@
 -- What a call over a tree may answer.
-use Rattle.std.specs.Prelude.{◌≡◌, ℕ, Option, Some, None, Result, Ok, Err, ⊤}
+use Rattle.std.specs.Prelude.{◌≡◌, ◌⊎◌, ℕ, Option, Some, None, Result, Ok, Err, ⊤}
 use Rattle.ice_base.specs.declared.fault.OpFault.{OpFault}
 use Rattle.ice_base.specs.declared.fault.OpFault.TheVariants as op
 use Rattle.ice_base.specs.declared.fault.Rule.{Rule}
@@ -71,6 +71,18 @@ IsTreeRefusal code.Spent = ⊤
 IsTreeRefusal (code.Damaged number) = (r : Rule) × (number ≡ rule_number r)
 IsTreeRefusal code.Fault = ⊤
 IsTreeRefusal _ = ⊥
+
+-- the refusals of what changes nothing: those of its path and place, and damage of an inode, a pointer, an entry's inode or an entry's name
+abbrev pub IsLookRefusal : Refusal → Type 0
+IsLookRefusal code.NameLong = ⊤
+IsLookRefusal code.TooDeep = ⊤
+IsLookRefusal code.NotFound = ⊤
+IsLookRefusal code.NotDir = ⊤
+IsLookRefusal code.IsDir = ⊤
+IsLookRefusal code.BeyondEnd = ⊤
+IsLookRefusal (code.Damaged number) = (number ≡ 7) ⊎ (number ≡ 8) ⊎ (number ≡ 10) ⊎ (number ≡ 11)
+IsLookRefusal code.Fault = ⊤
+IsLookRefusal _ = ⊥
 
 -- a refusal that names alone show comes before any call of the disk
 abbrev pub ShownBy : {A : Type 0} → Option Why → Result A Refusal → Type 0

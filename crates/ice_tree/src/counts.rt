@@ -23,8 +23,8 @@ pub(crate) const MOST_DONE: u64 = (1 << 63) - 1;
 /// Where the number stands in the sub-super block.
 const DONE_PLACE: usize = 16;
 
-#[tactic(auto, using(ice_base::proofs::LotLaws::address_laws))]
 /// How many operations were accepted. Damaged: the sub-super block breaks a rule.
+#[tactic(auto, using(ice_base::proofs::LotLaws::address_laws))]
 pub(crate) fn done_of<D: Disk, V: View<D>, F: Form>(
     view: &mut V,
     disk: &mut D,
@@ -45,8 +45,8 @@ pub(crate) fn done_of<D: Disk, V: View<D>, F: Form>(
     }
 }
 
-#[tactic(auto, using(ice_base::proofs::LotLaws::address_laws))]
 /// Adds one to the number of accepted operations. Damaged: it can't grow.
+#[tactic(auto, using(ice_base::proofs::LotLaws::address_laws))]
 pub(crate) fn count_up<D: Disk, K: Keep<D>>(
     keep: &mut K,
     disk: &mut D,

@@ -21,7 +21,7 @@ ghost use Rattle.ice_reads.specs.Recovers.{MapRecovers};
 ghost use Rattle.ice_reads.specs.Tables.{own_in, rows_in};
 ghost use Rattle.ice_tree.specs.Broken.{IsBroken, IsBrokenBy};
 ghost use Rattle.ice_tree.specs.Listings.{listed_as, IsListFault};
-ghost use Rattle.ice_tree.specs.Outcomes.{AsModel, ShownBy, IsTreeRefusal, rule_number};
+ghost use Rattle.ice_tree.specs.Outcomes.{AsModel, ShownBy, IsTreeRefusal, IsLookRefusal, rule_number};
 ghost use Rattle.ice_tree.specs.Stages.{paths_refusal};
 
 use crate::fault::refusal_of;
@@ -137,6 +137,7 @@ pub fn list<D: Disk, V: View<D>, F: Form>(
     ensures damaged { (n : ℕ) → IsErrOf result (Damaged n) → V.shows lot.now view.old disk.old → (r : Rule) × (n ≡ rule_number r) × IsBroken F.ENTRY lot.now (V.map view.old disk.old lot.now) r }
     ensures looked { Looked D.Disk V.View lot.now view.old disk.old view.new disk.new }
     ensures set { IfErr result IsTreeRefusal }
+    ensures few { IfErr result IsLookRefusal }
     ensures failed { IsErrOf result Fault → Rose (D.state disk.old).faults (D.state disk.new).faults }
 {
     if let Err(refusal) = check_path::<F>(path, depth) {

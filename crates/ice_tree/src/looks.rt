@@ -17,7 +17,7 @@ ghost use Rattle.ice_reads.specs.Reads.{inode_on};
 ghost use Rattle.ice_reads.specs.Recovers.{MapRecovers};
 ghost use Rattle.ice_reads.specs.Tables.{own_in};
 ghost use Rattle.ice_tree.specs.Broken.{IsBroken};
-ghost use Rattle.ice_tree.specs.Outcomes.{AsModel, RefusedAs, ShownBy, IsTreeRefusal, rule_number};
+ghost use Rattle.ice_tree.specs.Outcomes.{AsModel, RefusedAs, ShownBy, IsTreeRefusal, IsLookRefusal, rule_number};
 ghost use Rattle.ice_tree.specs.Places.{PlaceIs};
 ghost use Rattle.ice_tree.specs.Stages.{paths_refusal, file_refusal, dir_refusal};
 ghost use Rattle.ice_tree.specs.declared.place.Place.TheVariants.{File as AtFile, Dir as AtDir};
@@ -56,6 +56,7 @@ pub(crate) fn file_at<D: Disk, V: View<D>, F: Form>(
     ensures damaged { (n : ℕ) → IsErrOf result (Damaged n) → V.shows lot.now view.old disk.old → (r : Rule) × (n ≡ rule_number r) × IsBroken F.ENTRY lot.now (V.map view.old disk.old lot.now) r }
     ensures looked { Looked D.Disk V.View lot.now view.old disk.old view.new disk.new }
     ensures set { IfErr result IsTreeRefusal }
+    ensures few { IfErr result IsLookRefusal }
     ensures failed { IsErrOf result Fault → Rose (D.state disk.old).faults (D.state disk.new).faults }
 {
     match walk::<D, V, F>(view, disk, lot, path, depth, path.len()) {
@@ -94,6 +95,7 @@ pub(crate) fn dir_at<D: Disk, V: View<D>, F: Form>(
     ensures damaged { (n : ℕ) → IsErrOf result (Damaged n) → V.shows lot.now view.old disk.old → (r : Rule) × (n ≡ rule_number r) × IsBroken F.ENTRY lot.now (V.map view.old disk.old lot.now) r }
     ensures looked { Looked D.Disk V.View lot.now view.old disk.old view.new disk.new }
     ensures set { IfErr result IsTreeRefusal }
+    ensures few { IfErr result IsLookRefusal }
     ensures failed { IsErrOf result Fault → Rose (D.state disk.old).faults (D.state disk.new).faults }
 {
     match walk::<D, V, F>(view, disk, lot, path, depth, path.len()) {
@@ -132,6 +134,7 @@ pub fn read<D: Disk, V: View<D>, F: Form>(
     ensures damaged { (n : ℕ) → IsErrOf result (Damaged n) → V.shows lot.now view.old disk.old → (r : Rule) × (n ≡ rule_number r) × IsBroken F.ENTRY lot.now (V.map view.old disk.old lot.now) r }
     ensures looked { Looked D.Disk V.View lot.now view.old disk.old view.new disk.new }
     ensures set { IfErr result IsTreeRefusal }
+    ensures few { IfErr result IsLookRefusal }
     ensures failed { IsErrOf result Fault → Rose (D.state disk.old).faults (D.state disk.new).faults }
 {
     if let Err(refusal) = check_path::<F>(path, depth) {
@@ -170,6 +173,7 @@ pub fn stat<D: Disk, V: View<D>, F: Form>(
     ensures damaged { (n : ℕ) → IsErrOf result (Damaged n) → V.shows lot.now view.old disk.old → (r : Rule) × (n ≡ rule_number r) × IsBroken F.ENTRY lot.now (V.map view.old disk.old lot.now) r }
     ensures looked { Looked D.Disk V.View lot.now view.old disk.old view.new disk.new }
     ensures set { IfErr result IsTreeRefusal }
+    ensures few { IfErr result IsLookRefusal }
     ensures failed { IsErrOf result Fault → Rose (D.state disk.old).faults (D.state disk.new).faults }
 {
     if let Err(refusal) = check_path::<F>(path, depth) {

@@ -1,4 +1,4 @@
-use Rattle.std.proofs.Common.{[], ◌-◌, ◌≤◌, ◌≡◌, ◌∙◌, arith, length}
+use Rattle.std.proofs.Common.{[], ◌-◌, arith}
 use Rattle.tree_spec.specs.Costs.{form_of}
 use Rattle.ice_tree.proofs.Names.{name-of}
 use Rattle.ice_tree.proofs.SpotLaws.{last-is, last-short}

@@ -1,10 +1,8 @@
-use Rattle.std.proofs.Common.{ℕ, ◌+◌, ◌<◌, ◌∷◌, [], ◌++◌, ◌≡◌, List, Some, Err, refl, length, map, take, ◌∙◌, ap, sym, subst, arith, rules}
+use Rattle.std.proofs.Common.{ℕ, List, map, ◌∙◌, ap, sym, subst, arith, rules}
 use Rattle.std.proofs.lemmas.List.{take_all}
-use Rattle.std.proofs.lemmas.Result.{err_from_is_err_and}
 use Rattle.std.specs.Prelude.{slice_get}
 use Rattle.tree_spec.specs.Costs.{form_of}
-use Rattle.tree_spec.specs.Trees.{Entries, Dir, rows}
-use Rattle.ice_dir.specs.Rows.{Row}
+use Rattle.tree_spec.specs.Trees.{Dir}
 use Rattle.ice_reads.specs.Reads.{Reads}
 use Rattle.ice_reads.specs.Tables.{own_in, rows_in}
 use Rattle.ice_tree.specs.Listings.{listed_as}

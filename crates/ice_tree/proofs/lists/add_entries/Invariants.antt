@@ -1,4 +1,4 @@
-use Rattle.std.proofs.Common.{◌≡◌, ◌≤◌, ◌+◌, ◌-◌, ℕ, length, take, map}
+use Rattle.std.proofs.Common.{◌≡◌, ℕ, length, take, map}
 use Rattle.ice_base.specs.Views.{Looked}
 use Rattle.tree_spec.specs.Trees.{Entries, Dir, rows}
 use Rattle.tree_spec.specs.Costs.{form_of}

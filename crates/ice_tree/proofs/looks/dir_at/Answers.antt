@@ -1,9 +1,8 @@
-use Rattle.std.proofs.Common.{◌∙◌, ap, sym, drop}
+use Rattle.std.proofs.Common.{ap, drop}
 use Rattle.tree_spec.specs.Costs.{form_of}
 use Rattle.tree_spec.specs.Trees.{walk}
 use Rattle.ice_reads.specs.Tables.{own_in}
 use Rattle.ice_reads.specs.Reads.{inode_on}
-use Rattle.ice_tree.specs.Places.{place_at}
 use Rattle.ice_tree.specs.Stages.{dir_refusal}
 use Rattle.ice_tree.proofs.LookLaws.{ends_file, ends_dir, ends_missing, ends_blocked, whole_path, fault_as}
 use Rattle.ice_tree.proofs.looks.dir_at.Goals as goal

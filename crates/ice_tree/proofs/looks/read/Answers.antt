@@ -1,9 +1,8 @@
 use Rattle.std.proofs.Common.{ℕ, List, Err, length, drop, take, ◌≡◌, ◌+◌, ◌∙◌, ap, sym, arith, subst}
 use Rattle.tree_spec.specs.Costs.{form_of}
-use Rattle.tree_spec.specs.Operations.{Read}
 use Rattle.tree_spec.specs.Trees.{File}
 use Rattle.ice_file.specs.Own.{own, file_bytes}
-use Rattle.ice_reads.specs.Reads.{Reads, inode_on}
+use Rattle.ice_reads.specs.Reads.{Reads}
 use Rattle.ice_reads.specs.Tables.{own_in}
 use Rattle.ice_reads.proofs.Focus.{Reads-part}
 use Rattle.ice_tree.proofs.LookLaws.{read-paths, read-walk, read-beyond, read-value, read-fails, file-bytes, fault_model}

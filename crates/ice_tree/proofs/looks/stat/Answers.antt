@@ -1,4 +1,4 @@
-use Rattle.std.proofs.Common.{◌∙◌, ap, sym, refl, drop, length}
+use Rattle.std.proofs.Common.{ap, refl, drop, length}
 use Rattle.tree_spec.specs.Costs.{form_of}
 use Rattle.tree_spec.specs.Trees.{walk, NotFound, NotDir, Found}
 use Rattle.tree_spec.specs.Trees as tree

@@ -1,7 +1,6 @@
-use Rattle.std.proofs.Common.{Bool, ℕ, None, ◌≡◌, ◌+◌, ◌∙◌, Option, length, drop, sym, ap, subst, refl, arith, [], ◌∷◌}
-use Rattle.tree_spec.specs.Why.{Why}
+use Rattle.std.proofs.Common.{◌∙◌, length, drop, sym, ap, subst, [], ◌∷◌}
 use Rattle.tree_spec.specs.Costs.{form_of}
-use Rattle.tree_spec.specs.Answers.{next, is_root}
+use Rattle.tree_spec.specs.Answers.{next}
 use Rattle.tree_spec.specs.Replies.{refused_of}
 use Rattle.ice_reads.specs.Tables.{own_in}
 use Rattle.ice_tree.specs.Changes.{new_operation, new_refusal}

@@ -1,8 +1,8 @@
-use Rattle.std.proofs.Common.{ℕ, ◌+◌, drop, length, ap, ◌∙◌}
+use Rattle.std.proofs.Common.{drop, length}
 use Rattle.tree_spec.specs.Costs.{form_of}
 use Rattle.tree_spec.specs.Answers.{answer}
 use Rattle.tree_spec.specs.Replies.{refused_of}
-use Rattle.ice_tree.specs.Changes.{new_operation, Takes}
+use Rattle.ice_tree.specs.Changes.{new_operation}
 use Rattle.ice_tree.proofs.LookLaws.{fault_model}
 use Rattle.ice_tree.proofs.MakeLaws.{new-changes}
 use Rattle.ice_tree.proofs.ReplyLaws.{fault-set, refused-model, accepted-model, accepted-recovers}

@@ -1,5 +1,5 @@
-use Rattle.std.proofs.Common.{sym, ◌∙◌, inl, inr, refl}
-use Rattle.ice_tree.proofs.SpotLaws.{no_parent, blocked_parent, file_parent, root_taken, spot_found, spot_taken}
+use Rattle.std.proofs.Common.{sym, ◌∙◌}
+use Rattle.ice_tree.proofs.SpotLaws.{no_parent, blocked_parent, file_parent, spot_found, spot_taken}
 use Rattle.ice_tree.proofs.makes.new_spot.Goals as goal
 
 pub returns-in-Missing-clause-spot : goal.returns-in-Missing-clause-spot

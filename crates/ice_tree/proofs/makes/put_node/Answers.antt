@@ -1,4 +1,4 @@
-use Rattle.std.proofs.Common.{ℕ, List, ◌+◌, ◌^◌, ◌≤◌, ◌≡◌, ap, sym, subst, Err, length, arith}
+use Rattle.std.proofs.Common.{ap, subst, Err, arith}
 use Rattle.std.proofs.lemmas.Result.{err_from_is_err_and}
 use Rattle.ice_base.proofs.LotLaws.{sited-few}
 use Rattle.ice_map.specs.declared.codec.Inode.{Inode}

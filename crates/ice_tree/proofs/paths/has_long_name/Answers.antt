@@ -1,4 +1,4 @@
-use Rattle.std.proofs.Common.{◌≡◌, ℕ, Bool, [], List, true, false, length, get_or, nat_lt, sym, ap, ◌∙◌, arith}
+use Rattle.std.proofs.Common.{◌≡◌, ℕ, Bool, [], List, length, get_or, nat_lt, sym, ap, ◌∙◌, arith}
 use Rattle.tree_spec.specs.Costs.{form_of}
 use Rattle.ice_tree.proofs.Names.{any-here, any-later, is_long, is_short}
 use Rattle.ice_tree.proofs.paths.has_long_name.Goals as goal

@@ -1,6 +1,5 @@
 use Rattle.std.proofs.Common.{ap, sym, arith, subst, ⊎_elim}
 use Rattle.tree_spec.specs.Costs.{form_of}
-use Rattle.ice_map.specs.Inodes.{inode_of}
 use Rattle.ice_tree.specs.Places.{IsNode}
 use Rattle.ice_tree.proofs.PlaceLaws.{Reads-file, Reads-node}
 use Rattle.ice_tree.proofs.place.look.Goals as goal

@@ -1,13 +1,10 @@
 -- The stages of a quota, one after another.
-use Rattle.std.proofs.Common.{sym, subst, ◌∙◌, None, ◌≡◌, Option, length}
+use Rattle.std.proofs.Common.{sym, subst, Option, length}
 use Rattle.tree_spec.specs.Costs.{form_of}
 use Rattle.tree_spec.specs.Replies.{refused_of}
 use Rattle.tree_spec.specs.Why.{Why}
-use Rattle.ice_reads.specs.Tables.{Map}
-use Rattle.ice_reads.specs.Recovers.{MapRecovers}
-use Rattle.ice_tree.specs.Changes.{nodes_refusal, blocks_refusal, done_refusal}
+use Rattle.ice_tree.specs.Changes.{nodes_refusal, blocks_refusal}
 use Rattle.ice_tree.specs.Outcomes.{RefusedAs}
-use Rattle.ice_tree.specs.Stages.{or_else}
 use Rattle.ice_tree.proofs.StageLaws.{Finds, refused-now, refused-later, finds-later, quota-stages, recovers-same}
 use Rattle.ice_tree.proofs.quota.check_quota.Goals as goal
 

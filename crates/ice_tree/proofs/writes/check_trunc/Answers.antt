@@ -1,14 +1,12 @@
-use Rattle.std.proofs.Common.{max, ◌+◌, ◌≤◌, ◌<◌, ◌≡◌, ◌∙◌, drop, length, sym, ap, subst, refl, arith}
+use Rattle.std.proofs.Common.{◌∙◌, drop, length, sym, subst}
 use Rattle.tree_spec.specs.Costs.{form_of}
 use Rattle.tree_spec.specs.Answers.{next}
 use Rattle.tree_spec.specs.Operations.{Trunc}
 use Rattle.tree_spec.specs.Replies.{refused_of}
-use Rattle.tree_spec.specs.Why.{FileBig}
-use Rattle.tree_spec.specs.Replies.{Because}
 use Rattle.ice_tree.specs.Changes.{reach_refusal}
 use Rattle.ice_tree.specs.Outcomes.{RefusedAs}
-use Rattle.ice_tree.specs.Stages.{or_else, quota_refusal}
-use Rattle.ice_tree.proofs.FileLaws.{big, is-big, not-big, trunc-stages, reach-none, trunc-needs}
+use Rattle.ice_tree.specs.Stages.{quota_refusal}
+use Rattle.ice_tree.proofs.FileLaws.{trunc-stages, reach-none, trunc-needs}
 use Rattle.ice_tree.proofs.StageLaws.{refused-now, refused-later, none-both, recovers-same}
 use Rattle.ice_tree.proofs.writes.check_trunc.Goals as goal
 

@@ -1,10 +1,8 @@
-use Rattle.std.proofs.Common.{max, ◌+◌, ◌≤◌, ◌<◌, ◌≡◌, ◌∙◌, drop, length, sym, ap, subst, refl, arith}
+use Rattle.std.proofs.Common.{◌+◌, ◌∙◌, drop, length, sym, ap, subst, refl, arith}
 use Rattle.tree_spec.specs.Costs.{form_of}
 use Rattle.tree_spec.specs.Answers.{next}
 use Rattle.tree_spec.specs.Operations.{Write}
 use Rattle.tree_spec.specs.Replies.{refused_of}
-use Rattle.tree_spec.specs.Why.{FileBig}
-use Rattle.tree_spec.specs.Replies.{Because}
 use Rattle.ice_tree.specs.Changes.{reach_refusal}
 use Rattle.ice_tree.specs.Outcomes.{RefusedAs}
 use Rattle.ice_tree.specs.Stages.{or_else, quota_refusal}

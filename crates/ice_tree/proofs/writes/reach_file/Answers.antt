@@ -1,4 +1,4 @@
-use Rattle.std.proofs.Common.{drop, ◌<◌, ◌≤◌, length, arith, ap}
+use Rattle.std.proofs.Common.{drop, arith}
 use Rattle.tree_spec.specs.Costs.{form_of}
 use Rattle.tree_spec.specs.Replies.{refused_of}
 use Rattle.ice_tree.proofs.FileLaws.{reach-walk, reach-beyond}

@@ -1,4 +1,4 @@
-use Rattle.std.proofs.Common.{◌+◌, drop, length, refl}
+use Rattle.std.proofs.Common.{drop, length, refl}
 use Rattle.tree_spec.specs.Costs.{form_of}
 use Rattle.tree_spec.specs.Answers.{answer}
 use Rattle.tree_spec.specs.Operations.{Write}
