@@ -1,4 +1,4 @@
-use Rattle.std.proofs.Common.{Ok, ℕ, ◌≡◌, [], ◌-◌, List, take, drop, ap, sym, ◌∙◌, arith, subst, rules}
+use Rattle.std.proofs.Common.{ℕ, ◌≡◌, [], ◌-◌, List, take, drop, ap, sym, ◌∙◌, arith, subst, rules}
 use Rattle.std.proofs.lemmas.Result.{err_from_is_err_and}
 use Rattle.ice_base.specs.declared.fault.OpFault.TheVariants.{Disk as FaultDisk}
 use Rattle.tree_spec.specs.Trees.{Tree, Found, child}
