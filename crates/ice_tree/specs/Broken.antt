@@ -1,4 +1,4 @@
--- The rules that blocks of a lot break.
+-- The rules that a lot breaks.
 use Rattle.std.specs.Prelude.{◌≡◌, ◌≤◌, ◌<◌, ℕ, ◌*◌, false, List, length, Contains, ⊤}
 use Rattle.ice_base.specs.Lots.{LotView}
 use Rattle.ice_base.specs.declared.fault.OpFault.{OpFault}
@@ -18,7 +18,7 @@ pub record BadInode (lot : LotView) (m : ℕ → List ℕ) : Type 0 where
   pub here : number < 64 * length lot.groups
   pub bad : ¬ IsNode lot (inode_of m number)
 
--- some file or directory of the lot has a block in its map that is no data place, or that no data place names
+-- some file or directory of the lot has in its map a block that is no data place, or one that it reaches by an indirect block that is none
 pub record BadPointer (entry : ℕ) (lot : LotView) (m : ℕ → List ℕ) : Type 0 where
   pub number : ℕ
   pub block : ℕ
@@ -45,7 +45,7 @@ pub record BadName (entry : ℕ) (lot : LotView) (m : ℕ → List ℕ) : Type 0
   pub has : Contains (rows_of entry m number) row
   pub bad : is_name row.0 ≡ false
 
--- some block of the lot, whose directories have entries of so many bytes, breaks this rule: one of those that a call names which changes nothing
+-- a lot whose directories have entries of so many bytes breaks this rule, which is one of the four that a call names which changes nothing
 abbrev pub IsBroken : ℕ → LotView → (ℕ → List ℕ) → Rule → Type 0
 IsBroken entry lot m rule.Kind = BadInode lot m
 IsBroken entry lot m rule.Pointer = BadPointer entry lot m
@@ -53,7 +53,7 @@ IsBroken entry lot m rule.InodeTwice = BadEntry entry lot m
 IsBroken entry lot m rule.Name = BadName entry lot m
 IsBroken entry lot m _ = ⊥
 
--- a fault is the disk's, or it names a rule that some block breaks
+-- a fault is the disk's, or it names a rule that the lot breaks
 abbrev pub IsBrokenBy : ℕ → LotView → (ℕ → List ℕ) → OpFault → Type 0
 IsBrokenBy entry lot m Disk = ⊤
 IsBrokenBy entry lot m (Damaged r) = IsBroken entry lot m r

@@ -1,14 +1,12 @@
-use Rattle.std.proofs.Common.{ℕ, ◌+◌, ◌∷◌, [], ◌++◌, ◌≡◌, List, Some, Err, refl, ◌∙◌, ap, sym, subst}
+use Rattle.std.proofs.Common.{ℕ, ◌+◌, ◌∷◌, [], ◌++◌, ◌≡◌, List, Err, refl, ◌∙◌, ap, sym, subst}
 use Rattle.std.specs.Prelude.{slice_get}
 use Rattle.std.proofs.lemmas.Result.{err_from_is_err_and}
 use Rattle.tree_spec.specs.Answers.{is_dir}
 use Rattle.tree_spec.specs.Costs.{form_of}
-use Rattle.tree_spec.specs.declared.reply.Entry.{Entry}
 use Rattle.ice_dir.specs.Rows.{Row}
 use Rattle.ice_reads.specs.Reads.{Reads}
 use Rattle.ice_reads.specs.Tables.{own_in}
 use Rattle.ice_reads.proofs.Focus.{same_Some}
-use Rattle.ice_tree.specs.Listings.{listed_as}
 use Rattle.ice_tree.specs.Broken.{BadEntry, IsBrokenBy}
 use Rattle.ice_tree.proofs.BrokenLaws.{entry-broken, row-broken}
 use Rattle.ice_tree.proofs.PlaceLaws.{rows-own}

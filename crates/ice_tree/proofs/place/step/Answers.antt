@@ -1,12 +1,11 @@
-use Rattle.std.proofs.Common.{IfOk, IfErr, Err, ℕ, List, ◌+◌, ◌≡◌, ap, sym, ◌∙◌, arith, subst}
-use Rattle.std.proofs.lemmas.Result.{err_from_is_err_and, IfOk-equal}
+use Rattle.std.proofs.Common.{IfOk, IfErr, Err, ℕ, List, ◌+◌, ◌≡◌, ap, sym, ◌∙◌, subst}
+use Rattle.std.proofs.lemmas.Result.{err_from_is_err_and}
 use Rattle.tree_spec.specs.Costs.{form_of}
-use Rattle.ice_base.specs.declared.fault.OpFault.TheVariants.{Disk as FaultDisk}
 use Rattle.ice_reads.specs.Tables.{own_in}
 use Rattle.ice_reads.specs.Reads.{Reads}
 use Rattle.ice_tree.specs.Broken.{BadEntry, IsBrokenBy}
-use Rattle.ice_tree.specs.Places.{PlaceFits, PlaceIs}
-use Rattle.ice_tree.proofs.BrokenLaws.{find-broken, named-broken}
+use Rattle.ice_tree.specs.Places.{PlaceFits}
+use Rattle.ice_tree.proofs.BrokenLaws.{named-broken}
 use Rattle.ice_tree.proofs.PlaceLaws.{step-none, step-some, step-fails}
 use Rattle.ice_tree.proofs.place.step.Goals as goal
 
@@ -39,16 +38,6 @@ returns-in-Some-clause-sound g c = λ i h t s r is.
     _ _ g.F.Form.ENTRY _ c.args.name.now (sym c.in-Dir.is ∙ is) g.F.Form.is_one.1 (sym (c.in_ok-find-in-Dir.ensures.found s) ∙ c.in-Some.is) in
     let looked = c.find.ensures.looked in
     c.enter.ensures.sound (h + 1) x.there (looked.shows s) (subst (λ m. Reads f c.args.lot.now (own_in f m) c.in-Some.next (h + 1) x.there) (sym looked.map) x.reads)
-
-pub returns-in_err-find-in-Dir-clause-broken : goal.returns-in_err-find-in-Dir-clause-broken
-returns-in_err-find-in-Dir-clause-broken g c = λ s is.
-    let m : ℕ → List ℕ = g.V.View.map c.args.view.now c.args.disk.now c.args.lot.now in
-    let p = err_from_is_err_and c.from_residual.result c.from_residual.ensures.1 in
-    let e = c.in_err-find-in-Dir.ensures in
-    let fits = subst (PlaceFits c.args.lot.now) c.in-Dir.is c.requires.fits in
-    let at = subst (PlaceIs m) c.in-Dir.is is in
-    rw (p.1, p.2)
-    (find-broken g.F.Form.ENTRY g.F.Form.is_one.1 c.args.lot.now m c.in-Dir.number fits.0 (record { kind = at.0; few = omega (arith, at.1, fits.1) }) _ e.faults (λ k. e.kind (ap (λ y. Err y) k) s) (λ k. e.pointer (ap (λ y. Err y) k) s))
 
 pub returns-in-Some-clause-broken : goal.returns-in-Some-clause-broken
 returns-in-Some-clause-broken g c = λ s is.
