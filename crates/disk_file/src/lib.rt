@@ -17,8 +17,8 @@ use crate::whole::{BLOCK_BYTES, read_whole, write_whole};
 use ice_base::{Block, Disk, DiskFault, Host, SinkFault, SourceFault};
 use std::fs::{File, OpenOptions};
 use std::io::{self, ErrorKind, Stdin, Stdout};
-use std::os::fd::{AsRawFd, RawFd};
 use std::marker::Model;
+use std::os::fd::{AsRawFd, RawFd};
 
 /// Why a file can't serve as a host.
 #[derive(Clone, Copy, Debug, PartialEq, Eq)]

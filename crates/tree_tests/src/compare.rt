@@ -84,16 +84,26 @@ fn some_command(random: &mut Random, letters: u32, path: Path, end: u32) -> Comm
         4 | 5 | 6 => Command::Make { path },
         7 | 8 | 9 | 10 => Command::Write {
             path,
-            at: if random.next(4) > 0 { end } else { some_size(random, 250_880) },
+            at: if random.next(4) > 0 {
+                end
+            } else {
+                some_size(random, 250_880)
+            },
             bytes: &BYTES[..some_size(random, 16384) as usize],
         },
         11 => Command::Trunc {
             path,
             len: some_size(random, 250_880).min(end),
         },
-        12 => Command::Trunc { path, len: some_size(random, 250_880) },
+        12 => Command::Trunc {
+            path,
+            len: some_size(random, 250_880),
+        },
         13 => Command::Remove { path },
-        14 | 15 | 16 => Command::Rename { path, to: some_path(random, letters) },
+        14 | 15 | 16 => Command::Rename {
+            path,
+            to: some_path(random, letters),
+        },
         17 | 18 => Command::List { path },
         19 | 20 => Command::Stat { path },
         _ => Command::Read {
@@ -115,10 +125,8 @@ fn agree(rt: &impl Abort, i: u32, got: &Reply, room: &Room, plain: &PlainReply) 
             for entry in room.entries() {
                 assert!(rt; last < entry.name.bytes(), "of command {i}");
                 last = entry.name.bytes();
-                let has = plain
-                    .entries
-                    .iter()
-                    .any(|p| p.name.as_slice() == entry.name.bytes() && p.dir == entry.dir);
+                let has = plain.entries.iter().any(|p| p.name.as_slice() == entry.name.bytes()
+                    && p.dir == entry.dir);
                 assert!(rt; has, "of command {i}");
             }
         }
@@ -138,7 +146,9 @@ fn number(reply: &Reply) -> usize {
 fn fill_up(i: u32) -> Command<'static> {
     let (tens, ones) = (b'A' + (i / 8 % 8) as u8, b'a' + (i % 8) as u8);
     match i {
-        0 => Command::Make { path: path(b"/a/z") },
+        0 => Command::Make {
+            path: path(b"/a/z"),
+        },
         1..=14 => Command::Write {
             path: path(b"/a/z"),
             at: 16384 * (i - 1),
@@ -172,8 +182,20 @@ fn new_pair(rt: &impl Abort, alloc: Global) -> Result<Pair, Fail> {
 }
 
 /// Asks both, and answers the pair after it with the reply.
-fn ask(rt: &impl Abort, alloc: Global, pair: Pair, i: u32, command: &Command) -> Result<(Pair, Reply), Fail> {
-    let Pair { mut host, mut room, tree, mut done, mut end } = pair;
+fn ask(
+    rt: &impl Abort,
+    alloc: Global,
+    pair: Pair,
+    i: u32,
+    command: &Command,
+) -> Result<(Pair, Reply), Fail> {
+    let Pair {
+        mut host,
+        mut room,
+        tree,
+        mut done,
+        mut end,
+    } = pair;
     assert!(rt; host.blocks() == BLOCKS);
     let mut keep = ThroughKeep::new();
     let got = reply(rt, &mut keep, &mut host, &one_group(), command, &mut room);
@@ -185,7 +207,16 @@ fn ask(rt: &impl Abort, alloc: Global, pair: Pair, i: u32, command: &Command) ->
     if let Ok(Value::File(size)) = got {
         end = size;
     }
-    Ok((Pair { host, room, tree, done, end }, got))
+    Ok((
+        Pair {
+            host,
+            room,
+            tree,
+            done,
+            end,
+        },
+        got,
+    ))
 }
 
 #[test]

@@ -182,7 +182,13 @@ fn a_group_has_64_nodes(rt: HostRuntime) -> Result<(), Fail> {
     let mut room = Room::new(rt.alloc())?;
     let lot = one_group();
     for i in 0..63u8 {
-        replies(&rt, &mut host, &lot, &mut room, &[(mkdirs(&numbered(i)), PLAIN)]);
+        replies(
+            &rt,
+            &mut host,
+            &lot,
+            &mut room,
+            &[(mkdirs(&numbered(i)), PLAIN)],
+        );
     }
     let table = [
         (mkdirs(b"/a/x"), Err(Refusal::NoNodes)),
@@ -201,7 +207,13 @@ fn a_group_has_247_blocks(rt: HostRuntime) -> Result<(), Fail> {
     let lot = one_group();
     replies(&rt, &mut host, &lot, &mut room, &[(makes(b"/a/f"), PLAIN)]);
     for i in 0..15u32 {
-        replies(&rt, &mut host, &lot, &mut room, &[(writes(b"/a/f", 16384 * i, &PIECE), PLAIN)]);
+        replies(
+            &rt,
+            &mut host,
+            &lot,
+            &mut room,
+            &[(writes(b"/a/f", 16384 * i, &PIECE), PLAIN)],
+        );
     }
     let table = [
         (writes(b"/a/f", 245_760, &PIECE[..5120]), PLAIN),
@@ -227,7 +239,13 @@ fn a_file_has_268_blocks(rt: HostRuntime) -> Result<(), Fail> {
     let lot = two_groups();
     replies(&rt, &mut host, &lot, &mut room, &[(makes(b"/a/f"), PLAIN)]);
     for i in 0..16u32 {
-        replies(&rt, &mut host, &lot, &mut room, &[(writes(b"/a/f", 16384 * i, &PIECE), PLAIN)]);
+        replies(
+            &rt,
+            &mut host,
+            &lot,
+            &mut room,
+            &[(writes(b"/a/f", 16384 * i, &PIECE), PLAIN)],
+        );
     }
     let table = [
         (writes(b"/a/f", 262_144, &PIECE[..12288]), PLAIN),
@@ -251,7 +269,13 @@ fn a_thirteenth_block_costs_two(rt: HostRuntime) -> Result<(), Fail> {
     ];
     replies(&rt, &mut host, &lot, &mut room, &table);
     assert_eq!(rt; counts(&rt, &host), (13, 2, 2));
-    replies(&rt, &mut host, &lot, &mut room, &[(writes(b"/a/f", 12288, b"x"), PLAIN)]);
+    replies(
+        &rt,
+        &mut host,
+        &lot,
+        &mut room,
+        &[(writes(b"/a/f", 12288, b"x"), PLAIN)],
+    );
     assert_eq!(rt; counts(&rt, &host), (15, 2, 3));
     Ok(())
 }
@@ -352,7 +376,13 @@ fn the_last_command_is_counted_and_none_after_it(rt: HostRuntime) -> Result<(), 
 fn a_directory_writes_these_bytes(rt: HostRuntime) -> Result<(), Fail> {
     let mut host = fresh(&rt, rt.alloc())?;
     let mut room = Room::new(rt.alloc())?;
-    replies(&rt, &mut host, &one_group(), &mut room, &[(mkdirs(b"/home/a"), PLAIN)]);
+    replies(
+        &rt,
+        &mut host,
+        &one_group(),
+        &mut room,
+        &[(mkdirs(b"/home/a"), PLAIN)],
+    );
     assert!(rt; host.blocks() == BLOCKS);
     let sub = [1, 0, 0, 0, 0, 0, 0, 0, 1, 0, 0, 0, 2, 0, 0, 0];
     assert_eq!(rt; host.block(32)[16..32], sub[..]);
