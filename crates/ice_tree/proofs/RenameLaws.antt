@@ -1,18 +1,18 @@
 -- The stages of a rename, and names that begin a path.
-use Rattle.std.proofs.Common.{◌≡◌, ◌≢◌, ◌≤◌, ◌<◌, ◌+◌, ◌-◌, ◌*◌, ℕ, Bool, true, false, List, [], ◌∷◌, ◌++◌, length, drop, take, get_or, Option, Some, None, Result, Ok, Err, MatchResult, sym, refl, subst, ap, ◌∙◌, arith, nat_lt, nat_le, T, cond}
+use Rattle.std.proofs.Common.{◌≡◌, ◌≢◌, ◌≤◌, ◌<◌, ◌+◌, ◌-◌, ◌*◌, ℕ, Bool, true, false, List, [], ◌∷◌, ◌++◌, length, drop, take, get_or, Option, Some, None, Result, Ok, Err, MatchResult, sym, refl, subst, ap, ◌∙◌, arith, nat_lt}
 use Rattle.std.specs.Prelude.{◌&&◌, ◌||◌, not, if◌then◌else◌}
 use Rattle.std.specs.List.{list_any}
 use Rattle.std.proofs.lemmas.Bool.Decides.{nat_tests}
 use Rattle.std.proofs.lemmas.List.{get_or-drop, length-drop}
-use Rattle.ice_path.proofs.Prefixes.{longer, step, differs, end}
+use Rattle.ice_path.proofs.Prefixes.{longer, step, differs}
 use Rattle.ice_base.specs.Lots.{LotView}
 use Rattle.tree_spec.specs.Why.{Why}
 use Rattle.tree_spec.specs.Why as why
 use Rattle.tree_spec.specs.Trees.{Tree, File, Dir, Walk, Found, NotFound, NotDir, walk, parent, parent_walk, last_name, rows, height, at}
 use Rattle.tree_spec.specs.Costs.{Form, form_one, nodes}
 use Rattle.tree_spec.specs.Operations.{Rename}
-use Rattle.tree_spec.specs.Routes.{is_prefix, is_same_name, is_same_path}
-use Rattle.tree_spec.specs.Answers.{refusal, answer, answer_by, next, deepest, is_found, is_not_found, is_not_dir, is_root, is_taken, tree_found, moves_too_deep, moves_into_itself}
+use Rattle.tree_spec.specs.Routes.{is_prefix, is_same_name}
+use Rattle.tree_spec.specs.Answers.{refusal, answer, answer_by, next, deepest, is_found, is_not_found, is_not_dir, is_root, is_taken, tree_found, moves_into_itself}
 use Rattle.tree_spec.proofs.Sums.{total-at}
 use Rattle.ice_reads.specs.Tables.{Map, Table, own_in}
 use Rattle.ice_reads.specs.Reads.{Reads, inode_on}
@@ -83,7 +83,7 @@ chain None None None None None e q = refl
 -- the paths, what is moved and where to, and the quota
 pub rename-stages : (t : Tree) (k n : ℕ) (f : Form) (p q : Names)
     → refusal t k n f (Rename p q) ≡ or_else (paths_refusal f (p ∷ q ∷ [])) (or_else (move_refusal p q t) (quota_refusal n f k (next (Rename p q) t)))
-rename-stages t k n f p q = refusal_rename t k n f p q ∙ ap (λ x. or_else (paths_refusal f (p ∷ q ∷ [])) x) 
+rename-stages t k n f p q = refusal_rename t k n f p q ∙ ap (λ x. or_else (paths_refusal f (p ∷ q ∷ [])) x)
     (chain (height_refusal p q t) (if is_not_found (walk p t) || is_not_found (parent_walk q t) then Some why.NotFound else None) (if is_not_dir (walk p t) || is_not_dir (parent_walk q t) then Some why.NotDir else None)
     (if is_root p || is_root q then Some why.IsRoot else None) (if is_taken (Rename p q) t then Some why.Exists else None) (if moves_into_itself (Rename p q) then Some why.IntoItself else None) (quota_refusal n f k (next (Rename p q) t)))
 

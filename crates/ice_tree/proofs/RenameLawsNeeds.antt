@@ -1,39 +1,37 @@
 -- What a rename needs of a quota.
-use Rattle.std.proofs.Common.{◌≡◌, ◌≢◌, ◌≤◌, ◌<◌, ◌+◌, ◌-◌, ◌*◌, ℕ, Bool, true, false, List, [], ◌∷◌, ◌++◌, length, Option, Some, None, sym, refl, subst, ap, ◌∙◌, arith, nat_lt, nat_eq, T, cond, inl, inr}
-use Rattle.std.specs.Prelude.{◌&&◌, ◌||◌, ◌⊎◌, if◌then◌else◌}
+use Rattle.std.proofs.Common.{◌≡◌, ◌≢◌, ◌<◌, ◌+◌, ◌-◌, ◌*◌, ℕ, Bool, true, false, List, [], ◌∷◌, ◌++◌, length, Option, Some, None, sym, refl, subst, ap, ◌∙◌, arith, nat_lt, nat_eq, T, cond, inl, inr}
+use Rattle.std.specs.Prelude.{◌&&◌, ◌⊎◌, if◌then◌else◌}
 use Rattle.std.specs.FinMap.{find}
 use Rattle.std.proofs.lemmas.Bool.Decides.{nat_tests}
 use Rattle.std.proofs.lemmas.List.{append-nil}
 use Rattle.ice_base.specs.Lots.{LotView}
 use Rattle.ice_base.specs.Used.{used_inode}
 use Rattle.ice_map.specs.Maps.{times}
-use Rattle.ice_file.specs.Own.{mark}
 use Rattle.tree_spec.specs.Why.{Why}
 use Rattle.tree_spec.specs.Why as why
 use Rattle.tree_spec.specs.Trees.{Tree, File, Dir, Entries, Walk, Found, NotFound, NotDir, walk, parent, last_name, rows, by_bytes, child, and_on, found_or_not, at, without, without_entry, total, is_ordered}
-use Rattle.tree_spec.specs.Costs.{Form, nodes, blocks, map_cost, file_blocks, dir_blocks, node_quota, block_quota}
+use Rattle.tree_spec.specs.Costs.{Form, nodes, blocks, map_cost, file_blocks, dir_blocks}
 use Rattle.tree_spec.specs.Operations.{Rename}
-use Rattle.tree_spec.specs.Routes.{is_prefix, is_same_name, is_same_path}
+use Rattle.tree_spec.specs.Routes.{is_prefix, is_same_name}
 use Rattle.tree_spec.specs.Answers.{refusal, next, moved, most_done, is_root}
 use Rattle.tree_spec.proofs.Trees.{same_name, is_same_name-refl, child-without_entry, find-over, on_some, parent-last, walk-at}
 use Rattle.tree_spec.proofs.Sums.{length-over}
-use Rattle.tree_spec.proofs.Accepted.{HasPlace, HasEntry, entry_walk}
+use Rattle.tree_spec.proofs.Accepted.{entry_walk}
 use Rattle.tree_spec.proofs.Changes.{Moves, accepted-rename, next-rename, placed, removed, total-placed, total-removed, length-removed}
-use Rattle.ice_reads.specs.Tables.{Map, Table, own_in}
-use Rattle.ice_reads.specs.Reads.{Reads, used_inodes, inode_on}
+use Rattle.ice_reads.specs.Tables.{Map, own_in}
+use Rattle.ice_reads.specs.Reads.{Reads, inode_on}
 use Rattle.ice_reads.specs.Recovers.{MapRecovers}
 use Rattle.ice_reads.proofs.Focus.{Reads-part}
 use Rattle.ice_reads.proofs.Frames.{times-here}
 use Rattle.ice_reads.proofs.Sorted.{Reads-ordered}
 use Rattle.ice_reads.proofs.Walks.{two_walks}
 use Rattle.ice_steps.proofs.Counts.{mark-small}
-use Rattle.ice_tree.specs.declared.ends.Spot.{Spot}
 use Rattle.ice_tree.specs.declared.quota.Need.{Need}
 use Rattle.ice_tree.specs.declared.renames.Move.{Move}
-use Rattle.ice_tree.specs.Changes.{IsSpot, Needs, nodes_refusal, blocks_refusal, done_refusal}
+use Rattle.ice_tree.specs.Changes.{Needs, done_refusal}
 use Rattle.ice_tree.specs.Renames.{move_refusal, IsMove}
-use Rattle.ice_tree.specs.Stages.{or_else, paths_refusal, quota_refusal}
-use Rattle.ice_tree.proofs.StageLaws.{none-both, or_else-later, quota-stages}
+use Rattle.ice_tree.specs.Stages.{paths_refusal}
+use Rattle.ice_tree.proofs.StageLaws.{none-both, quota-stages}
 use Rattle.ice_tree.proofs.RenameLaws.{rename-stages}
 
 abbrev Names : Type 0
@@ -142,10 +140,12 @@ few-blocks x y = grind (arith, nat_tests)
 great-lot : (t : Tree) (f : Form) (p q : Names) → paths_refusal f (p ∷ q ∷ []) ≡ None → move_refusal p q t ≡ None → (n : ℕ) × (refusal t 0 n f (Rename p q) ≡ None)
 great-lot t f p q names ends =
     let u = next (Rename p q) t in
-    let n = nodes u + blocks f u in
-    (n, rename-stages t 0 n f p q ∙ none-both _ _ names (none-both _ _ ends
-      (quota-stages n f 0 u ∙ none-both _ _ (ap (λ b. if b then Some why.NoNodes else None) (few-nodes (nodes u) (blocks f u)))
-      (none-both _ _ (ap (λ b. if b then Some why.NoSpace else None) (few-blocks (nodes u) (blocks f u))) not-spent))))
+    let n = nodes u + blocks f u in (
+      n,
+      rename-stages t 0 n f p q ∙ none-both _ _ names (none-both _ _ ends
+          (quota-stages n f 0 u ∙ none-both _ _ (ap (λ b. if b then Some why.NoNodes else None) (few-nodes (nodes u) (blocks f u)))
+          (none-both _ _ (ap (λ b. if b then Some why.NoSpace else None) (few-blocks (nodes u) (blocks f u))) not-spent))),
+    )
   where
     not-spent : done_refusal 0 ≡ None
     not-spent = ap (λ b. if b then Some why.Spent else None) (zero-differs most_done (omega arith))

@@ -1,5 +1,5 @@
 -- A row that is taken from one directory and added to another.
-use Rattle.std.proofs.Common.{◌≡◌, ◌≢◌, ◌≤◌, ◌<◌, ◌+◌, ◌-◌, ◌*◌, ◌^◌, ℕ, Bool, true, false, List, [], ◌∷◌, ◌++◌, length, Option, Some, None, sym, refl, subst, ap, ◌∙◌, arith, T, cond}
+use Rattle.std.proofs.Common.{◌≡◌, ◌≤◌, ◌<◌, ◌+◌, ◌-◌, ◌*◌, ◌^◌, ℕ, true, false, List, [], ◌∷◌, ◌++◌, length, Option, Some, None, sym, refl, subst, ap, ◌∙◌, arith, T}
 use Rattle.std.specs.Prelude.{is_some, unwrap_or}
 use Rattle.std.specs.FinMap.{find}
 use Rattle.ice_base.specs.Lots.{LotView}
@@ -14,14 +14,14 @@ use Rattle.ice_dir.specs.Changes.{DirSet, HasRoom, dir_blocks}
 use Rattle.ice_dir.specs.Faults.{IsTakeFault, IsAddFault}
 use Rattle.ice_dir.specs.Rows.{IsDirectory, rows_of, look_up, without}
 use Rattle.tree_spec.specs.Names.{is_name}
-use Rattle.tree_spec.specs.Trees.{Tree, File, Dir, rows, by_bytes, Found, walk, parent, last_name, at, with_entry, height}
+use Rattle.tree_spec.specs.Trees.{Tree, Dir, by_bytes, parent, last_name}
 use Rattle.tree_spec.specs.Costs.{Form, form_one, blocks, block_quota}
 use Rattle.tree_spec.specs.Operations.{Rename}
-use Rattle.tree_spec.specs.Answers.{next, refusal, deepest}
-use Rattle.tree_spec.proofs.Accepted.{HasPlace, HasEntry, entry_walk, length-parent}
+use Rattle.tree_spec.specs.Answers.{next}
+use Rattle.tree_spec.proofs.Accepted.{entry_walk, length-parent}
 use Rattle.tree_spec.proofs.Changes.{Moves, accepted-rename, next-rename, placed, removed}
 use Rattle.tree_spec.proofs.Refusals.{blocks-next}
-use Rattle.ice_reads.specs.Tables.{Map, own_in, IsNameOf, IsDirInode, inode_named}
+use Rattle.ice_reads.specs.Tables.{Map, IsNameOf, IsDirInode, inode_named}
 use Rattle.ice_reads.specs.Reads.{Reads, used_blocks, used_inodes, inode_on}
 use Rattle.ice_reads.specs.Recovers.{MapRecovers}
 use Rattle.ice_reads.proofs.LookUps.{look_up-find}

@@ -166,13 +166,7 @@ fn check_height<D: Disk, V: View<D>, F: Form>(
 
 /// The refusals by what stands at the two paths: `root` where either has no names, `begins` where the first begins the second,
 /// `same` where they are one.
-fn check_ends(
-    from: &Ends,
-    into: &Ends,
-    root: bool,
-    begins: bool,
-    same: bool,
-) -> Result<(), Refusal>
+fn check_ends(from: &Ends, into: &Ends, root: bool, begins: bool, same: bool) -> Result<(), Refusal>
     ensures ends { (f : Form) (o : Table) (p q : List (List ℕ)) (t : Tree) → IsEnds f o p t from.now → IsEnds f o q t into.now → root ≡ (is_root p || is_root q) → begins ≡ is_prefix p q → same ≡ is_same_path p q
         → MatchResult result (λ u. ends_refusal p q t ≡ None) (λ r. RefusedAs (refused_of r) (ends_refusal p q t)) }
     ensures rootless { OnOk result (root ≡ false) }

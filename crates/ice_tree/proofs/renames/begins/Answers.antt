@@ -1,4 +1,4 @@
-use Rattle.std.proofs.Common.{[], sym, ◌∙◌, arith, length, get_or}
+use Rattle.std.proofs.Common.{[], sym, ◌∙◌, arith}
 use Rattle.ice_tree.proofs.RenameLaws.{begins-longer, begins-step, begins-differs}
 use Rattle.ice_tree.proofs.renames.begins.Goals as goal
 
@@ -10,4 +10,3 @@ returns-then-not-same_name c = begins-differs c.args.path.now c.args.to.now c.ar
 
 pub loop-i-preserved : goal.loop-i-preserved
 loop-i-preserved c = begins-step c.args.path.now c.args.to.now c.args.depth c.loop-i.i (omega arith) (omega arith) (omega arith) (sym (c.same_name.ensures []) ∙ c.if-not-same_name.false) c.loop-i.invariant
-

@@ -1,7 +1,6 @@
-use Rattle.std.proofs.Common.{ℕ, ◌≡◌, ◌-◌, ◌+◌, ◌<◌, true, false, sym, ap, ◌∙◌, arith, length, nat_lt}
-use Rattle.std.proofs.lemmas.Bool.Decides.{nat_tests}
-use Rattle.tree_spec.specs.Costs.{form_of, nodes}
-use Rattle.tree_spec.specs.Trees.{walk, height, Found, Dir}
+use Rattle.std.proofs.Common.{◌+◌, sym, ap, ◌∙◌, arith, length}
+use Rattle.tree_spec.specs.Costs.{form_of}
+use Rattle.tree_spec.specs.Trees.{walk, Dir}
 use Rattle.ice_reads.specs.Tables.{own_in}
 use Rattle.ice_reads.specs.Reads.{inode_on}
 use Rattle.ice_reads.proofs.Focus.{Reads-part}

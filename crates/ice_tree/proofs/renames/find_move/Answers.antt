@@ -1,4 +1,4 @@
-use Rattle.std.proofs.Common.{ℕ, ◌≡◌, ◌+◌, ◌-◌, List, length, drop, sym, ap, ◌∙◌, arith, subst}
+use Rattle.std.proofs.Common.{◌≡◌, drop, sym, ◌∙◌, arith, subst}
 use Rattle.std.proofs.lemmas.List.{length-drop}
 use Rattle.tree_spec.specs.Costs.{form_of}
 use Rattle.tree_spec.specs.Replies.{refused_of}
@@ -64,8 +64,8 @@ returns-clause-found g c = λ mode k t s r.
     let from = c.in-Ok.ensures.found mode k t s r in
     let into = subst (λ (m : Map). IsEnds f (own_in f m) q t c.in-Ok-find_ends.ends) one.map (c.in-Ok-find_ends.ensures.found mode k t (one.shows s) (recovers-same f mode c.args.lot.now _ _ t k one.map r)) in
     let high = c.in_default.ensures.height mode k t p q (two.shows (one.shows s)) (recovers-same f mode c.args.lot.now _ _ t k (two.map ∙ one.map) r)
-          (subst (λ (m : Map). c.in-Ok.ends.end ≡ place_at f (own_in f m) p t) (sym (two.map ∙ one.map)) from.at_end)
-          (omega (arith, c.len.ensures)) (omega (arith, c.len-2.ensures)) in
+    (subst (λ (m : Map). c.in-Ok.ends.end ≡ place_at f (own_in f m) p t) (sym (two.map ∙ one.map)) from.at_end)
+    (omega (arith, c.len.ensures)) (omega (arith, c.len-2.ensures)) in
     let ends = c.in_default-check_ends.ensures.ends f (own_in f m) p q t from into
-          (c.has_root.ensures.root p q (omega (arith, c.len.ensures)) (omega (arith, c.len-2.ensures))) c.begins-inside.ensures c.is_one_path-same.ensures in
+    (c.has_root.ensures.root p q (omega (arith, c.len.ensures)) (omega (arith, c.len-2.ensures))) c.begins-inside.ensures c.is_one_path-same.ensures in
     found-move c.move_of.result _ (IsMove f (own_in f m) p q t) (none-both (height_refusal p q t) (ends_refusal p q t) high ends) (c.move_of.ensures.step f (own_in f m) p q t from into c.is_one_path-same.ensures ends)

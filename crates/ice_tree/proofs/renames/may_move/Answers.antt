@@ -1,4 +1,4 @@
-use Rattle.std.proofs.Common.{ℕ, ◌≡◌, sym, ◌∙◌, arith, subst, drop, length}
+use Rattle.std.proofs.Common.{sym, ◌∙◌, arith, subst, drop, length}
 use Rattle.ice_base.proofs.LotLaws.{sited-few}
 use Rattle.tree_spec.specs.Costs.{form_of}
 use Rattle.tree_spec.specs.Replies.{refused_of}
@@ -49,8 +49,9 @@ returns-in-Ok-check_quota-clause-found g c = λ mode k t s r.
     let m = g.K.View.map c.args.keep.now c.args.disk.now c.args.lot.now in
     let looked = c.find_move.ensures.looked in
     let x = c.in-Ok.ensures.found mode k t s r in
-    let needs = c.need_of-need.ensures.needs mode k c.args.lot.now m t p q r c.requires.names x.0 x.1 in
-    (move-stages t k n f p q c.requires.names
-      ∙ none-both (move_refusal p q t) (quota_refusal n f k (next (Rename p q) t)) x.0
-      (c.in-Ok-check_quota.ensures.quota mode k t (next (Rename p q) t) (looked.shows s) (recovers-same f mode c.args.lot.now _ _ t k looked.map r) needs),
-    x.1)
+    let needs = c.need_of-need.ensures.needs mode k c.args.lot.now m t p q r c.requires.names x.0 x.1 in (
+      move-stages t k n f p q c.requires.names
+          ∙ none-both (move_refusal p q t) (quota_refusal n f k (next (Rename p q) t)) x.0
+          (c.in-Ok-check_quota.ensures.quota mode k t (next (Rename p q) t) (looked.shows s) (recovers-same f mode c.args.lot.now _ _ t k looked.map r) needs),
+      x.1,
+    )

@@ -1,4 +1,4 @@
-use Rattle.std.proofs.Common.{ℕ, ◌≡◌, ◌≤◌, ◌<◌, ◌+◌, ◌^◌, Option, Err, length, sym, ap, ◌∙◌, arith, subst, refl, IsSome}
+use Rattle.std.proofs.Common.{ℕ, Option, Err, sym, ap, ◌∙◌, arith, subst, refl, IsSome}
 use Rattle.std.proofs.lemmas.Result.{err_from_is_err_and}
 use Rattle.ice_base.proofs.LotLaws.{sited-few}
 use Rattle.tree_spec.specs.Costs.{form_of}

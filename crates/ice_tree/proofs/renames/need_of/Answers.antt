@@ -1,4 +1,3 @@
-use Rattle.std.proofs.Common.{sym, refl, ◌∙◌}
 use Rattle.tree_spec.specs.Costs.{form_of}
 use Rattle.ice_tree.proofs.RenameLawsNeeds.{need-same, need-one, need-two}
 use Rattle.ice_tree.proofs.renames.need_of.Goals.{then-step-via-then-step, then-step-via-else-step+then-step-2}
@@ -13,5 +12,5 @@ returns-then-step g c = elim c.then-step.branch [
 pub returns : goal.returns
 returns g c = record {
   needs = λ mode k lot m t p q r names ends is.
-    need-two (form_of g.F.Form.VERSION) mode lot m t k p q c.args.step.now r names ends is c.if-step.false c.if-step-2.false _ _ _ c.saturating_sub.ensures c.two_costs.ensures c.two_costs-2.ensures;
+      need-two (form_of g.F.Form.VERSION) mode lot m t k p q c.args.step.now r names ends is c.if-step.false c.if-step-2.false _ _ _ c.saturating_sub.ensures c.two_costs.ensures c.two_costs-2.ensures;
 }

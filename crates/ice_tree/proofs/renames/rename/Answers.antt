@@ -1,18 +1,16 @@
-use Rattle.std.proofs.Common.{ℕ, ◌≡◌, ◌≤◌, ◌+◌, ◌-◌, List, [], ◌∷◌, length, drop, take, get_or, sym, ap, ◌∙◌, arith, subst}
+use Rattle.std.proofs.Common.{◌+◌, ◌-◌, [], ◌∷◌, length, drop, take, get_or, ap, ◌∙◌, arith, subst}
 use Rattle.tree_spec.specs.Costs.{form_of}
 use Rattle.tree_spec.specs.Operations.{Rename}
-use Rattle.tree_spec.specs.Answers.{answer, next, refusal}
+use Rattle.tree_spec.specs.Answers.{next, refusal}
 use Rattle.tree_spec.specs.Replies.{refused_of}
-use Rattle.tree_spec.specs.Trees.{Tree, last_name}
-use Rattle.ice_reads.specs.Tables.{Map, own_in}
+use Rattle.tree_spec.specs.Trees.{Tree}
+use Rattle.ice_reads.specs.Tables.{Map}
 use Rattle.ice_reads.specs.Recovers.{MapRecovers}
-use Rattle.ice_tree.specs.Outcomes.{RefusedAs}
-use Rattle.ice_tree.specs.Renames.{IsMove, Renames, move_refusal}
+use Rattle.ice_tree.specs.Renames.{move_refusal}
 use Rattle.ice_tree.specs.Stages.{or_else, paths_refusal, quota_refusal}
 use Rattle.ice_tree.proofs.EndLaws.{names-last}
 use Rattle.ice_tree.proofs.LookLaws.{as_model, as_accepted, fault_model, first_stage}
 use Rattle.ice_tree.proofs.Names.{name-of}
-use Rattle.ice_tree.proofs.StageLaws.{recovers-same}
 use Rattle.ice_tree.proofs.RenameLaws.{rename-stages, refusal-set, names-short, renames-are, answer-next}
 use Rattle.ice_tree.proofs.renames.rename.Goals as goal
 
@@ -34,7 +32,7 @@ put_moved-requires-clause-short g c =
     let all = c.len-in-Ok.ensures in
     let below = c.in-Ok.ensures.below.1 in
     let short = names-short f p q (take (last - c.args.depth) q) c.name-new.result c.in_default.ensures.refusal
-          (names-last c.args.to.now c.args.depth last c.name-new.result (omega arith) (omega arith) (c.name-new.ensures [])) in
+    (names-last c.args.to.now c.args.depth last c.name-new.result (omega arith) (omega arith) (c.name-new.ensures [])) in
     let limit = name-of g.F.Form.VERSION g.F.Form.NAME g.F.Form.is_one.0 g.F.Form.is_one.2 in
     omega (arith, short, limit)
 
@@ -57,7 +55,7 @@ returns-in-Err-put_moved-clause-answers g c = λ mode k t s r.
     let below = c.in-Ok.ensures.below in
     let x = c.in-Ok.ensures.found mode k t s r in
     let is = renames-are f mode c.args.lot.now m later t k c.args.path.now c.args.to.now c.args.depth c.in-Ok.step c.name-name.result c.name-new.result c.may_move.ensures.looked.map r below.0 below.1
-          (c.name-name.ensures [] ∙ ap (λ n. get_or c.args.path.now (n - 1) []) c.len.ensures) (c.name-new.ensures [] ∙ ap (λ n. get_or c.args.to.now (n - 1) []) c.len-in-Ok.ensures) x in
+    (c.name-name.ensures [] ∙ ap (λ n. get_or c.args.path.now (n - 1) []) c.len.ensures) (c.name-new.ensures [] ∙ ap (λ n. get_or c.args.to.now (n - 1) []) c.len-in-Ok.ensures) x in
     fault_model _ c.in-Err-put_moved.fault _ c.refusal_of.ensures
     (c.in-Err-put_moved.ensures.sound mode k t (drop c.args.depth c.args.path.now) (drop c.args.depth c.args.to.now) (c.may_move.ensures.looked.shows s) is)
 
@@ -73,7 +71,7 @@ returns-in-Ok-put_moved-clause-changed g c = λ mode k t s r.
     let below = c.in-Ok.ensures.below in
     let x = c.in-Ok.ensures.found mode k t s r in
     let is = renames-are f mode c.args.lot.now m later t k c.args.path.now c.args.to.now c.args.depth c.in-Ok.step c.name-name.result c.name-new.result c.may_move.ensures.looked.map r below.0 below.1
-          (c.name-name.ensures [] ∙ ap (λ n. get_or c.args.path.now (n - 1) []) c.len.ensures) (c.name-new.ensures [] ∙ ap (λ n. get_or c.args.to.now (n - 1) []) c.len-in-Ok.ensures) x in
+    (c.name-name.ensures [] ∙ ap (λ n. get_or c.args.path.now (n - 1) []) c.len.ensures) (c.name-new.ensures [] ∙ ap (λ n. get_or c.args.to.now (n - 1) []) c.len-in-Ok.ensures) x in
     let p = drop c.args.depth c.args.path.now in
     let q = drop c.args.depth c.args.to.now in
     subst (λ (u : Tree). MapRecovers f mode c.args.lot.now (g.K.View.map c.put_moved.new.keep c.put_moved.new.disk c.args.lot.now) u (k + 1)) (answer-next t k (length c.args.lot.now.groups) f (Rename p q) x.0)
