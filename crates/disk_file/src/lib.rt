@@ -5,7 +5,7 @@ mod sink;
 mod streams;
 mod whole;
 
-ghost use Rattle.std.specs.Prelude.{◌≡◌, ◌≤◌, ◌<◌, ◌^◌, ◌↔◌, [], true, false, length, is_ok, IfOk, IfSome, IsErr, OnErr, OnOk};
+ghost use Rattle.std.specs.Prelude.{◌≡◌, ◌≤◌, ◌<◌, ◌^◌, ◌↔◌, [], true, false, length, is_ok, IfOk, IsErr, OnErr, OnOk};
 ghost use Rattle.ice_base.specs.Disk.{block, Rose, Nowhere, HasCause, WriteCounts, BarrierCounts};
 ghost use Rattle.ice_base.specs.Frames.{Within};
 ghost use Rattle.ice_base.specs.Host.{SameDisk, GaveOnly, Leaves, Takes, Gives, FirstOf, moved};

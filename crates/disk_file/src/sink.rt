@@ -8,7 +8,7 @@ use std::alloc::Global;
 use std::io::{self, BufWriter, Write};
 
 /// Holds the bytes that it is given and sends them on, in their order, where there is no more room or `send` asks for it.
-/// A failure is remembered: from then on nothing is taken or sent.
+/// A failure is remembered: from then on nothing is taken or sent, but that what is left is tried once more where it is dropped.
 #[derive(Drop)]
 pub(crate) struct Sink<W: Write + Drop> {
     pub(crate) output: BufWriter<W>,
