@@ -88,6 +88,7 @@ file-walk i number size (Found (tree.File bytes)) root r e = record {
   where
     first : File number size ≡ File i (length bytes) → number ≡ i
     first e = cc
+
     second : File number size ≡ File i (length bytes) → size ≡ length bytes
     second e = cc
 file-walk i number size (Found (tree.Dir es)) root r e = absurd cc
@@ -119,6 +120,7 @@ spot-walk i dir entries (Found (tree.Dir es)) e = (es, refl, first e, second e)
   where
     first : Dir dir entries ≡ Dir i (length (rows es)) → dir ≡ i
     first e = cc
+
     second : Dir dir entries ≡ Dir i (length (rows es)) → entries ≡ length (rows es)
     second e = cc
 spot-walk i dir entries NotFound e = absurd cc
@@ -148,11 +150,14 @@ module _ (f : Form) (o : Table) (p : Names) (t : Tree) (below : is_root p ≡ fa
       → MatchResult result (In number bytes) (λ r. (r ≡ code.NotDir) × ((dir entries : ℕ) → ends.parent ≢ Dir dir entries))
       → MatchResult result (λ gone. (gone_refusal p t ≡ None) × IsGone f o p t gone) (λ r. RefusedAs (refused_of r) (gone_refusal p t))
   stands-in number bytes s result h = MatchResult-weaker result h
-      (λ gone g. (s.none, record {
-        spot_is = spot-is f o (parent p) t ends.parent gone.spot is.at_parent g.0;
-        number_is = g.1 ∙ s.number_is;
-        bytes_are = g.2 ∙ s.bytes_are ∙ ap (λ w. length (bytes_found w)) (sym s.found);
-      }))
+      (λ gone g. (
+        s.none,
+        record {
+          spot_is = spot-is f o (parent p) t ends.parent gone.spot is.at_parent g.0;
+          number_is = g.1 ∙ s.number_is;
+          bytes_are = g.2 ∙ s.bytes_are ∙ ap (λ w. length (bytes_found w)) (sym s.found);
+        },
+      ))
       (λ r n. let e = has_entry p t s.there below s.found in absurd (n.1 (inode_on f o 0 (parent p)) (length (rows e.entries)) (is.at_parent ∙ ap (place_by (inode_on f o 0 (parent p))) e.there)))
 
   pub gone-file : (number size : ℕ) → ends.end ≡ File number size → (result : Result Gone Refusal)
@@ -182,10 +187,12 @@ removable p t h = by-walk (walk p t) refl h
     root-not : (b : Bool) (x : Option Why) → or_else (if b then Some why.IsRoot else None) x ≡ None → b ≡ false
     root-not true x e = absurd (Some≢None why.IsRoot e)
     root-not false x e = refl
+
     full-not : (b full : Bool) → or_else (if b then Some why.IsRoot else None) (if full then Some why.NotEmpty else None) ≡ None → full ≡ false
     full-not true full e = absurd (Some≢None why.IsRoot e)
     full-not false true e = absurd (Some≢None why.NotEmpty e)
     full-not false false e = refl
+
     by-walk : (w : Walk) → walk p t ≡ w → after (is_root p) w ≡ None → Removable p t
     by-walk (Found v) e h = record { gone = v; entry = has_entry p t v (root-not (is_root p) _ h) e; empty = full-not (is_root p) (is_full_found (Found v)) h }
     by-walk NotFound e h = absurd (Some≢None why.NotFound h)

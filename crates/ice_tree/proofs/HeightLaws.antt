@@ -209,7 +209,7 @@ module _ (f : Form) (one : f ≡ form_one) (lot : LotView) (m : Map) (i h : ℕ)
       let inside : k < length (rows_in f (own_in f m i)) = (let c = r.1.count in let l = length-rows_in f (own_in f m i) in omega arith) in
       let good : is_name (get_or (rows_in f (own_in f m i)) k ([], 0)).0 ≡ true = (All-get_or (λ (row : Row). IsNameOf f row.0) (rows_in f (own_in f m i)) k ([], 0) inside r.1.fit).is in
       let bad : is_name (get_or (rows_in f (own_in f m i)) k ([], 0)).0 ≡ false =
-          subst (λ o. IfSome o (λ (row : Row). is_name row.0 ≡ false)) (ap (λ rs. slice_get rs k) (sym row-here) ∙ slice_get-get_or (rows_in f (own_in f m i)) k ([], 0) inside) wrong in
+      subst (λ o. IfSome o (λ (row : Row). is_name row.0 ≡ false)) (ap (λ rs. slice_get rs k) (sym row-here) ∙ slice_get-get_or (rows_in f (own_in f m i)) k ([], 0) inside) wrong in
       absurd (subst T (sym good ∙ bad) tt)
 
   -- it fails by the disk alone

@@ -232,7 +232,7 @@ module _ (f : Form) (one : f ≡ form_one) (mode : ℕ) (lot : LotView) (few : l
   pub spot-has : look_up name (rows_of entry m gone.spot.number) ≡ None → ⊥
   spot-has none =
       let e : look_up (last_name p) (rows_of 64 m (inode_on form_one (own 64 m) 0 (parent p))) ≡ None =
-          ap (λ i. look_up (last_name p) (rows_of 64 m i)) (sym spot-here) ∙ ap (λ w. look_up (last_name p) (rows_of w m gone.spot.number)) (sym wide) ∙ ap (λ c. look_up c (rows_of entry m gone.spot.number)) (sym l.name_is) ∙ none in
+      ap (λ i. look_up (last_name p) (rows_of 64 m i)) (sym spot-here) ∙ ap (λ w. look_up (last_name p) (rows_of w m gone.spot.number)) (sym wide) ∙ ap (λ c. look_up c (rows_of entry m gone.spot.number)) (sym l.name_is) ∙ none in
       let s = row-there mode lot few m t k recovers-one p goes.gone goes.entry in
       subst T (ap is_some (sym s ∙ e)) tt
 
@@ -253,7 +253,7 @@ module _ (f : Form) (one : f ≡ form_one) (mode : ℕ) (lot : LotView) (few : l
       let s = entry-left mode lot few m t k recovers-one p goes.gone goes.entry m' here goes.empty in
       subst (λ g. StandsLoose g mode lot m' (next (Remove p) t) k gone.number gone.bytes) (sym one)
       (subst (λ j. StandsLoose form_one mode lot m' (next (Remove p) t) k j gone.bytes) (sym number-there)
-        (subst (λ n. StandsLoose form_one mode lot m' (next (Remove p) t) k (inode_on form_one (own 64 m) 0 p) n) (sym bytes-there) s))
+      (subst (λ n. StandsLoose form_one mode lot m' (next (Remove p) t) k (inode_on form_one (own 64 m) 0 p) n) (sym bytes-there) s))
 
 -- what was found before a look holds after it
 pub loses-after : (f : Form) (mode : ℕ) (lot : LotView) (m m' : Map) (t : Tree) (k : ℕ) (p : Names) (gone : Gone) (name : List ℕ) → m' ≡ m → MapRecovers f mode lot m t k → IsGone f (own_in f m) p t gone → name ≡ last_name p

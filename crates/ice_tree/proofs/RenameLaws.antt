@@ -35,7 +35,7 @@ use Rattle.ice_tree.specs.Changes.{IsSpot}
 use Rattle.ice_tree.specs.Outcomes.{IsTreeRefusal, RefusedAs, refusal_by}
 use Rattle.ice_tree.specs.Places.{place_at, place_by}
 use Rattle.ice_tree.proofs.LookLaws.{ends_dir}
-use Rattle.ice_tree.proofs.StageLaws.{or_else-later}
+use Rattle.ice_tree.proofs.LookLaws.{later_stage}
 use Rattle.ice_tree.specs.Renames.{height_refusal, ends_refusal, move_refusal, IsMove, Renames}
 use Rattle.ice_tree.proofs.EndLaws.{names-last}
 use Rattle.ice_tree.specs.Stages.{or_else, paths_refusal, quota_refusal}
@@ -220,7 +220,7 @@ found-move (Err r) found P e h = absurd h
 
 -- behind the paths
 pub move-stages : (t : Tree) (k n : ℕ) (f : Form) (p q : Names) → paths_refusal f (p ∷ q ∷ []) ≡ None → refusal t k n f (Rename p q) ≡ or_else (move_refusal p q t) (quota_refusal n f k (next (Rename p q) t))
-move-stages t k n f p q names = rename-stages t k n f p q ∙ or_else-later (paths_refusal f (p ∷ q ∷ [])) (or_else (move_refusal p q t) (quota_refusal n f k (next (Rename p q) t))) names
+move-stages t k n f p q names = rename-stages t k n f p q ∙ later_stage (paths_refusal f (p ∷ q ∷ [])) (or_else (move_refusal p q t) (quota_refusal n f k (next (Rename p q) t))) names
 
 -- the files and directories below a path are no more than the lot has room for
 pub nodes-few : (f : Form) → f ≡ form_one → (mode : ℕ) (lot : LotView) (m : Map) (t : Tree) (k : ℕ) → MapRecovers f mode lot m t k → (p : Names) (s : Tree) → walk p t ≡ Found s → nodes s ≤ 64 * length lot.groups

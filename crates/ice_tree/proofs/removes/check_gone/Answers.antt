@@ -18,5 +18,5 @@ returns-clause-quota g c = λ mode k t p s r is none.
     let m = g.K.View.map c.args.keep.now c.args.disk.now c.args.lot.now in
     c.check_quota.ensures.quota mode k t (next (Remove p) t) s r
     (gone-needs f (ap form_of g.F.Form.is_one.0) mode c.args.lot.now m t k p c.args.gone.now _ r is none refl refl
-      (c.dir_cost.ensures ∙ ap (λ n. map_cost (dir_blocks f n)) c.saturating_sub.ensures)
-      (let a = c.dir_cost-2.ensures in let b = c.file_cost.ensures in omega arith))
+    (c.dir_cost.ensures ∙ ap (λ n. map_cost (dir_blocks f n)) c.saturating_sub.ensures)
+    (let a = c.dir_cost-2.ensures in let b = c.file_cost.ensures in omega arith))

@@ -19,7 +19,7 @@ returns-clause-dropped g c = λ mode k t s l.
     let m = g.K.View.map c.args.keep.now c.args.disk.now c.args.lot.now in
     on_ok_weaker c.cut_to.result
     (bytes-dropped (form_of g.F.Form.VERSION) (ap form_of g.F.Form.is_one.0) mode c.args.lot.now few m t k c.args.number c.args.bytes g.F.Form.ENTRY g.F.Form.is_one.1
-      (g.K.View.map c.cut_to.new.keep c.cut_to.new.disk c.args.lot.now) l c.if-bytes-eq0.false)
+    (g.K.View.map c.cut_to.new.keep c.cut_to.new.disk c.args.lot.now) l c.if-bytes-eq0.false)
     (c.cut_to.ensures.cut s (loose-made (form_of g.F.Form.VERSION) (ap form_of g.F.Form.is_one.0) mode c.args.lot.now few m t k c.args.number c.args.bytes g.F.Form.ENTRY g.F.Form.is_one.1 l))
 
 pub returns-clause-sound : goal.returns-clause-sound
@@ -29,5 +29,5 @@ returns-clause-sound g c = λ mode k t s l.
     let x = c.cut_to.ensures in
     err-is c.cut_to.result IsCutToFault FaultDisk x.faults
     (λ e is fault.
-      can-drop (form_of g.F.Form.VERSION) (ap form_of g.F.Form.is_one.0) mode c.args.lot.now few m t k c.args.number c.args.bytes g.F.Form.ENTRY g.F.Form.is_one.1 l c.if-bytes-eq0.false
-      e fault (λ q. x.kind (is ∙ ap (λ (y : OpFault). Err y) q) s) (λ q. x.zero (is ∙ ap (λ (y : OpFault). Err y) q) s) (λ q. x.unused (is ∙ ap (λ (y : OpFault). Err y) q) s) (λ q. x.pointer (is ∙ ap (λ (y : OpFault). Err y) q) s))
+    can-drop (form_of g.F.Form.VERSION) (ap form_of g.F.Form.is_one.0) mode c.args.lot.now few m t k c.args.number c.args.bytes g.F.Form.ENTRY g.F.Form.is_one.1 l c.if-bytes-eq0.false
+    e fault (λ q. x.kind (is ∙ ap (λ (y : OpFault). Err y) q) s) (λ q. x.zero (is ∙ ap (λ (y : OpFault). Err y) q) s) (λ q. x.unused (is ∙ ap (λ (y : OpFault). Err y) q) s) (λ q. x.pointer (is ∙ ap (λ (y : OpFault). Err y) q) s))
