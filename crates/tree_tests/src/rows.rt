@@ -8,7 +8,7 @@ use ice_base::{Disk, Lot, read_u32, read_u64};
 use ice_keep::{ListKeep, ThroughKeep};
 use std::process::Abort;
 use std::test::Fail;
-use tree_spec::{Command, Refusal, Reply, Room, Value};
+use tree_spec::{Command, Entry, Refusal, Reply, Room, Value};
 
 const PIECE: [u8; 16384] = [7; 16384];
 
@@ -150,6 +150,10 @@ fn trees_are_renamed(rt: HostRuntime) -> Result<(), Fail> {
     Ok(())
 }
 
+fn is_entry(entry: &Entry, name: &[u8], dir: bool) -> bool {
+    entry.name.bytes() == name && entry.dir == dir
+}
+
 #[test]
 fn entries_are_listed_by_the_bytes_of_their_names(rt: HostRuntime) -> Result<(), Fail> {
     let mut host = fresh(&rt, rt.alloc())?;
@@ -163,11 +167,12 @@ fn entries_are_listed_by_the_bytes_of_their_names(rt: HostRuntime) -> Result<(),
         (lists(b"/a"), Ok(Value::Listed(4))),
     ];
     replies(&rt, &mut host, &lot, &mut room, &table);
-    let want: [(&[u8], bool); 4] = [(b"B", true), (b"a", false), (b"aa", true), (b"b", false)];
-    assert_eq!(rt; room.entries().len(), 4);
-    for (entry, (name, dir)) in room.entries().iter().zip(want) {
-        assert_eq!(rt; (entry.name.bytes(), entry.dir), (name, dir));
-    }
+    let entries = room.entries();
+    assert_eq!(rt; entries.len(), 4);
+    assert!(rt; is_entry(&entries[0], b"B", true));
+    assert!(rt; is_entry(&entries[1], b"a", false));
+    assert!(rt; is_entry(&entries[2], b"aa", true));
+    assert!(rt; is_entry(&entries[3], b"b", false));
     Ok(())
 }
 
@@ -353,8 +358,8 @@ fn the_last_command_is_counted_and_none_after_it(rt: HostRuntime) -> Result<(), 
     let lot = one_group();
     assert!(rt; host.blocks() == BLOCKS && host.calls() == 0);
     let mut sub = *host.block(32);
-    for byte in sub[16..24].iter_mut() {
-        *byte = 0xff;
+    for k in 16..24 {
+        sub[k] = 0xff;
     }
     sub[16] = 0xfe;
     sub[23] = 0x7f;
