@@ -1,10 +1,12 @@
 -- Changes of directories.
-use Rattle.std.specs.Prelude.{◌≡◌, ◌≢◌, ◌<◌, ℕ, ◌+◌, ◌*◌, ◌/◌, List, length}
-use Rattle.ice_base.specs.Lots.{LotView}
+use Rattle.std.specs.Prelude.{◌≡◌, ◌≢◌, ◌≤◌, ◌<◌, ℕ, ◌+◌, ◌*◌, ◌/◌, false, List, length}
+use Rattle.ice_base.specs.Fields.{SameBeside}
+use Rattle.ice_base.specs.Lots.{LotView, sub_address}
+use Rattle.ice_base.specs.Used.{used_block, used_inode, is_data, count_place, counted, free_count}
 use Rattle.ice_map.specs.declared.codec.Inode.{Inode}
 use Rattle.ice_map.specs.Inodes.{inode_of}
 use Rattle.ice_file.specs.Own.{OwnSet, blocks_for}
-use Rattle.ice_file.specs.Writes.{Moved}
+use Rattle.ice_file.specs.Writes.{Moved, uses_of}
 use Rattle.ice_dir.specs.Rows.{Row, per_block, row_of, rows_of, IsDirectory}
 
 -- how many blocks a directory of so many entries has
@@ -27,3 +29,15 @@ pub record RowPut (lot : LotView) (entry : ℕ) (m0 m1 : ℕ → List ℕ) (x y 
   pub moved : Moved lot m0 m1 x y c d
   pub here : row_of entry m1 y k ≡ row
   pub others : (j : ℕ) → j / per_block entry < c → j ≢ k → row_of entry m1 y j ≡ row_of entry m0 x j
+
+-- An entry was taken from a directory, whatever its blocks held: the directory has one entry fewer, and as many blocks fewer as these need.
+-- No other inode, no other mark, and nothing of the sub-super block but the count of used blocks, changed.
+pub record EntryGone (lot : LotView) (entry : ℕ) (old new : ℕ → List ℕ) (number : ℕ) : Type 0 where
+  pub kind : (inode_of new number).kind ≡ 2
+  pub size : (inode_of new number).size + 1 ≡ (inode_of old number).size
+  pub others : (k : ℕ) → k ≢ number → inode_of new k ≡ inode_of old k
+  pub free : free_count false lot new + uses_of (dir_blocks entry (inode_of new number).size) ≡ free_count false lot old + uses_of (dir_blocks entry (inode_of old number).size)
+  pub counts : counted false new ≤ counted false old
+  pub sub : SameBeside (count_place false) 4 (old sub_address) (new sub_address)
+  pub places : (b : ℕ) → is_data lot b ≡ false → used_block new b ≡ used_block old b
+  pub inodes : (i : ℕ) → used_inode new i ≡ used_inode old i

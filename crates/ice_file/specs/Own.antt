@@ -85,3 +85,11 @@ pub record OwnSet (lot : LotView) (entry : ℕ) (old new : ℕ → List ℕ) (nu
   pub marks : MarksFollow lot old new (own entry old number).uses (own entry new number).uses
   pub inodes : (k : ℕ) → k ≢ number → inode_of new k ≡ inode_of old k
   pub others : OthersSay lot entry old new number
+
+-- n data blocks more are marked used and counted. No other mark, and nothing of the sub-super block but that count, changed.
+pub record MoreMarked (lot : LotView) (old new : ℕ → List ℕ) (n : ℕ) : Type 0 where
+  pub free : free_count false lot new + n ≡ free_count false lot old
+  pub counts : counted false new ≡ counted false old + n
+  pub sub : SameBeside (count_place false) 4 (old sub_address) (new sub_address)
+  pub places : (b : ℕ) → is_data lot b ≡ false → used_block new b ≡ used_block old b
+  pub inodes : (i : ℕ) → used_inode new i ≡ used_inode old i

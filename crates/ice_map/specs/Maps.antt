@@ -150,3 +150,15 @@ pub record Cut (lot : LotView) (old new : ℕ → List ℕ) (before after : Inod
   pub blocks : blocks_of new after rest ≡ blocks_of old before rest
   pub gave : Marked lot false old new (cut_off old before count rest)
   pub used : (b : ℕ) → times (uses old before count) b ≡ times (uses new after rest) b + times (cut_off old before count rest) b
+
+-- some of the first `count` blocks of a map is no data place, or stands in an indirect block that is none
+pub record Misleads (lot : LotView) (m : ℕ → List ℕ) (inode : Inode) (count : ℕ) : Type 0 where
+  pub block : ℕ
+  pub below : block < count
+  pub bad : leads lot m inode block ≡ false
+
+-- some block that a map of `count` blocks uses is not marked used
+pub record UsesUnmarked (m : ℕ → List ℕ) (inode : Inode) (count : ℕ) : Type 0 where
+  pub block : ℕ
+  pub uses : has (uses m inode count) block ≡ true
+  pub unmarked : used_block m block ≡ false
