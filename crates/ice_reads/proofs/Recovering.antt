@@ -42,16 +42,17 @@ last_passes true true false d e v w x y z h = absurd cc
 last_passes true false c d e v w x y z h = absurd cc
 last_passes false b c d e v w x y z h = absurd cc
 
-small : (slot : ℕ) (bytes : List ℕ) → sub_rule slot bytes ≡ None → long_at bytes 16 < 2 ^ 63
+-- what a sub-super block that breaks no rule counts has at most 63 bits
+pub sub_small : (slot : ℕ) (bytes : List ℕ) → sub_rule slot bytes ≡ None → long_at bytes 16 < 2 ^ 63
 unfolding sub_rule
-small slot bytes h =
+sub_small slot bytes h =
     let t : nat_lt (long_at bytes 16) (2 ^ 63) ≡ true =
     last_passes (word_at bytes 0 == sub_magic) (word_at bytes 4 == 1) (slice_index bytes 8 == slot) (slice_index bytes 9 == 0) (nat_lt (long_at bytes 16) (2 ^ 63)) Magic Version Slot Mode Done h in
     grind (arith, nat_tests)
 
 pub recovers_small : (f : Form) (mode : ℕ) (lot : LotView) (m : Map) (t : Tree) (k : ℕ) → MapRecovers f mode lot m t k → k < 2 ^ 63
 recovers_small f mode lot m t k a =
-    let s : long_at (m sub_address) 16 < 2 ^ 63 = small lot.slot (m sub_address) a.sub.sound in
+    let s : long_at (m sub_address) 16 < 2 ^ 63 = sub_small lot.slot (m sub_address) a.sub.sound in
     let e : long_at (m sub_address) 16 ≡ k = a.sub.done in
     omega (arith, s, e)
 

@@ -18,3 +18,5 @@ pub mod RenameLawsRows
 pub mod GoneLaws
 pub mod RemoveLaws
 pub mod ListLaws
+pub mod SpreadLaws
+pub mod FaultLaws

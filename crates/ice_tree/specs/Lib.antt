@@ -6,3 +6,4 @@ pub mod Changes
 pub mod Moves
 pub mod Renames
 pub mod Listings
+pub mod Grounds

@@ -1,11 +1,13 @@
 //! The number of accepted operations in the sub-super block.
-ghost use Rattle.std.specs.Prelude.{◌≡◌, ◌≤◌, ◌<◌, ◌+◌, ◌^◌, ℕ, true, OnOk, IfOk, IfErr, IsErrOf};
+ghost use Rattle.std.specs.Prelude.{◌≡◌, ◌≤◌, ◌<◌, ◌+◌, ◌^◌, ℕ, true, Some, OnOk, IfOk, IfErr, IsErrOf};
 ghost use Rattle.ice_base.specs.Disk.{Rose};
 ghost use Rattle.ice_base.specs.Fields.{long_at};
 ghost use Rattle.ice_base.specs.Lots.{is_sited, sub_address};
 ghost use Rattle.ice_base.specs.Views.{Looked, Spent};
 ghost use Rattle.ice_base.specs.declared.fault.OpFault.TheVariants.{Disk as FaultDisk, Damaged};
+ghost use Rattle.ice_base.specs.declared.fault.Rule.{Rule};
 ghost use Rattle.ice_base.specs.declared.fault.Rule.TheVariants.{Done};
+ghost use Rattle.ice_layout.specs.Subs.{sub_rule};
 ghost use Rattle.tree_spec.specs.Trees.{Tree};
 ghost use Rattle.tree_spec.specs.Costs.{form_of};
 ghost use Rattle.ice_reads.specs.Recovers.{MapRecovers};
@@ -33,6 +35,9 @@ pub(crate) fn done_of<D: Disk, V: View<D>, F: Form>(
     requires { is_sited lot.now (D.state disk.old).size ≡ true }
     ensures done { (mode k : ℕ) (t : Tree) → V.shows lot.now view.old disk.old → MapRecovers (form_of F.VERSION) mode lot.now (V.map view.old disk.old lot.now) t k → IfOk result (λ done. done ≡ k) }
     ensures sound { (mode k : ℕ) (t : Tree) → V.shows lot.now view.old disk.old → MapRecovers (form_of F.VERSION) mode lot.now (V.map view.old disk.old lot.now) t k → IfErr result (λ e. e ≡ FaultDisk) }
+    ensures value { V.shows lot.now view.old disk.old → IfOk result (λ done. done ≡ long_at (V.map view.old disk.old lot.now sub_address) 16) }
+    ensures small { IfOk result (λ done. done < 2 ^ 63) }
+    ensures rule { (r : Rule) → IsErrOf result (Damaged r) → V.shows lot.now view.old disk.old → sub_rule lot.now.slot (V.map view.old disk.old lot.now sub_address) ≡ Some r }
     ensures looked { Looked D.Disk V.View lot.now view.old disk.old view.new disk.new }
     ensures faults { IfErr result IsSubFault }
     ensures failed { IsErrOf result FaultDisk → Rose (D.state disk.old).faults (D.state disk.new).faults }

@@ -9,8 +9,10 @@ ghost use Rattle.tree_spec.specs.Names.{is_name};
 ghost use Rattle.tree_spec.specs.Trees.{Tree, last_name};
 ghost use Rattle.ice_reads.specs.Recovers.{MapRecovers};
 ghost use Rattle.ice_reads.specs.Tables.{own_in};
+ghost use Rattle.ice_tree.specs.Broken.{IsBrokenBy};
 ghost use Rattle.ice_tree.specs.Changes.{IsEnds, EndsFit};
-ghost use Rattle.ice_tree.specs.Places.{IsWalkFault};
+ghost use Rattle.ice_tree.specs.Grounds.{EndsAre};
+ghost use Rattle.ice_tree.specs.Places.{PlaceNamed, IsWalkFault};
 ghost use Rattle.ice_tree.specs.Stages.{paths_refusal};
 
 use crate::place::{Place, step, walk};
@@ -58,6 +60,9 @@ pub(crate) fn find_ends<D: Disk, V: View<D>, F: Form>(
         → IfOk result (IsEnds (form_of F.VERSION) (own_in (form_of F.VERSION) (V.map view.old disk.old lot.now)) (drop depth path.now) t) }
     ensures sound { (mode k : ℕ) (t : Tree) → V.shows lot.now view.old disk.old → MapRecovers (form_of F.VERSION) mode lot.now (V.map view.old disk.old lot.now) t k → IfErr result (λ e. e ≡ FaultDisk) }
     ensures fits { IfOk result (EndsFit lot.now) }
+    ensures are { V.shows lot.now view.old disk.old → IfOk result (EndsAre F.ENTRY lot.now (V.map view.old disk.old lot.now)) }
+    ensures named { V.shows lot.now view.old disk.old → depth < length path.now → IfOk result (λ ends. PlaceNamed F.ENTRY (V.map view.old disk.old lot.now) ends.parent (last_name (drop depth path.now)) ends.end) }
+    ensures broken { V.shows lot.now view.old disk.old → IfErr result (IsBrokenBy F.ENTRY lot.now (V.map view.old disk.old lot.now)) }
     ensures looked { Looked D.Disk V.View lot.now view.old disk.old view.new disk.new }
     ensures faults { IfErr result IsWalkFault }
     ensures failed { IsErrOf result FaultDisk → Rose (D.state disk.old).faults (D.state disk.new).faults }

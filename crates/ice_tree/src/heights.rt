@@ -1,15 +1,20 @@
 //! How high trees are.
-ghost use Rattle.std.specs.Prelude.{◌≡◌, ◌≤◌, ◌<◌, ◌+◌, ◌*◌, ℕ, true, nat_lt, IfOk, IfErr, IsErrOf, length};
+ghost use Rattle.std.specs.Prelude.{◌≡◌, ◌≤◌, ◌<◌, ◌+◌, ◌*◌, ◌⊎◌, ℕ, true, false, nat_lt, IfOk, IfErr, IsErrOf, length};
 ghost use Rattle.ice_base.specs.Disk.{Rose};
 ghost use Rattle.ice_base.specs.Lots.{is_sited};
 ghost use Rattle.ice_base.specs.Views.{Looked};
-ghost use Rattle.ice_base.specs.declared.fault.OpFault.TheVariants.{Disk as FaultDisk};
+ghost use Rattle.ice_base.specs.declared.fault.OpFault.TheVariants.{Disk as FaultDisk, Damaged};
+ghost use Rattle.ice_base.specs.declared.fault.Rule.TheVariants.{InodeTwice};
+ghost use Rattle.ice_map.specs.Inodes.{inode_of};
+ghost use Rattle.ice_dir.specs.Rows.{HasEntry, IsDirectory};
 ghost use Rattle.tree_spec.specs.Costs.{form_of, nodes};
 ghost use Rattle.tree_spec.specs.Trees.{Tree, Entries, Dir, Found, rows, height};
 ghost use Rattle.ice_reads.specs.Reads.{Reads};
 ghost use Rattle.ice_reads.specs.Tables.{own_in};
+ghost use Rattle.ice_tree.specs.Broken.{IsBrokenBy, spread, spread_at};
+ghost use Rattle.ice_tree.specs.Grounds.{IsEntry};
 ghost use Rattle.ice_tree.specs.Moves.{IsChild, IsHeightFault};
-ghost use Rattle.ice_tree.specs.Places.{PlaceFits, place_by};
+ghost use Rattle.ice_tree.specs.Places.{IsReached, PlaceFits, PlaceIs, PlaceReached, place_by};
 
 use crate::place::{Place, enter};
 use ice_base::{Disk, Form, Lot, OpFault, Rule, View};
@@ -39,6 +44,10 @@ fn entry_place<D: Disk, V: View<D>, F: Form>(
         → IfOk result (IsChild (form_of F.VERSION) lot.now (own_in (form_of F.VERSION) (V.map view.old disk.old lot.now)) number h k es) }
     ensures sound { (h : ℕ) (es : Entries) → V.shows lot.now view.old disk.old → Reads (form_of F.VERSION) lot.now (own_in (form_of F.VERSION) (V.map view.old disk.old lot.now)) number h (Dir es) → k < length (rows es) → IfErr result (λ e. e ≡ FaultDisk) }
     ensures fits { IfOk result (PlaceFits lot.now) }
+    ensures child { V.shows lot.now view.old disk.old → IsReached F.ENTRY lot.now (V.map view.old disk.old lot.now) number → HasEntry lot.now k (inode_of (V.map view.old disk.old lot.now) number)
+        → IfOk result (IsEntry F.ENTRY lot.now (V.map view.old disk.old lot.now) number k) }
+    ensures broken { V.shows lot.now view.old disk.old → IsReached F.ENTRY lot.now (V.map view.old disk.old lot.now) number → HasEntry lot.now k (inode_of (V.map view.old disk.old lot.now) number)
+        → IfErr result (IsBrokenBy F.ENTRY lot.now (V.map view.old disk.old lot.now)) }
     ensures looked { Looked D.Disk V.View lot.now view.old disk.old view.new disk.new }
     ensures faults { IfErr result IsHeightFault }
     ensures failed { IsErrOf result FaultDisk → Rose (D.state disk.old).faults (D.state disk.new).faults }
@@ -67,6 +76,10 @@ fn has_higher<D: Disk, V: View<D>, F: Form>(
     ensures sound { (h : ℕ) (es : Entries) → V.shows lot.now view.old disk.old → Reads (form_of F.VERSION) lot.now (own_in (form_of F.VERSION) (V.map view.old disk.old lot.now)) number h (Dir es) → size ≡ length (rows es) → nodes (Dir es) ≤ budget.old + 1 → IfErr result (λ e. e ≡ FaultDisk) }
     ensures budget { (h : ℕ) (es : Entries) → V.shows lot.now view.old disk.old → Reads (form_of F.VERSION) lot.now (own_in (form_of F.VERSION) (V.map view.old disk.old lot.now)) number h (Dir es) → size ≡ length (rows es) → nodes (Dir es) ≤ budget.old + 1 → budget.old + 1 ≤ budget.new + nodes (Dir es) }
     ensures falls { budget.new ≤ budget.old }
+    ensures pays { V.shows lot.now view.old disk.old → IsReached F.ENTRY lot.now (V.map view.old disk.old lot.now) number → IsDirectory lot.now (inode_of (V.map view.old disk.old lot.now) number) → (inode_of (V.map view.old disk.old lot.now) number).size ≡ size
+        → IfOk result (λ b. b ≡ false → budget.old + 1 ≤ budget.new + spread F.ENTRY (V.map view.old disk.old lot.now) (levels + 1) number) }
+    ensures broken { V.shows lot.now view.old disk.old → IsReached F.ENTRY lot.now (V.map view.old disk.old lot.now) number → IsDirectory lot.now (inode_of (V.map view.old disk.old lot.now) number) → (inode_of (V.map view.old disk.old lot.now) number).size ≡ size
+        → IfErr result (λ e. IsBrokenBy F.ENTRY lot.now (V.map view.old disk.old lot.now) e ⊎ ((e ≡ Damaged InodeTwice) × (budget.old + 1 < spread F.ENTRY (V.map view.old disk.old lot.now) (levels + 1) number))) }
     ensures looked { Looked D.Disk V.View lot.now view.old disk.old view.new disk.new }
     ensures faults { IfErr result IsHeightFault }
     ensures failed { IsErrOf result FaultDisk → Rose (D.state disk.old).faults (D.state disk.new).faults }
@@ -101,6 +114,10 @@ pub(crate) fn is_higher<D: Disk, V: View<D>, F: Form>(
     ensures sound { (i h : ℕ) (s : Tree) → V.shows lot.now view.old disk.old → Reads (form_of F.VERSION) lot.now (own_in (form_of F.VERSION) (V.map view.old disk.old lot.now)) i h s → place ≡ place_by i (Found s) → nodes s ≤ budget.old → IfErr result (λ e. e ≡ FaultDisk) }
     ensures budget { (i h : ℕ) (s : Tree) → V.shows lot.now view.old disk.old → Reads (form_of F.VERSION) lot.now (own_in (form_of F.VERSION) (V.map view.old disk.old lot.now)) i h s → place ≡ place_by i (Found s) → nodes s ≤ budget.old → budget.old ≤ budget.new + nodes s }
     ensures falls { budget.new ≤ budget.old }
+    ensures pays { V.shows lot.now view.old disk.old → PlaceIs (V.map view.old disk.old lot.now) place → PlaceReached F.ENTRY lot.now (V.map view.old disk.old lot.now) place
+        → IfOk result (λ b. b ≡ false → budget.old ≤ budget.new + spread_at F.ENTRY (V.map view.old disk.old lot.now) levels place) }
+    ensures broken { V.shows lot.now view.old disk.old → PlaceIs (V.map view.old disk.old lot.now) place → PlaceReached F.ENTRY lot.now (V.map view.old disk.old lot.now) place
+        → IfErr result (λ e. IsBrokenBy F.ENTRY lot.now (V.map view.old disk.old lot.now) e ⊎ ((e ≡ Damaged InodeTwice) × (budget.old < spread_at F.ENTRY (V.map view.old disk.old lot.now) levels place))) }
     ensures looked { Looked D.Disk V.View lot.now view.old disk.old view.new disk.new }
     ensures faults { IfErr result IsHeightFault }
     ensures failed { IsErrOf result FaultDisk → Rose (D.state disk.old).faults (D.state disk.new).faults }

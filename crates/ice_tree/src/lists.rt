@@ -22,6 +22,7 @@ ghost use Rattle.ice_reads.specs.Tables.{own_in, rows_in};
 ghost use Rattle.ice_tree.specs.Broken.{IsBroken, IsBrokenBy};
 ghost use Rattle.ice_tree.specs.Listings.{listed_as, IsListFault};
 ghost use Rattle.ice_tree.specs.Outcomes.{AsModel, ShownBy, IsTreeRefusal, IsLookRefusal, rule_number};
+ghost use Rattle.ice_tree.specs.Places.{IsReached};
 ghost use Rattle.ice_tree.specs.Stages.{paths_refusal};
 
 use crate::fault::refusal_of;
@@ -57,7 +58,7 @@ fn add_entry<D: Disk, V: View<D>, F: Form>(
     ensures kept { OnErr result (room.new.entries ≡ room.old.entries) }
     ensures bytes { room.new.bytes ≡ room.old.bytes }
     ensures rows { room.new.rows ≡ room.old.rows }
-    ensures broken { V.shows lot.now view.old disk.old → HasEntry lot.now k (inode_of (V.map view.old disk.old lot.now) number) → IfErr result (IsBrokenBy F.ENTRY lot.now (V.map view.old disk.old lot.now)) }
+    ensures broken { V.shows lot.now view.old disk.old → IsReached F.ENTRY lot.now (V.map view.old disk.old lot.now) number → HasEntry lot.now k (inode_of (V.map view.old disk.old lot.now) number) → IfErr result (IsBrokenBy F.ENTRY lot.now (V.map view.old disk.old lot.now)) }
     ensures looked { Looked D.Disk V.View lot.now view.old disk.old view.new disk.new }
     ensures faults { IfErr result IsListFault }
     ensures failed { IsErrOf result FaultDisk → Rose (D.state disk.old).faults (D.state disk.new).faults }
@@ -90,7 +91,7 @@ fn add_entries<D: Disk, V: View<D>, F: Form>(
     ensures all { OnOk result (length room.new.entries ≡ count) }
     ensures bytes { room.new.bytes ≡ room.old.bytes }
     ensures rows { room.new.rows ≡ room.old.rows }
-    ensures broken { V.shows lot.now view.old disk.old → IsDirectory lot.now (inode_of (V.map view.old disk.old lot.now) number) → count ≤ (inode_of (V.map view.old disk.old lot.now) number).size → IfErr result (IsBrokenBy F.ENTRY lot.now (V.map view.old disk.old lot.now)) }
+    ensures broken { V.shows lot.now view.old disk.old → IsReached F.ENTRY lot.now (V.map view.old disk.old lot.now) number → IsDirectory lot.now (inode_of (V.map view.old disk.old lot.now) number) → count ≤ (inode_of (V.map view.old disk.old lot.now) number).size → IfErr result (IsBrokenBy F.ENTRY lot.now (V.map view.old disk.old lot.now)) }
     ensures looked { Looked D.Disk V.View lot.now view.old disk.old view.new disk.new }
     ensures faults { IfErr result IsListFault }
     ensures failed { IsErrOf result FaultDisk → Rose (D.state disk.old).faults (D.state disk.new).faults }

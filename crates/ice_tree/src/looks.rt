@@ -18,7 +18,7 @@ ghost use Rattle.ice_reads.specs.Recovers.{MapRecovers};
 ghost use Rattle.ice_reads.specs.Tables.{own_in};
 ghost use Rattle.ice_tree.specs.Broken.{IsBroken};
 ghost use Rattle.ice_tree.specs.Outcomes.{AsModel, RefusedAs, ShownBy, IsTreeRefusal, IsLookRefusal, rule_number};
-ghost use Rattle.ice_tree.specs.Places.{PlaceIs};
+ghost use Rattle.ice_tree.specs.Places.{IsReached, PlaceIs};
 ghost use Rattle.ice_tree.specs.Stages.{paths_refusal, file_refusal, dir_refusal};
 ghost use Rattle.ice_tree.specs.declared.place.Place.TheVariants.{File as AtFile, Dir as AtDir};
 
@@ -53,6 +53,7 @@ pub(crate) fn file_at<D: Disk, V: View<D>, F: Form>(
         (λ r. RefusedAs (refused_of r) (file_refusal (walk (drop depth path.now) t))) }
     ensures fits { IfOk result (λ file. (file.number < 64 * length lot.now.groups) × (file.size ≤ longest_file)) }
     ensures is { V.shows lot.now view.old disk.old → IfOk result (λ file. PlaceIs (V.map view.old disk.old lot.now) (AtFile file.number file.size)) }
+    ensures reached { V.shows lot.now view.old disk.old → IfOk result (λ file. IsReached F.ENTRY lot.now (V.map view.old disk.old lot.now) file.number) }
     ensures damaged { (n : ℕ) → IsErrOf result (Damaged n) → V.shows lot.now view.old disk.old → (r : Rule) × (n ≡ rule_number r) × IsBroken F.ENTRY lot.now (V.map view.old disk.old lot.now) r }
     ensures looked { Looked D.Disk V.View lot.now view.old disk.old view.new disk.new }
     ensures set { IfErr result IsTreeRefusal }
@@ -92,6 +93,7 @@ pub(crate) fn dir_at<D: Disk, V: View<D>, F: Form>(
         (λ r. RefusedAs (refused_of r) (dir_refusal (walk (drop depth path.now) t))) }
     ensures fits { IfOk result (λ dir. (dir.number < 64 * length lot.now.groups) × (dir.size < 64 * length lot.now.groups)) }
     ensures is { V.shows lot.now view.old disk.old → IfOk result (λ dir. PlaceIs (V.map view.old disk.old lot.now) (AtDir dir.number dir.size)) }
+    ensures reached { V.shows lot.now view.old disk.old → IfOk result (λ dir. IsReached F.ENTRY lot.now (V.map view.old disk.old lot.now) dir.number) }
     ensures damaged { (n : ℕ) → IsErrOf result (Damaged n) → V.shows lot.now view.old disk.old → (r : Rule) × (n ≡ rule_number r) × IsBroken F.ENTRY lot.now (V.map view.old disk.old lot.now) r }
     ensures looked { Looked D.Disk V.View lot.now view.old disk.old view.new disk.new }
     ensures set { IfErr result IsTreeRefusal }

@@ -8,7 +8,7 @@ ghost use Rattle.ice_base.specs.declared.fault.Rule.TheVariants.{Kind};
 ghost use Rattle.ice_map.specs.Inodes.{inode_of};
 ghost use Rattle.ice_tree.specs.declared.place.Place.TheVariants.{Missing, Blocked};
 ghost use Rattle.ice_tree.specs.Broken.{BadEntry, IsBrokenBy};
-ghost use Rattle.ice_tree.specs.Places.{place_by, place_at, IsNode, PlaceFits, PlaceIs, IsWalkFault};
+ghost use Rattle.ice_tree.specs.Places.{place_by, place_at, IsNode, Reached, PlaceFits, PlaceOf, PlaceIs, PlaceReached, PlaceNamed, IsWalkFault};
 ghost use Rattle.tree_spec.specs.Trees.{Tree, child, Found};
 ghost use Rattle.tree_spec.specs.Costs.{form_of};
 ghost use Rattle.ice_reads.specs.Tables.{own_in, rows_in, inode_named};
@@ -45,8 +45,10 @@ pub(crate) fn look<D: Disk, V: View<D>, F: Form>(
     ensures place { (h : ℕ) (t : Tree) → V.shows lot.now view.old disk.old → Reads (form_of F.VERSION) lot.now (own_in (form_of F.VERSION) (V.map view.old disk.old lot.now)) number h t → IfOk result (λ p. p ≡ place_by number (Found t)) }
     ensures sound { (h : ℕ) (t : Tree) → V.shows lot.now view.old disk.old → Reads (form_of F.VERSION) lot.now (own_in (form_of F.VERSION) (V.map view.old disk.old lot.now)) number h t → IfErr result (λ e. e ≡ FaultDisk) }
     ensures fits { IfOk result (PlaceFits lot.now) }
+    ensures at { IfOk result (PlaceOf number) }
     ensures is { V.shows lot.now view.old disk.old → IfOk result (PlaceIs (V.map view.old disk.old lot.now)) }
-    ensures broken { V.shows lot.now view.old disk.old → IfErr result (IsBrokenBy F.ENTRY lot.now (V.map view.old disk.old lot.now)) }
+    ensures reached { V.shows lot.now view.old disk.old → Reached F.ENTRY lot.now (V.map view.old disk.old lot.now) number → IfOk result (PlaceReached F.ENTRY lot.now (V.map view.old disk.old lot.now)) }
+    ensures broken { V.shows lot.now view.old disk.old → Reached F.ENTRY lot.now (V.map view.old disk.old lot.now) number → IfErr result (IsBrokenBy F.ENTRY lot.now (V.map view.old disk.old lot.now)) }
     ensures kind { IsErrOf result (Damaged Kind) → V.shows lot.now view.old disk.old → ¬ IsNode lot.now (inode_of (V.map view.old disk.old lot.now) number) }
     ensures looked { Looked D.Disk V.View lot.now view.old disk.old view.new disk.new }
     ensures faults { IfErr result IsWalkFault }
@@ -74,8 +76,10 @@ pub(crate) fn enter<D: Disk, V: View<D>, F: Form>(
     ensures place { (h : ℕ) (t : Tree) → V.shows lot.now view.old disk.old → Reads (form_of F.VERSION) lot.now (own_in (form_of F.VERSION) (V.map view.old disk.old lot.now)) number h t → IfOk result (λ p. p ≡ place_by number (Found t)) }
     ensures sound { (h : ℕ) (t : Tree) → V.shows lot.now view.old disk.old → Reads (form_of F.VERSION) lot.now (own_in (form_of F.VERSION) (V.map view.old disk.old lot.now)) number h t → IfErr result (λ e. e ≡ FaultDisk) }
     ensures fits { IfOk result (PlaceFits lot.now) }
+    ensures at { IfOk result (PlaceOf number) }
     ensures is { V.shows lot.now view.old disk.old → IfOk result (PlaceIs (V.map view.old disk.old lot.now)) }
-    ensures broken { V.shows lot.now view.old disk.old → (64 * length lot.now.groups ≤ number → BadEntry F.ENTRY lot.now (V.map view.old disk.old lot.now)) → IfErr result (IsBrokenBy F.ENTRY lot.now (V.map view.old disk.old lot.now)) }
+    ensures reached { V.shows lot.now view.old disk.old → Reached F.ENTRY lot.now (V.map view.old disk.old lot.now) number → IfOk result (PlaceReached F.ENTRY lot.now (V.map view.old disk.old lot.now)) }
+    ensures broken { V.shows lot.now view.old disk.old → Reached F.ENTRY lot.now (V.map view.old disk.old lot.now) number → (64 * length lot.now.groups ≤ number → BadEntry F.ENTRY lot.now (V.map view.old disk.old lot.now) (V.map view.old disk.old lot.now)) → IfErr result (IsBrokenBy F.ENTRY lot.now (V.map view.old disk.old lot.now)) }
     ensures looked { Looked D.Disk V.View lot.now view.old disk.old view.new disk.new }
     ensures faults { IfErr result IsWalkFault }
     ensures failed { IsErrOf result FaultDisk → Rose (D.state disk.old).faults (D.state disk.new).faults }
@@ -103,7 +107,9 @@ pub(crate) fn step<D: Disk, V: View<D>, F: Form>(
     ensures blocked { from ≡ Blocked → result ≡ Ok Blocked }
     ensures fits { IfOk result (PlaceFits lot.now) }
     ensures is { V.shows lot.now view.old disk.old → IfOk result (PlaceIs (V.map view.old disk.old lot.now)) }
-    ensures broken { V.shows lot.now view.old disk.old → PlaceIs (V.map view.old disk.old lot.now) from → IfErr result (IsBrokenBy F.ENTRY lot.now (V.map view.old disk.old lot.now)) }
+    ensures reached { V.shows lot.now view.old disk.old → PlaceReached F.ENTRY lot.now (V.map view.old disk.old lot.now) from → IfOk result (PlaceReached F.ENTRY lot.now (V.map view.old disk.old lot.now)) }
+    ensures named { V.shows lot.now view.old disk.old → IfOk result (PlaceNamed F.ENTRY (V.map view.old disk.old lot.now) from name.now) }
+    ensures broken { V.shows lot.now view.old disk.old → PlaceIs (V.map view.old disk.old lot.now) from → PlaceReached F.ENTRY lot.now (V.map view.old disk.old lot.now) from → IfErr result (IsBrokenBy F.ENTRY lot.now (V.map view.old disk.old lot.now)) }
     ensures looked { Looked D.Disk V.View lot.now view.old disk.old view.new disk.new }
     ensures faults { IfErr result IsWalkFault }
     ensures failed { IsErrOf result FaultDisk → Rose (D.state disk.old).faults (D.state disk.new).faults }
@@ -138,6 +144,7 @@ pub(crate) fn walk<D: Disk, V: View<D>, F: Form>(
     ensures sound { (mode k : ℕ) (t : Tree) → V.shows lot.now view.old disk.old → MapRecovers (form_of F.VERSION) mode lot.now (V.map view.old disk.old lot.now) t k → IfErr result (λ e. e ≡ FaultDisk) }
     ensures fits { IfOk result (PlaceFits lot.now) }
     ensures is { V.shows lot.now view.old disk.old → IfOk result (PlaceIs (V.map view.old disk.old lot.now)) }
+    ensures reached { V.shows lot.now view.old disk.old → IfOk result (PlaceReached F.ENTRY lot.now (V.map view.old disk.old lot.now)) }
     ensures broken { V.shows lot.now view.old disk.old → IfErr result (IsBrokenBy F.ENTRY lot.now (V.map view.old disk.old lot.now)) }
     ensures looked { Looked D.Disk V.View lot.now view.old disk.old view.new disk.new }
     ensures faults { IfErr result IsWalkFault }

@@ -1,16 +1,20 @@
 //! What a change needs: nodes, blocks, and one more accepted operation.
-ghost use Rattle.std.specs.Prelude.{◌≡◌, ◌≤◌, ℕ, true, None, IfErr, IsErrOf, MatchResult, length};
+ghost use Rattle.std.specs.Prelude.{◌≡◌, ◌≤◌, ◌+◌, ℕ, true, false, None, OnOk, IfErr, IsErrOf, MatchResult, length};
 ghost use Rattle.ice_base.specs.Disk.{Rose};
 ghost use Rattle.ice_base.specs.Lots.{is_sited};
+ghost use Rattle.ice_base.specs.Used.{free_count};
 ghost use Rattle.ice_base.specs.Views.{Looked};
+ghost use Rattle.ice_base.specs.declared.fault.Rule.{Rule};
 ghost use Rattle.tree_spec.specs.Costs.{form_of, map_cost, file_blocks, dir_blocks};
 ghost use Rattle.tree_spec.specs.Replies.{refused_of};
 ghost use Rattle.tree_spec.specs.Trees.{Tree};
-ghost use Rattle.tree_spec.specs.declared.reply.Refusal.TheVariants.{Fault};
+ghost use Rattle.tree_spec.specs.declared.reply.Refusal.TheVariants.{Fault, Damaged};
 ghost use Rattle.ice_file.specs.Files.{longest_file};
 ghost use Rattle.ice_reads.specs.Recovers.{MapRecovers};
+ghost use Rattle.ice_tree.specs.Broken.{IsBroken};
 ghost use Rattle.ice_tree.specs.Changes.{Needs, nodes_refusal, blocks_refusal, done_refusal};
-ghost use Rattle.ice_tree.specs.Outcomes.{RefusedAs, IsTreeRefusal};
+ghost use Rattle.ice_tree.specs.Grounds.{CanCount, HasFree};
+ghost use Rattle.ice_tree.specs.Outcomes.{RefusedAs, IsTreeRefusal, rule_number};
 ghost use Rattle.ice_tree.specs.Stages.{quota_refusal};
 
 use crate::counts::{MOST_DONE, done_of};
@@ -62,6 +66,8 @@ fn check_nodes<D: Disk, K: Keep<D>, P: Pool<D, K>, F: Form>(
     requires { is_sited lot.now (D.state disk.old).size ≡ true }
     ensures nodes { (mode k : ℕ) (t next : Tree) → K.shows lot.now keep.old disk.old → MapRecovers (form_of F.VERSION) mode lot.now (K.map keep.old disk.old lot.now) t k → Needs (form_of F.VERSION) t next need.now
         → MatchResult result (λ u. nodes_refusal (length lot.now.groups) next ≡ None) (λ r. RefusedAs (refused_of r) (nodes_refusal (length lot.now.groups) next)) }
+    ensures enough { K.shows lot.now keep.old disk.old → OnOk result (need.now.nodes ≤ need.now.lost + free_count true lot.now (K.map keep.old disk.old lot.now)) }
+    ensures damaged { (n : ℕ) → IsErrOf result (Damaged n) → K.shows lot.now keep.old disk.old → (r : Rule) × (n ≡ rule_number r) × IsBroken F.ENTRY lot.now (K.map keep.old disk.old lot.now) r }
     ensures looked { Looked D.Disk K.View lot.now keep.old disk.old keep.new disk.new }
     ensures set { IfErr result IsTreeRefusal }
     ensures failed { IsErrOf result Fault → Rose (D.state disk.old).faults (D.state disk.new).faults }
@@ -91,6 +97,8 @@ fn check_blocks<D: Disk, K: Keep<D>, P: Pool<D, K>, F: Form>(
     requires { is_sited lot.now (D.state disk.old).size ≡ true }
     ensures blocks { (mode k : ℕ) (t next : Tree) → K.shows lot.now keep.old disk.old → MapRecovers (form_of F.VERSION) mode lot.now (K.map keep.old disk.old lot.now) t k → Needs (form_of F.VERSION) t next need.now
         → MatchResult result (λ u. blocks_refusal (length lot.now.groups) (form_of F.VERSION) next ≡ None) (λ r. RefusedAs (refused_of r) (blocks_refusal (length lot.now.groups) (form_of F.VERSION) next)) }
+    ensures enough { K.shows lot.now keep.old disk.old → OnOk result (need.now.blocks ≤ need.now.freed + free_count false lot.now (K.map keep.old disk.old lot.now)) }
+    ensures damaged { (n : ℕ) → IsErrOf result (Damaged n) → K.shows lot.now keep.old disk.old → (r : Rule) × (n ≡ rule_number r) × IsBroken F.ENTRY lot.now (K.map keep.old disk.old lot.now) r }
     ensures looked { Looked D.Disk K.View lot.now keep.old disk.old keep.new disk.new }
     ensures set { IfErr result IsTreeRefusal }
     ensures failed { IsErrOf result Fault → Rose (D.state disk.old).faults (D.state disk.new).faults }
@@ -118,6 +126,8 @@ fn check_done<D: Disk, K: Keep<D>, F: Form>(
     requires { is_sited lot.now (D.state disk.old).size ≡ true }
     ensures done { (mode k : ℕ) (t : Tree) → K.shows lot.now keep.old disk.old → MapRecovers (form_of F.VERSION) mode lot.now (K.map keep.old disk.old lot.now) t k
         → MatchResult result (λ u. done_refusal k ≡ None) (λ r. RefusedAs (refused_of r) (done_refusal k)) }
+    ensures enough { K.shows lot.now keep.old disk.old → OnOk result (CanCount (K.map keep.old disk.old lot.now)) }
+    ensures damaged { (n : ℕ) → IsErrOf result (Damaged n) → K.shows lot.now keep.old disk.old → (r : Rule) × (n ≡ rule_number r) × IsBroken F.ENTRY lot.now (K.map keep.old disk.old lot.now) r }
     ensures looked { Looked D.Disk K.View lot.now keep.old disk.old keep.new disk.new }
     ensures set { IfErr result IsTreeRefusal }
     ensures failed { IsErrOf result Fault → Rose (D.state disk.old).faults (D.state disk.new).faults }
@@ -144,6 +154,8 @@ pub(crate) fn check_quota<D: Disk, K: Keep<D>, P: Pool<D, K>, F: Form>(
     requires { is_sited lot.now (D.state disk.old).size ≡ true }
     ensures quota { (mode k : ℕ) (t next : Tree) → K.shows lot.now keep.old disk.old → MapRecovers (form_of F.VERSION) mode lot.now (K.map keep.old disk.old lot.now) t k → Needs (form_of F.VERSION) t next need.now
         → MatchResult result (λ u. quota_refusal (length lot.now.groups) (form_of F.VERSION) k next ≡ None) (λ r. RefusedAs (refused_of r) (quota_refusal (length lot.now.groups) (form_of F.VERSION) k next)) }
+    ensures enough { K.shows lot.now keep.old disk.old → OnOk result (HasFree lot.now (K.map keep.old disk.old lot.now) need.now) }
+    ensures damaged { (n : ℕ) → IsErrOf result (Damaged n) → K.shows lot.now keep.old disk.old → (r : Rule) × (n ≡ rule_number r) × IsBroken F.ENTRY lot.now (K.map keep.old disk.old lot.now) r }
     ensures looked { Looked D.Disk K.View lot.now keep.old disk.old keep.new disk.new }
     ensures set { IfErr result IsTreeRefusal }
     ensures failed { IsErrOf result Fault → Rose (D.state disk.old).faults (D.state disk.new).faults }

@@ -1,13 +1,15 @@
-use Rattle.std.proofs.Common.{ℕ, ◌≡◌, [], ◌-◌, take, drop, sym, ◌∙◌, arith, subst}
+use Rattle.std.proofs.Common.{ℕ, ◌≡◌, List, [], ◌-◌, take, drop, sym, ◌∙◌, arith, subst}
 use Rattle.std.proofs.lemmas.Result.{err_from_is_err_and}
 use Rattle.ice_base.specs.declared.fault.OpFault.TheVariants.{Disk as FaultDisk}
 use Rattle.tree_spec.specs.Trees.{Tree, Found, child}
 use Rattle.tree_spec.specs.Costs.{form_of}
 use Rattle.ice_reads.specs.Tables.{Map, own_in, rows_in, inode_named}
 use Rattle.ice_reads.specs.Reads.{Reads}
-use Rattle.ice_tree.specs.Places.{place_by}
+use Rattle.ice_tree.specs.Broken.{IsBrokenBy}
+use Rattle.ice_tree.specs.Places.{place_by, PlaceIs, PlaceReached, PlaceNamed}
 use Rattle.ice_tree.proofs.EndLaws.{names-last, ends-root, ends-more}
 use Rattle.ice_tree.proofs.PlaceLaws.{next-place, next-fault}
+use Rattle.ice_tree.proofs.SpotLaws.{last-is}
 use Rattle.ice_tree.proofs.ends.find_ends.Goals as goal
 
 pub returns-then-len-depth-clause-found : goal.returns-then-len-depth-clause-found
@@ -49,3 +51,37 @@ returns-clause-found g c = λ mode k t s r.
     (subst (λ (m : Map). (i h : ℕ) (u : Tree) → Reads f c.args.lot.now (own_in f m) i h u → c.in_ok-parent.parent ≡ place_by i (Found u) → c.in_ok-end.end ≡ place_by (inode_named c.name-name.result (rows_in f (own_in f m i))) (child c.name-name.result u)) looked.map
     (λ i h u q is. e.place i h u (looked.shows s) q is))
     e.missing e.blocked)
+
+pub returns-in_err-parent-clause-broken : goal.returns-in_err-parent-clause-broken
+returns-in_err-parent-clause-broken g c = λ s.
+    let p = err_from_is_err_and c.from_residual-in_err-parent.result c.from_residual-in_err-parent.ensures.1 in
+    rw (p.1, p.2) (c.in_err-parent.ensures.broken s)
+
+pub returns-in_err-end-clause-broken : goal.returns-in_err-end-clause-broken
+returns-in_err-end-clause-broken g c = λ s.
+    let p = err_from_is_err_and c.from_residual-in_err-end.result c.from_residual-in_err-end.ensures.1 in
+    let e = c.in_err-end.ensures in
+    let looked = c.walk-2.ensures.looked in
+    rw (p.1, p.2)
+    (subst (λ (m : Map). IsBrokenBy g.F.Form.ENTRY c.args.lot.now m c.in_err-end.field-0.0) looked.map
+    (e.broken (looked.shows s) (subst (λ (m : Map). PlaceIs m c.in_ok-parent.parent) (sym looked.map) (c.in_ok-parent.ensures.is s))
+    (subst (λ (m : Map). PlaceReached g.F.Form.ENTRY c.args.lot.now m c.in_ok-parent.parent) (sym looked.map) (c.in_ok-parent.ensures.reached s))))
+
+pub returns-clause-are : goal.returns-clause-are
+returns-clause-are g c = λ s.
+    let e = c.in_ok-end.ensures in
+    let looked = c.walk-2.ensures.looked in
+    record {
+      parent = c.in_ok-parent.ensures.is s;
+      end = subst (λ (m : Map). PlaceIs m c.in_ok-end.end) looked.map (e.is (looked.shows s));
+      parent_reached = c.in_ok-parent.ensures.reached s;
+      end_reached = subst (λ (m : Map). PlaceReached g.F.Form.ENTRY c.args.lot.now m c.in_ok-end.end) looked.map
+      (e.reached (looked.shows s) (subst (λ (m : Map). PlaceReached g.F.Form.ENTRY c.args.lot.now m c.in_ok-parent.parent) (sym looked.map) (c.in_ok-parent.ensures.reached s)));
+    }
+
+pub returns-clause-named : goal.returns-clause-named
+returns-clause-named g c = λ s below.
+    let looked = c.walk-2.ensures.looked in
+    subst (λ (name : List ℕ). PlaceNamed g.F.Form.ENTRY (g.V.View.map c.args.view.now c.args.disk.now c.args.lot.now) c.in_ok-parent.parent name c.in_ok-end.end)
+    (last-is c.args.path.now c.args.depth (c.len-last.result - 1) c.name-name.result (omega arith) (omega arith) (c.name-name.ensures []))
+    (subst (λ (m : Map). PlaceNamed g.F.Form.ENTRY m c.in_ok-parent.parent c.name-name.result c.in_ok-end.end) looked.map (c.in_ok-end.ensures.named (looked.shows s)))

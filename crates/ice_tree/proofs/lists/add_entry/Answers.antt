@@ -8,7 +8,8 @@ use Rattle.ice_reads.specs.Reads.{Reads}
 use Rattle.ice_reads.specs.Tables.{own_in}
 use Rattle.ice_reads.proofs.Focus.{same_Some}
 use Rattle.ice_tree.specs.Broken.{BadEntry, IsBrokenBy}
-use Rattle.ice_tree.proofs.BrokenLaws.{entry-broken, row-broken}
+use Rattle.ice_tree.specs.Places.{Reached}
+use Rattle.ice_tree.proofs.BrokenLaws.{entry-broken, row-broken, row-reached}
 use Rattle.ice_tree.proofs.PlaceLaws.{rows-own}
 use Rattle.ice_tree.proofs.ListLaws.{row-tree, shows-dir, shows-file, listed-row, entry-fails}
 use Rattle.ice_tree.proofs.lists.add_entry.Goals as goal
@@ -50,20 +51,22 @@ returns-clause-added g c = λ h es row s r is.
     c.add_entry.ensures.entries ∙ ap (λ e. c.args.room.now.entries ++ e ∷ []) (listed-row es row c.entry.new.into c.in_ok-next.next x.0 _ (same_Some _ _ (sym is ∙ here)) x.1 refl kind)
 
 pub returns-in_err-next-clause-broken : goal.returns-in_err-next-clause-broken
-returns-in_err-next-clause-broken g c = λ s has.
+returns-in_err-next-clause-broken g c = λ s reached has.
     let p = err_from_is_err_and c.from_residual.result c.from_residual.ensures.1 in
     let e = c.in_err-next.ensures in
     rw (p.1, p.2)
-    (entry-broken g.F.Form.ENTRY g.F.Form.is_one.1 c.args.lot.now (g.V.View.map c.args.view.now c.args.disk.now c.args.lot.now) c.args.number c.requires.number c.args.k has _ e.faults
+    (entry-broken g.F.Form.ENTRY g.F.Form.is_one.1 c.args.lot.now (g.V.View.map c.args.view.now c.args.disk.now c.args.lot.now) c.args.number reached c.args.k has _ e.faults
     (λ q. e.kind (ap (λ y. Err y) q) s) (λ q. e.pointer (ap (λ y. Err y) q) s) (λ q. e.name (ap (λ y. Err y) q) s))
 
 pub returns-in_err-place-clause-broken : goal.returns-in_err-place-clause-broken
-returns-in_err-place-clause-broken g c = λ s has.
+returns-in_err-place-clause-broken g c = λ s reached has.
     let m : ℕ → List ℕ = g.V.View.map c.args.view.now c.args.disk.now c.args.lot.now in
     let looked = c.entry.ensures.looked in
     let p = err_from_is_err_and c.from_residual-in_err-place.result c.from_residual-in_err-place.ensures.1 in
     rw (p.1, p.2)
     (subst (λ (n : ℕ → List ℕ). IsBrokenBy g.F.Form.ENTRY c.args.lot.now n c.in_err-place.field-0.0) looked.map
-    (c.in_err-place.ensures.broken (looked.shows s) (λ past.
-    subst (BadEntry g.F.Form.ENTRY c.args.lot.now) (sym looked.map)
-    (row-broken g.F.Form.ENTRY g.F.Form.is_one.1 c.args.lot.now m c.args.number c.requires.number has.is c.args.k c.entry.new.into c.in_ok-next.next (c.in_ok-next.ensures.row s) past))))
+    (c.in_err-place.ensures.broken (looked.shows s)
+    (subst (λ (n : ℕ → List ℕ). Reached g.F.Form.ENTRY c.args.lot.now n c.in_ok-next.next) (sym looked.map) (row-reached g.F.Form.ENTRY c.args.lot.now m c.args.number c.args.k c.entry.new.into c.in_ok-next.next reached has.is (c.in_ok-next.ensures.row s)))
+    (λ past.
+    subst (λ (n : ℕ → List ℕ). BadEntry g.F.Form.ENTRY c.args.lot.now n n) (sym looked.map)
+    (row-broken g.F.Form.ENTRY g.F.Form.is_one.1 c.args.lot.now m c.args.number reached has.is c.args.k c.entry.new.into c.in_ok-next.next (c.in_ok-next.ensures.row s) past))))

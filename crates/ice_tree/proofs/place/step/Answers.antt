@@ -1,11 +1,13 @@
-use Rattle.std.proofs.Common.{IfOk, IfErr, Err, ℕ, List, ◌+◌, ◌≡◌, ap, sym, ◌∙◌, subst}
-use Rattle.std.proofs.lemmas.Result.{err_from_is_err_and}
+use Rattle.std.proofs.Common.{IfOk, IfErr, Err, Some, ℕ, List, ◌+◌, ◌≡◌, ap, sym, ◌∙◌, subst, arith, inr}
+use Rattle.std.proofs.lemmas.Result.{err_from_is_err_and, IfOk-weaker}
 use Rattle.tree_spec.specs.Costs.{form_of}
 use Rattle.ice_reads.specs.Tables.{own_in}
 use Rattle.ice_reads.specs.Reads.{Reads}
 use Rattle.ice_tree.specs.Broken.{BadEntry, IsBrokenBy}
-use Rattle.ice_tree.specs.Places.{PlaceFits}
-use Rattle.ice_tree.proofs.BrokenLaws.{named-broken}
+use Rattle.ice_dir.specs.Rows.{look_up, rows_of}
+use Rattle.ice_tree.specs.declared.place.Place.TheVariants.{Dir}
+use Rattle.ice_tree.specs.Places.{Reached, PlaceOf, PlaceFits, PlaceIs, PlaceReached, PlaceNamed}
+use Rattle.ice_tree.proofs.BrokenLaws.{named-broken, named-reached, find-broken, place-named}
 use Rattle.ice_tree.proofs.PlaceLaws.{step-none, step-some, step-fails}
 use Rattle.ice_tree.proofs.place.step.Goals as goal
 
@@ -39,12 +41,42 @@ returns-in-Some-clause-sound g c = λ i h t s r is.
     let looked = c.find.ensures.looked in
     c.enter.ensures.sound (h + 1) x.there (looked.shows s) (subst (λ m. Reads f c.args.lot.now (own_in f m) c.in-Some.next (h + 1) x.there) (sym looked.map) x.reads)
 
-pub returns-in-Some-clause-broken : goal.returns-in-Some-clause-broken
-returns-in-Some-clause-broken g c = λ s is.
+pub returns-in_err-find-in-Dir-clause-broken : goal.returns-in_err-find-in-Dir-clause-broken
+returns-in_err-find-in-Dir-clause-broken g c = λ s is reached.
+    let p = err_from_is_err_and c.from_residual.result c.from_residual.ensures.1 in
+    let e = c.in_err-find-in-Dir.ensures in
+    let m : ℕ → List ℕ = g.V.View.map c.args.view.now c.args.disk.now c.args.lot.now in
+    let fits = subst (PlaceFits c.args.lot.now) c.in-Dir.is c.requires.fits in
+    let here = subst (PlaceIs m) c.in-Dir.is is in
+    let by = subst (PlaceReached g.F.Form.ENTRY c.args.lot.now m) c.in-Dir.is reached in
+    rw (p.1, p.2)
+    (find-broken g.F.Form.ENTRY g.F.Form.is_one.1 c.args.lot.now m c.in-Dir.number by _ e.faults (λ k. e.kind (ap (λ y. Err y) k) s)
+    (inr (record { kind = here.0; few = omega (arith, here.1, fits.1) })) here.0 (λ k. e.pointer (ap (λ y. Err y) k) s))
+
+pub returns-in-Some-clause-reached : goal.returns-in-Some-clause-reached
+returns-in-Some-clause-reached g c = λ s reached.
     let m : ℕ → List ℕ = g.V.View.map c.args.view.now c.args.disk.now c.args.lot.now in
     let looked = c.find.ensures.looked in
-    let fits = subst (PlaceFits c.args.lot.now) c.in-Dir.is c.requires.fits in
+    let by = subst (PlaceReached g.F.Form.ENTRY c.args.lot.now m) c.in-Dir.is reached in
+    let next = named-reached g.F.Form.ENTRY c.args.lot.now m c.in-Dir.number c.args.name.now c.in-Some.next by (c.in_ok-find-in-Dir.ensures.is s) (sym (c.in_ok-find-in-Dir.ensures.found s) ∙ c.in-Some.is) in
+    subst (λ (n : ℕ → List ℕ). IfOk c.enter.result (PlaceReached g.F.Form.ENTRY c.args.lot.now n)) looked.map
+    (c.enter.ensures.reached (looked.shows s) (subst (λ (n : ℕ → List ℕ). Reached g.F.Form.ENTRY c.args.lot.now n c.in-Some.next) (sym looked.map) next))
+
+pub returns-in-Some-clause-named : goal.returns-in-Some-clause-named
+returns-in-Some-clause-named g c = λ s.
+    let m : ℕ → List ℕ = g.V.View.map c.args.view.now c.args.disk.now c.args.lot.now in
+    let there : look_up c.args.name.now (rows_of g.F.Form.ENTRY m c.in-Dir.number) ≡ Some c.in-Some.next = sym (c.in_ok-find-in-Dir.ensures.found s) ∙ c.in-Some.is in
+    subst (λ p. IfOk c.enter.result (PlaceNamed g.F.Form.ENTRY m p c.args.name.now)) (sym c.in-Dir.is)
+    (IfOk-weaker c.enter.result (PlaceOf c.in-Some.next) (PlaceNamed g.F.Form.ENTRY m (Dir c.in-Dir.number c.in-Dir.size) c.args.name.now) (λ p at. place-named g.F.Form.ENTRY m c.in-Dir.number c.in-Dir.size c.args.name.now c.in-Some.next there p at) c.enter.ensures.at)
+
+pub returns-in-Some-clause-broken : goal.returns-in-Some-clause-broken
+returns-in-Some-clause-broken g c = λ s is reached.
+    let m : ℕ → List ℕ = g.V.View.map c.args.view.now c.args.disk.now c.args.lot.now in
+    let looked = c.find.ensures.looked in
+    let by = subst (PlaceReached g.F.Form.ENTRY c.args.lot.now m) c.in-Dir.is reached in
+    let there = sym (c.in_ok-find-in-Dir.ensures.found s) ∙ c.in-Some.is in
+    let next = named-reached g.F.Form.ENTRY c.args.lot.now m c.in-Dir.number c.args.name.now c.in-Some.next by (c.in_ok-find-in-Dir.ensures.is s) there in
     subst (λ (n : ℕ → List ℕ). IfErr c.enter.result (IsBrokenBy g.F.Form.ENTRY c.args.lot.now n)) looked.map
-    (c.enter.ensures.broken (looked.shows s) (λ past.
-    subst (BadEntry g.F.Form.ENTRY c.args.lot.now) (sym looked.map)
-    (named-broken g.F.Form.ENTRY g.F.Form.is_one.1 c.args.lot.now m c.in-Dir.number fits.0 (c.in_ok-find-in-Dir.ensures.is s) c.args.name.now _ (sym (c.in_ok-find-in-Dir.ensures.found s) ∙ c.in-Some.is) past)))
+    (c.enter.ensures.broken (looked.shows s) (subst (λ (n : ℕ → List ℕ). Reached g.F.Form.ENTRY c.args.lot.now n c.in-Some.next) (sym looked.map) next) (λ past.
+    subst (λ (n : ℕ → List ℕ). BadEntry g.F.Form.ENTRY c.args.lot.now n n) (sym looked.map)
+    (named-broken g.F.Form.ENTRY g.F.Form.is_one.1 c.args.lot.now m c.in-Dir.number by (c.in_ok-find-in-Dir.ensures.is s) c.args.name.now _ there past)))

@@ -6,7 +6,7 @@ use Rattle.tree_spec.specs.Costs.{form_of}
 use Rattle.ice_reads.specs.Tables.{own_in, rows_in, inode_named}
 use Rattle.ice_reads.specs.Reads.{Reads}
 use Rattle.ice_tree.specs.Broken.{IsBrokenBy}
-use Rattle.ice_tree.specs.Places.{place_by, place_at, PlaceIs}
+use Rattle.ice_tree.specs.Places.{place_by, place_at, Root, PlaceIs, PlaceReached}
 use Rattle.ice_tree.proofs.Names.{names-next}
 use Rattle.ice_tree.proofs.PlaceLaws.{next-place, next-fault}
 use Rattle.ice_tree.proofs.place.walk.Goals as goal
@@ -24,6 +24,24 @@ returns-in_err-place-2-clause-sound g c = λ mode k t s recovers.
     (λ i' h u r is. e.sound i' h u (i.looked.shows s) r is))
     e.missing e.blocked)
 
+pub returns-in_err-place-clause-broken : goal.returns-in_err-place-clause-broken
+returns-in_err-place-clause-broken g c = λ s.
+    let p = err_from_is_err_and c.from_residual.result c.from_residual.ensures.1 in
+    rw (p.1, p.2) (c.in_err-place.ensures.broken s Root)
+
+pub loop-k-init : goal.loop-k-init
+loop-k-init g c = record {
+  looked = c.in_ok-place.ensures.looked;
+  fits = c.in_ok-place.ensures.fits;
+  is = c.in_ok-place.ensures.is;
+  reached = λ s. c.in_ok-place.ensures.reached s Root;
+  from = omega arith;
+  place = λ mode done t s recovers.
+      let f = form_of g.F.Form.VERSION in
+      let none : c.args.depth - c.args.depth ≡ 0 = omega arith in
+      c.in_ok-place.ensures.place 0 t s recovers.holds.reads ∙ ap (λ n. place_at f (own_in f (g.V.View.map c.args.view.now c.args.disk.now c.args.lot.now)) (take n (drop c.args.depth c.args.path.now)) t) (sym none);
+}
+
 pub returns-in_err-place-2-clause-broken : goal.returns-in_err-place-2-clause-broken
 returns-in_err-place-2-clause-broken g c = λ s.
     let p = err_from_is_err_and c.from_residual-in_err-place-2.result c.from_residual-in_err-place-2.ensures.1 in
@@ -31,7 +49,8 @@ returns-in_err-place-2-clause-broken g c = λ s.
     let i = c.loop-k.invariant in
     rw (p.1, p.2)
     (subst (λ (m : ℕ → List ℕ). IsBrokenBy g.F.Form.ENTRY c.args.lot.now m c.in_err-place-2.field-0.0) i.looked.map
-    (e.broken (i.looked.shows s) (subst (λ (m : ℕ → List ℕ). PlaceIs m c.loop-k.place) (sym i.looked.map) (i.is s))))
+    (e.broken (i.looked.shows s) (subst (λ (m : ℕ → List ℕ). PlaceIs m c.loop-k.place) (sym i.looked.map) (i.is s))
+    (subst (λ (m : ℕ → List ℕ). PlaceReached g.F.Form.ENTRY c.args.lot.now m c.loop-k.place) (sym i.looked.map) (i.reached s))))
 
 pub loop-k-preserved : goal.loop-k-preserved
 loop-k-preserved g c =
@@ -42,6 +61,8 @@ loop-k-preserved g c =
       looked = search rules;
       fits = e.fits;
       is = λ s. subst (λ (m : ℕ → List ℕ). PlaceIs m c.in_ok-place-2.place) i.looked.map (e.is (i.looked.shows s));
+      reached = λ s. subst (λ (m : ℕ → List ℕ). PlaceReached g.F.Form.ENTRY c.args.lot.now m c.in_ok-place-2.place) i.looked.map
+      (e.reached (i.looked.shows s) (subst (λ (m : ℕ → List ℕ). PlaceReached g.F.Form.ENTRY c.args.lot.now m c.loop-k.place) (sym i.looked.map) (i.reached s)));
       from = omega arith;
       place = λ mode done t s recovers.
           next-place f c.args.lot.now (own_in f (g.V.View.map c.args.view.now c.args.disk.now c.args.lot.now)) (take (c.loop-k.k - c.args.depth) (drop c.args.depth c.args.path.now)) c.name-name.result t c.loop-k.place c.in_ok-place-2.place

@@ -1,0 +1,80 @@
+-- Which rule a refusal names, and that the lot breaks it.
+use Rattle.std.proofs.Common.{◌≡◌, ℕ, subst, Bool, true, false, List, Some, None, Option, Result, Ok, Err, IsErrOf, refl, ap, sym, ◌∙◌}
+use Rattle.std.specs.Prelude.{◌==◌, not, ◌^◌, nat_lt, slice_index, if◌then◌else◌, IfErr, ⊤}
+use Rattle.ice_base.specs.Fields.{word_at, long_at}
+use Rattle.ice_base.specs.Lots.{LotView, sub_address}
+use Rattle.ice_base.specs.declared.fault.OpFault.{OpFault}
+use Rattle.ice_base.specs.declared.fault.OpFault.TheVariants.{Disk, Damaged, NoSpace, NoNodes}
+use Rattle.ice_base.specs.declared.fault.Rule.{Rule}
+use Rattle.ice_base.specs.declared.fault.Rule.TheVariants as rule
+use Rattle.ice_layout.specs.Subs.{sub_rule, sub_magic}
+use Rattle.tree_spec.specs.declared.reply.Refusal.{Refusal}
+use Rattle.tree_spec.specs.declared.reply.Refusal.TheVariants as code
+use Rattle.ice_reads.proofs.Focus.{same_Some, None≢Some}
+use Rattle.ice_tree.specs.Broken.{IsBroken, IsBrokenIn, IsBrokenBy, IsFaultBy}
+use Rattle.ice_tree.specs.Outcomes.{rule_number, refusal_by, IsSubFault}
+
+-- a fault as a refusal names the fault's rule
+pub fault-names : (P : Rule → Type 0) (e : OpFault) (r : Refusal) → r ≡ refusal_by e → IsFaultBy P e → {A : Type 0} (n : ℕ) → IsErrOf {T = A} (Err r) (code.Damaged n) → (x : Rule) × (n ≡ rule_number x) × P x
+fault-names P e r is h {A} n named = by e h (sym is ∙ error named)
+  where
+    error : IsErrOf {T = A} (Err r) (code.Damaged n) → r ≡ code.Damaged n
+    error q = cc
+
+    same : (i j : ℕ) → code.Damaged i ≡ code.Damaged j → j ≡ i
+    same i j q = cc
+
+    no : code.Fault ≡ code.Damaged n → ⊥
+    no q = cc
+
+    by : (e : OpFault) → IsFaultBy P e → refusal_by e ≡ code.Damaged n → (x : Rule) × (n ≡ rule_number x) × P x
+    by Disk h q = absurd (no q)
+    by (Damaged x) h q = (x, same (rule_number x) n q, h)
+    by NoSpace h q = absurd h
+    by NoNodes h q = absurd h
+
+-- the rules of the sub-super block alone
+abbrev IsSubRule : Rule → Type 0
+IsSubRule rule.Magic = ⊤
+IsSubRule rule.Version = ⊤
+IsSubRule rule.Slot = ⊤
+IsSubRule rule.Mode = ⊤
+IsSubRule rule.Done = ⊤
+IsSubRule _ = ⊥
+
+first-rule : (a b c d e : Bool) (r : Rule) → (if not a then Some rule.Magic else if not b then Some rule.Version else if not c then Some rule.Slot else if not d then Some rule.Mode else if not e then Some rule.Done else None) ≡ Some r → IsSubRule r
+first-rule false b c d e r h = subst IsSubRule (same_Some _ _ h) tt
+first-rule true false c d e r h = subst IsSubRule (same_Some _ _ h) tt
+first-rule true true false d e r h = subst IsSubRule (same_Some _ _ h) tt
+first-rule true true true false e r h = subst IsSubRule (same_Some _ _ h) tt
+first-rule true true true true false r h = subst IsSubRule (same_Some _ _ h) tt
+first-rule true true true true true r h = absurd (None≢Some _ h)
+
+sub-names : (slot : ℕ) (bytes : List ℕ) (r : Rule) → sub_rule slot bytes ≡ Some r → IsSubRule r
+unfolding sub_rule
+sub-names slot bytes r h = first-rule (word_at bytes 0 == sub_magic) (word_at bytes 4 == 1) (slice_index bytes 8 == slot) (slice_index bytes 9 == 0) (nat_lt (long_at bytes 16) (2 ^ 63)) r h
+
+module _ (entry : ℕ) (lot : LotView) (m : ℕ → List ℕ) where
+  sub-broken : (r : Rule) → sub_rule lot.slot (m sub_address) ≡ Some r → IsBroken entry lot m r
+  sub-broken rule.Magic h = h
+  sub-broken rule.Version h = h
+  sub-broken rule.Slot h = h
+  sub-broken rule.Mode h = h
+  sub-broken rule.Done h = h
+  sub-broken rule.Counts h = absurd (sub-names lot.slot (m sub_address) rule.Counts h)
+  sub-broken rule.Kind h = absurd (sub-names lot.slot (m sub_address) rule.Kind h)
+  sub-broken rule.Pointer h = absurd (sub-names lot.slot (m sub_address) rule.Pointer h)
+  sub-broken rule.BlockTwice h = absurd (sub-names lot.slot (m sub_address) rule.BlockTwice h)
+  sub-broken rule.InodeTwice h = absurd (sub-names lot.slot (m sub_address) rule.InodeTwice h)
+  sub-broken rule.Name h = absurd (sub-names lot.slot (m sub_address) rule.Name h)
+  sub-broken rule.NameTwice h = absurd (sub-names lot.slot (m sub_address) rule.NameTwice h)
+  sub-broken rule.Bitmap h = absurd (sub-names lot.slot (m sub_address) rule.Bitmap h)
+  sub-broken rule.Depth h = absurd (sub-names lot.slot (m sub_address) rule.Depth h)
+  sub-broken rule.Header h = absurd (sub-names lot.slot (m sub_address) rule.Header h)
+
+  -- a look at the sub-super block
+  pub sub-fault : (e : OpFault) → IsSubFault e → ((r : Rule) → e ≡ Damaged r → sub_rule lot.slot (m sub_address) ≡ Some r) → IsBrokenBy entry lot m e
+  sub-fault Disk h named = tt
+  sub-fault (Damaged r) h named = sub-broken r (named r refl)
+  sub-fault NoSpace h named = absurd h
+  sub-fault NoNodes h named = absurd h
