@@ -4,6 +4,7 @@ pub mod MoveLaws
 pub mod DueLaws
 pub mod PieceLaws
 pub mod WriteLaws
+pub mod GrowthLaws
 pub mod SetLaws
 pub mod CutLaws
 pub mod FileLaws

@@ -4,16 +4,12 @@ use Rattle.std.proofs.lemmas.Bool.Decides.{nat_tests}
 use Rattle.std.proofs.lemmas.Nat.{div-add-mod', mod_below}
 use Rattle.std.proofs.lemmas.List.Edits.{length-between, get_or-between}
 use Rattle.ice_base.specs.Lots.{LotView}
-use Rattle.ice_base.specs.Spare.{has}
-use Rattle.ice_base.specs.Used.{Reserved, counted, free_count}
-use Rattle.ice_base.proofs.UsedLaws.{data_place}
 use Rattle.ice_map.specs.declared.codec.Inode.{Inode}
-use Rattle.ice_map.specs.Maps.{needs, uses}
+use Rattle.ice_map.specs.Maps.{needs}
 use Rattle.ice_file.specs.Own.{MadeOf, blocks_for}
 use Rattle.ice_file.specs.Files.{byte_of}
-use Rattle.ice_file.specs.Writes.{Moved, PutPiece, Written, content_of, up_to, blocks_with, uses_of}
+use Rattle.ice_file.specs.Writes.{PutPiece, Written, content_of, up_to, blocks_with, uses_of}
 use Rattle.ice_file.proofs.MoveLaws.{moved-then, moved-refl}
-use Rattle.ice_file.proofs.OwnLaws.{length-uses, other-used}
 
 -- nothing written yet
 pub written-none : (lot : LotView) (m : ℕ → List ℕ) (x : Inode) (c at : ℕ) (bytes : List ℕ) → MadeOf lot m x c → Written lot m m x x c c at at bytes
@@ -145,40 +141,6 @@ uses-less c d h = grind (arith, nat_tests)
 
 pub uses-needs : (c : ℕ) → needs c + uses_of c ≡ uses_of (c + 1)
 uses-needs c = grind (arith, nat_tests)
-
-pub none-step : (lot : LotView) (m0 m1 : ℕ → List ℕ) (x y : Inode) (size at end k count : ℕ) (bytes : List ℕ) → Written lot m0 m1 x y (blocks_for size) count at (up_to at end k) bytes → k ≡ count → k < blocks_for end
-    → free_count false lot m1 < needs count → free_count false lot m0 + uses_of (blocks_for size) < uses_of (blocks_with size end)
-none-step lot m0 m1 x y size at end k count bytes w e l f =
-    let g = w.moved.marks.free in
-    let a = length-uses m0 x (blocks_for size) in
-    let b = length-uses m1 y count in
-    let n = uses-needs count in
-    let grows = count-grows end size in
-    let same : blocks_with end size ≡ blocks_with size end = ap blocks_for (omega arith) in
-    let u = uses-less (count + 1) (blocks_with size end) (omega arith) in
-    omega arith
-
-pub full-step : (lot : LotView) (m0 m1 : ℕ → List ℕ) (x y : Inode) (size at end k count : ℕ) (bytes : List ℕ) → Written lot m0 m1 x y (blocks_for size) count at (up_to at end k) bytes → k ≡ count → k < blocks_for end
-    → uses_of (blocks_for size) ≤ counted false m0 → 4294967296 ≤ counted false m1 + needs count → 4294967296 + uses_of (blocks_for size) ≤ counted false m0 + uses_of (blocks_with size end)
-full-step lot m0 m1 x y size at end k count bytes w e l h f =
-    let a = length-uses m0 x (blocks_for size) in
-    let b = length-uses m1 y count in
-    let g = w.moved.marks.counts (omega arith) in
-    let n = uses-needs count in
-    let grows = count-grows end size in
-    let same : blocks_with end size ≡ blocks_with size end = ap blocks_for (omega arith) in
-    let u = uses-less (count + 1) (blocks_with size end) (omega arith) in
-    omega arith
-
--- what holds no data stays marked used
-pub reserved-moved : (lot : LotView) (m0 m1 : ℕ → List ℕ) (x y : Inode) (c d : ℕ) → MadeOf lot m0 x c → Moved lot m0 m1 x y c d → Reserved lot m0 → Reserved lot m1
-reserved-moved lot m0 m1 x y c d made moved r = record {
-  set = λ b h p. other-used lot m0 m1 (uses m0 x c) (uses m1 y d) b moved.marks (r.set b h p)
-      (elim (has (uses m0 x c) b) as (λ t. has (uses m0 x c) b ≡ t → t ≡ false) [
-        | true ↦ λ t. let q = data_place lot b (made.holds b t).0 in absurd (omega arith)
-        | false ↦ λ t. refl
-      ] refl);
-}
 
 -- fewer bytes have no more blocks
 pub count-less : (len size : ℕ) → len ≤ size → blocks_for len ≤ blocks_for size

@@ -1,3 +1,4 @@
 pub mod Own
 pub mod Files
 pub mod Writes
+pub mod Growth

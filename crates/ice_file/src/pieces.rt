@@ -9,6 +9,7 @@ ghost use Rattle.ice_base.specs.declared.fault.OpFault.TheVariants.{Disk as Faul
 ghost use Rattle.ice_base.specs.declared.fault.Rule.TheVariants.{Counts, Pointer, Bitmap};
 ghost use Rattle.ice_map.specs.Faults.{IsGrowFault};
 ghost use Rattle.ice_map.specs.Maps.{longest, needs};
+ghost use Rattle.ice_file.specs.Growth.{Grew, InodesStay, Strays};
 ghost use Rattle.ice_file.specs.Own.{MadeOf};
 ghost use Rattle.ice_file.specs.Writes.{Reached, PutPiece, due};
 
@@ -32,12 +33,15 @@ fn reach<D: Disk, K: Keep<D>, P: Pool<D, K>, F: Form>(
     requires short { k < longest }
     ensures reached { K.shows lot.now keep.old disk.old → MadeOf lot.now (K.map keep.old disk.old lot.now) inode.old count → IfOk result (Reached lot.now (K.map keep.old disk.old lot.now) (K.map keep.new disk.new lot.now) inode.old inode.new count k) }
     ensures data { IfOk result (λ a. is_data lot.now a ≡ true) }
+    ensures grew { K.shows lot.now keep.old disk.old → OnOk result (Grew lot.now (K.map keep.old disk.old lot.now) (K.map keep.new disk.new lot.now) inode.old inode.new count (max count (k + 1))) }
+    ensures stays { K.shows lot.now keep.old disk.old → InodesStay (K.map keep.old disk.old lot.now) (K.map keep.new disk.new lot.now) }
     ensures pays { OnOk result (K.room keep.old + due (K.held keep.new) inode.new.single (max count (k + 1)) ≤ K.room keep.new + due (K.held keep.old) inode.old.single count + 1) }
     ensures spent { Spent D.Disk K.View lot.now 6 keep.old disk.old keep.new disk.new }
     ensures none { IsErrOf result NoSpace → K.shows lot.now keep.old disk.old → (k ≡ count) × (free_count false lot.now (K.map keep.old disk.old lot.now) < needs count) }
     ensures full { IsErrOf result (Damaged Counts) → K.shows lot.now keep.old disk.old → (k ≡ count) × (2 ^ 32 ≤ counted false (K.map keep.old disk.old lot.now) + needs count) }
     ensures unreserved { IsErrOf result (Damaged Bitmap) → K.shows lot.now keep.old disk.old → ¬ Reserved lot.now (K.map keep.old disk.old lot.now) }
     ensures pointer { IsErrOf result (Damaged Pointer) → K.shows lot.now keep.old disk.old → ¬ MadeOf lot.now (K.map keep.old disk.old lot.now) inode.old count }
+    ensures strays { IsErrOf result (Damaged Pointer) → K.shows lot.now keep.old disk.old → Strays lot.now (K.map keep.new disk.new lot.now) inode.old count k }
     ensures faults { IfErr result IsGrowFault }
     ensures failed { IsErrOf result FaultDisk → Rose (D.state disk.old).faults (D.state disk.new).faults }
 {
@@ -107,12 +111,15 @@ pub fn put_piece<D: Disk, K: Keep<D>, P: Pool<D, K>, F: Form>(
     requires short { k < longest }
     requires fits { start + length bytes.now ≤ 1024 }
     ensures put { K.shows lot.now keep.old disk.old → MadeOf lot.now (K.map keep.old disk.old lot.now) inode.old count → OnOk result (PutPiece lot.now (K.map keep.old disk.old lot.now) (K.map keep.new disk.new lot.now) inode.old inode.new count k start bytes.now) }
+    ensures grew { K.shows lot.now keep.old disk.old → OnOk result (Grew lot.now (K.map keep.old disk.old lot.now) (K.map keep.new disk.new lot.now) inode.old inode.new count (max count (k + 1))) }
+    ensures stays { K.shows lot.now keep.old disk.old → InodesStay (K.map keep.old disk.old lot.now) (K.map keep.new disk.new lot.now) }
     ensures pays { OnOk result (K.room keep.old + due (K.held keep.new) inode.new.single (max count (k + 1)) ≤ K.room keep.new + due (K.held keep.old) inode.old.single count + 2) }
     ensures spent { Spent D.Disk K.View lot.now 7 keep.old disk.old keep.new disk.new }
     ensures none { IsErrOf result NoSpace → K.shows lot.now keep.old disk.old → (k ≡ count) × (free_count false lot.now (K.map keep.old disk.old lot.now) < needs count) }
     ensures full { IsErrOf result (Damaged Counts) → K.shows lot.now keep.old disk.old → (k ≡ count) × (2 ^ 32 ≤ counted false (K.map keep.old disk.old lot.now) + needs count) }
     ensures unreserved { IsErrOf result (Damaged Bitmap) → K.shows lot.now keep.old disk.old → ¬ Reserved lot.now (K.map keep.old disk.old lot.now) }
     ensures pointer { IsErrOf result (Damaged Pointer) → K.shows lot.now keep.old disk.old → ¬ MadeOf lot.now (K.map keep.old disk.old lot.now) inode.old count }
+    ensures strays { IsErrOf result (Damaged Pointer) → K.shows lot.now keep.old disk.old → Strays lot.now (K.map keep.new disk.new lot.now) inode.old count k }
     ensures faults { IfErr result IsGrowFault }
     ensures failed { IsErrOf result FaultDisk → Rose (D.state disk.old).faults (D.state disk.new).faults }
 {

@@ -2,6 +2,7 @@ use Rattle.std.proofs.Common.{◌+◌, max, arith}
 use Rattle.std.proofs.lemmas.Bool.Decides.{nat_tests}
 use Rattle.ice_base.proofs.LotLaws.{sited-few}
 use Rattle.ice_file.proofs.DueLaws.{due-less}
+use Rattle.ice_file.proofs.GrowthLaws.{grew-put, inodes-put, inodes-then}
 use Rattle.ice_file.proofs.PieceLaws.{piece-put}
 use Rattle.ice_file.proofs.pieces.put_piece.Goals as goal
 
@@ -18,3 +19,16 @@ returns-clause-pays g c =
     let q = c.fill.ensures.spent.room in
     let d = due-less (g.K.View.held c.reach.new.keep) (g.K.View.held c.fill.new.keep) c.reach.new.inode.single (max c.args.count (c.args.k + 1)) c.fill.ensures.spent.grows in
     omega arith
+
+pub returns-clause-grew : goal.returns-clause-grew
+returns-clause-grew g c = λ s.
+    grew-put c.args.lot.now (g.K.View.map c.args.keep.now c.args.disk.now c.args.lot.now) (g.K.View.map c.reach.new.keep c.reach.new.disk c.args.lot.now) (g.K.View.map c.fill.new.keep c.fill.new.disk c.args.lot.now)
+    c.args.inode.now c.reach.new.inode c.args.count (max c.args.count (c.args.k + 1)) c.in_ok-at.at (sited-few _ _ c.requires.sited) c.in_ok-at.ensures.data c.in_ok-fill.ensures.puts.only (c.in_ok-at.ensures.grew s)
+
+pub returns-clause-stays : goal.returns-clause-stays
+returns-clause-stays g c = λ s. inodes-then (g.K.View.map c.args.keep.now c.args.disk.now c.args.lot.now) (g.K.View.map c.reach.new.keep c.reach.new.disk c.args.lot.now) (g.K.View.map c.fill.new.keep c.fill.new.disk c.args.lot.now)
+    (c.reach.ensures.stays s) (inodes-put c.args.lot.now (g.K.View.map c.reach.new.keep c.reach.new.disk c.args.lot.now) (g.K.View.map c.fill.new.keep c.fill.new.disk c.args.lot.now) c.in_ok-at.at c.in_ok-at.ensures.data c.in_ok-fill.ensures.puts.only)
+
+pub returns-in_err-fill-clause-stays : goal.returns-in_err-fill-clause-stays
+returns-in_err-fill-clause-stays g c = λ s. inodes-then (g.K.View.map c.args.keep.now c.args.disk.now c.args.lot.now) (g.K.View.map c.reach.new.keep c.reach.new.disk c.args.lot.now) (g.K.View.map c.fill.new.keep c.fill.new.disk c.args.lot.now)
+    (c.reach.ensures.stays s) (inodes-put c.args.lot.now (g.K.View.map c.reach.new.keep c.reach.new.disk c.args.lot.now) (g.K.View.map c.fill.new.keep c.fill.new.disk c.args.lot.now) c.in_ok-at.at c.in_ok-at.ensures.data c.in_err-fill.ensures.puts.only)

@@ -1,6 +1,7 @@
 use Rattle.std.proofs.Common.{rules, ◌≡◌, ◌+◌, max, ℕ, sym, ap, subst, arith}
 use Rattle.ice_file.specs.Writes.{due, Reached}
 use Rattle.ice_file.proofs.DueLaws.{due-grow, due-same}
+use Rattle.ice_file.proofs.GrowthLaws.{grew-one}
 use Rattle.ice_file.proofs.MoveLaws.{grown-reached, had-reached, made-leads, made-single, widened-single}
 use Rattle.ice_file.proofs.pieces.reach.Goals as goal
 
@@ -42,3 +43,7 @@ returns-clause-pays g c =
     (λ ne. widened-single c.args.inode.now c.extend.new.inode c.args.count c.in_ok-taken.taken c.in_ok-taken.ensures.fields ne) in
     let f = ap (due (g.K.View.held c.extend.new.keep) c.extend.new.inode.single) e in
     omega arith
+
+pub returns-clause-grew : goal.returns-clause-grew
+returns-clause-grew g c = λ s.
+    grew-one c.args.lot.now _ _ c.args.inode.now c.extend.new.inode c.args.count (max c.args.count (c.args.k + 1)) c.in_ok-taken.taken (c.in_ok-taken.ensures.grown s) c.in_ok-taken.ensures.data c.in_ok-taken.ensures.single c.in_ok-taken.ensures.fields (omega arith)

@@ -1,9 +1,10 @@
 use Rattle.std.proofs.Common.{rules, ◌+◌, max, ℕ, length, ◌∙◌, sym, ap, subst, refl, arith}
 use Rattle.ice_map.proofs.PutsLaws.{spent-then, spent-by}
 use Rattle.ice_file.specs.Own.{MadeOf, blocks_for}
-use Rattle.ice_file.specs.Writes.{Written, due, up_to}
+use Rattle.ice_file.specs.Writes.{due}
 use Rattle.ice_file.proofs.DueLaws.{due-most}
-use Rattle.ice_file.proofs.WriteLaws.{written-step, count-now, count-next, few-pieces, none-step, full-step, reserved-moved}
+use Rattle.ice_file.proofs.GrowthLaws.{grew-at, grew-then, inodes-then, none-grew, full-grew, reserved-more, misled-from, count-had}
+use Rattle.ice_file.proofs.WriteLaws.{written-step, count-now, count-next, few-pieces, count-grows}
 use Rattle.ice_file.proofs.writes.write_blocks.Goals as goal
 
 pub put_piece-requires-clause-room : goal.put_piece-requires-clause-room
@@ -22,28 +23,37 @@ returns-in_err-put_piece-clause-spent g c =
     spent-by g.D.Disk g.K.View c.args.lot.now 51 44 _ _ _ _ (spent-then g.D.Disk g.K.View c.args.lot.now 44 7 51 _ _ _ _ _ _ c.loop-k.invariant.spent c.put_piece.ensures.spent (omega arith)) (omega arith)
 
 pub returns-in_err-put_piece-clause-none : goal.returns-in_err-put_piece-clause-none
-returns-in_err-put_piece-clause-none g c = λ e s made.
-    let w = c.loop-k.invariant.written s made in
+returns-in_err-put_piece-clause-none g c = λ e s.
     let p = c.in_err-put_piece.ensures.none (search rules) (c.loop-k.invariant.spent.shows s) in
     let n = count-now c.args.inode.now.size c.args.at (c.args.at + length c.args.bytes.now) c.loop-k.k c.max-from.result c.map_length-count.result (omega arith) (omega arith) (omega arith) (omega arith) in
-    none-step c.args.lot.now (g.K.View.map c.args.keep.now c.args.disk.now c.args.lot.now) (g.K.View.map c.loop-k.keep c.loop-k.disk c.args.lot.now) c.args.inode.now c.loop-k.inode c.args.inode.now.size c.args.at (c.args.at + length c.args.bytes.now) c.loop-k.k c.map_length-count.result c.args.bytes.now
-    (subst (λ d. Written c.args.lot.now (g.K.View.map c.args.keep.now c.args.disk.now c.args.lot.now) (g.K.View.map c.loop-k.keep c.loop-k.disk c.args.lot.now) c.args.inode.now c.loop-k.inode (blocks_for c.args.inode.now.size) d c.args.at (up_to c.args.at (c.args.at + length c.args.bytes.now) c.loop-k.k) c.args.bytes.now) n w)
-    p.0 (omega arith) p.1
+    let w = grew-at c.args.lot.now (g.K.View.map c.args.keep.now c.args.disk.now c.args.lot.now) (g.K.View.map c.loop-k.keep c.loop-k.disk c.args.lot.now) c.args.inode.now c.loop-k.inode (blocks_for c.args.inode.now.size) _ c.map_length-count.result n (c.loop-k.invariant.grew s) in
+    let o = count-grows c.args.inode.now.size c.max-from.result in
+    none-grew c.args.lot.now (g.K.View.map c.args.keep.now c.args.disk.now c.args.lot.now) (g.K.View.map c.loop-k.keep c.loop-k.disk c.args.lot.now) c.args.inode.now c.loop-k.inode c.args.inode.now.size (c.args.at + length c.args.bytes.now) c.loop-k.k c.map_length-count.result w (omega arith) p.0 (omega arith) p.1
 
 pub returns-in_err-put_piece-clause-full : goal.returns-in_err-put_piece-clause-full
-returns-in_err-put_piece-clause-full g c = λ e s made h.
-    let w = c.loop-k.invariant.written s made in
+returns-in_err-put_piece-clause-full g c = λ e s.
     let p = c.in_err-put_piece.ensures.full (search rules) (c.loop-k.invariant.spent.shows s) in
     let n = count-now c.args.inode.now.size c.args.at (c.args.at + length c.args.bytes.now) c.loop-k.k c.max-from.result c.map_length-count.result (omega arith) (omega arith) (omega arith) (omega arith) in
-    full-step c.args.lot.now (g.K.View.map c.args.keep.now c.args.disk.now c.args.lot.now) (g.K.View.map c.loop-k.keep c.loop-k.disk c.args.lot.now) c.args.inode.now c.loop-k.inode c.args.inode.now.size c.args.at (c.args.at + length c.args.bytes.now) c.loop-k.k c.map_length-count.result c.args.bytes.now
-    (subst (λ d. Written c.args.lot.now (g.K.View.map c.args.keep.now c.args.disk.now c.args.lot.now) (g.K.View.map c.loop-k.keep c.loop-k.disk c.args.lot.now) c.args.inode.now c.loop-k.inode (blocks_for c.args.inode.now.size) d c.args.at (up_to c.args.at (c.args.at + length c.args.bytes.now) c.loop-k.k) c.args.bytes.now) n w)
-    p.0 (omega arith) h p.1
+    let w = grew-at c.args.lot.now (g.K.View.map c.args.keep.now c.args.disk.now c.args.lot.now) (g.K.View.map c.loop-k.keep c.loop-k.disk c.args.lot.now) c.args.inode.now c.loop-k.inode (blocks_for c.args.inode.now.size) _ c.map_length-count.result n (c.loop-k.invariant.grew s) in
+    let o = count-grows c.args.inode.now.size c.max-from.result in
+    full-grew c.args.lot.now (g.K.View.map c.args.keep.now c.args.disk.now c.args.lot.now) (g.K.View.map c.loop-k.keep c.loop-k.disk c.args.lot.now) c.args.inode.now c.loop-k.inode c.args.inode.now.size (c.args.at + length c.args.bytes.now) c.loop-k.k c.map_length-count.result w (omega arith) p.0 (omega arith) p.1
 
 pub returns-in_err-put_piece-clause-unreserved : goal.returns-in_err-put_piece-clause-unreserved
-returns-in_err-put_piece-clause-unreserved g c = λ e s made r.
-    let w = c.loop-k.invariant.written s made in
-    c.in_err-put_piece.ensures.unreserved (search rules) (c.loop-k.invariant.spent.shows s)
-    (reserved-moved c.args.lot.now (g.K.View.map c.args.keep.now c.args.disk.now c.args.lot.now) (g.K.View.map c.loop-k.keep c.loop-k.disk c.args.lot.now) c.args.inode.now c.loop-k.inode _ _ made w.moved r)
+returns-in_err-put_piece-clause-unreserved g c = λ e s r.
+    let w = c.loop-k.invariant.grew s in
+    c.in_err-put_piece.ensures.unreserved (search rules) (c.loop-k.invariant.spent.shows s) (reserved-more c.args.lot.now (g.K.View.map c.args.keep.now c.args.disk.now c.args.lot.now) (g.K.View.map c.loop-k.keep c.loop-k.disk c.args.lot.now) _ w.marked r)
+
+pub returns-in_err-put_piece-clause-stays : goal.returns-in_err-put_piece-clause-stays
+returns-in_err-put_piece-clause-stays g c = λ s. inodes-then (g.K.View.map c.args.keep.now c.args.disk.now c.args.lot.now) (g.K.View.map c.loop-k.keep c.loop-k.disk c.args.lot.now) (g.K.View.map c.put_piece.new.keep c.put_piece.new.disk c.args.lot.now) (c.loop-k.invariant.stays s) (c.put_piece.ensures.stays (c.loop-k.invariant.spent.shows s))
+
+pub returns-in_err-put_piece-clause-misled : goal.returns-in_err-put_piece-clause-misled
+returns-in_err-put_piece-clause-misled g c = λ e s.
+    let p = c.in_err-put_piece.ensures.strays (search rules) (c.loop-k.invariant.spent.shows s) in
+    let n = count-now c.args.inode.now.size c.args.at (c.args.at + length c.args.bytes.now) c.loop-k.k c.max-from.result c.map_length-count.result (omega arith) (omega arith) (omega arith) (omega arith) in
+    let w = grew-at c.args.lot.now (g.K.View.map c.args.keep.now c.args.disk.now c.args.lot.now) (g.K.View.map c.loop-k.keep c.loop-k.disk c.args.lot.now) c.args.inode.now c.loop-k.inode (blocks_for c.args.inode.now.size) _ c.map_length-count.result n (c.loop-k.invariant.grew s) in
+    misled-from c.args.lot.now (g.K.View.map c.args.keep.now c.args.disk.now c.args.lot.now) (g.K.View.map c.loop-k.keep c.loop-k.disk c.args.lot.now) (g.K.View.map c.put_piece.new.keep c.put_piece.new.disk c.args.lot.now)
+    c.args.inode.now c.loop-k.inode (blocks_for c.args.inode.now.size) c.map_length-count.result c.loop-k.k w
+    (count-had c.args.inode.now.size c.args.at c.loop-k.k c.max-from.result c.map_length-count.result c.requires.reaches.reaches (omega arith) (omega arith)) p
 
 pub returns-in_err-put_piece-clause-pointer : goal.returns-in_err-put_piece-clause-pointer
 returns-in_err-put_piece-clause-pointer g c = λ e s made.
@@ -74,4 +84,11 @@ loop-k-preserved g c =
           written-step c.args.lot.now (g.K.View.map c.args.keep.now c.args.disk.now c.args.lot.now) (g.K.View.map c.loop-k.keep c.loop-k.disk c.args.lot.now) (g.K.View.map c.put_piece.new.keep c.put_piece.new.disk c.args.lot.now)
           c.args.inode.now c.loop-k.inode c.put_piece.new.inode c.args.inode.now.size c.args.at (c.args.at + length c.args.bytes.now) c.loop-k.k c.max-from.result c.min-to.result c.map_length-count.result c.args.bytes.now _
           w (omega arith) (omega arith) (omega arith) refl refl (omega arith) (omega arith) (c.in_ok-put_piece.ensures.put (c.loop-k.invariant.spent.shows s) made');
+      grew = λ s.
+          let w = grew-at c.args.lot.now (g.K.View.map c.args.keep.now c.args.disk.now c.args.lot.now) (g.K.View.map c.loop-k.keep c.loop-k.disk c.args.lot.now) c.args.inode.now c.loop-k.inode (blocks_for c.args.inode.now.size) _ c.map_length-count.result n (c.loop-k.invariant.grew s) in
+          let o = count-grows c.args.inode.now.size c.max-from.result in
+          grew-at c.args.lot.now (g.K.View.map c.args.keep.now c.args.disk.now c.args.lot.now) (g.K.View.map c.put_piece.new.keep c.put_piece.new.disk c.args.lot.now) c.args.inode.now c.put_piece.new.inode (blocks_for c.args.inode.now.size) _ _ (ap (λ x. max x (c.loop-k.k + 1)) (sym n) ∙ m)
+          (grew-then c.args.lot.now (g.K.View.map c.args.keep.now c.args.disk.now c.args.lot.now) (g.K.View.map c.loop-k.keep c.loop-k.disk c.args.lot.now) (g.K.View.map c.put_piece.new.keep c.put_piece.new.disk c.args.lot.now)
+          c.args.inode.now c.loop-k.inode c.put_piece.new.inode (blocks_for c.args.inode.now.size) c.map_length-count.result (max c.map_length-count.result (c.loop-k.k + 1)) (omega arith) (omega arith) w (c.in_ok-put_piece.ensures.grew (c.loop-k.invariant.spent.shows s)));
+      stays = λ s. inodes-then (g.K.View.map c.args.keep.now c.args.disk.now c.args.lot.now) (g.K.View.map c.loop-k.keep c.loop-k.disk c.args.lot.now) (g.K.View.map c.put_piece.new.keep c.put_piece.new.disk c.args.lot.now) (c.loop-k.invariant.stays s) (c.put_piece.ensures.stays (c.loop-k.invariant.spent.shows s));
     }
