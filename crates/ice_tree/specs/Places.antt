@@ -1,5 +1,5 @@
 -- Where walks end.
-use Rattle.std.specs.Prelude.{◌≡◌, ◌≤◌, ◌<◌, ◌⊎◌, ℕ, ◌*◌, List, length, Contains, Some, ⊤}
+use Rattle.std.specs.Prelude.{◌≡◌, ◌≤◌, ◌<◌, ◌⊎◌, ℕ, ◌*◌, Bool, true, false, List, length, Contains, Some, ⊤}
 use Rattle.ice_base.specs.Lots.{LotView}
 use Rattle.ice_base.specs.declared.fault.OpFault.{OpFault}
 use Rattle.ice_base.specs.declared.fault.OpFault.TheVariants.{Disk, Damaged}
@@ -61,6 +61,17 @@ PlaceIs m (File number size) = ((inode_of m number).kind ≡ 1) × ((inode_of m 
 PlaceIs m (Dir number size) = ((inode_of m number).kind ≡ 2) × ((inode_of m number).size ≡ size)
 PlaceIs m Missing = ⊤
 PlaceIs m Blocked = ⊤
+
+-- whether a file or a directory stands at a place
+abbrev pub is_place : Place → Bool
+is_place (File number size) = true
+is_place (Dir number size) = true
+is_place _ = false
+
+-- whether a directory does
+abbrev pub is_dir_place : Place → Bool
+is_dir_place (Dir number size) = true
+is_dir_place _ = false
 
 -- the directories lead to the inode of a place
 abbrev pub PlaceReached : ℕ → LotView → (ℕ → List ℕ) → Place → Type 0

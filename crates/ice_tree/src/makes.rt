@@ -1,20 +1,24 @@
 //! New files and directories.
 ghost use Rattle.std.specs.Prelude.{◌≡◌, ◌≤◌, ◌<◌, ◌+◌, ◌*◌, ◌⊎◌, ℕ, Bool, List, true, false, [], ◌∷◌, None, Some, OnOk, IfOk, IfErr, IsErrOf, MatchResult, length, drop};
 ghost use Rattle.ice_base.specs.Disk.{Rose};
+ghost use Rattle.ice_base.specs.Fields.{long_at};
 ghost use Rattle.ice_base.specs.Lots.{LotView, is_sited, sub_address};
 ghost use Rattle.ice_base.specs.Views.{Looked, Spent};
 ghost use Rattle.ice_base.specs.declared.fault.OpFault.TheVariants.{Disk as FaultDisk};
+ghost use Rattle.ice_base.specs.declared.fault.Rule.{Rule};
 ghost use Rattle.tree_spec.specs.Answers.{answer, next, refusal, is_root};
 ghost use Rattle.tree_spec.specs.Costs.{Form, form_of};
 ghost use Rattle.tree_spec.specs.Operations.{Mkdir, Make};
 ghost use Rattle.tree_spec.specs.Replies.{number_of, refused_of};
 ghost use Rattle.tree_spec.specs.Trees.{Tree, parent};
 ghost use Rattle.tree_spec.specs.Why.{Why};
-ghost use Rattle.tree_spec.specs.declared.reply.Refusal.TheVariants.{Fault, NotFound, NotDir, IsRoot, Exists};
+ghost use Rattle.tree_spec.specs.declared.reply.Refusal.TheVariants.{Fault, Damaged, NotFound, NotDir, IsRoot, Exists};
 ghost use Rattle.ice_reads.specs.Recovers.{MapRecovers};
 ghost use Rattle.ice_reads.specs.Tables.{Table, own_in};
+ghost use Rattle.ice_tree.specs.Broken.{IsBroken, IsBrokenBy};
 ghost use Rattle.ice_tree.specs.Changes.{IsEnds, EndsFit, IsSpot, SpotFits, new_operation, new_refusal, new_inode, Takes};
-ghost use Rattle.ice_tree.specs.Outcomes.{AsModel, RefusedAs, meant_plain, ShownBy, IsTreeRefusal};
+ghost use Rattle.ice_tree.specs.Grounds.{EndsAre, SpotIs, NewFits};
+ghost use Rattle.ice_tree.specs.Outcomes.{AsModel, RefusedAs, meant_plain, ShownBy, IsTreeRefusal, rule_number};
 ghost use Rattle.ice_tree.specs.Stages.{paths_refusal};
 
 use crate::counts::count_up;
@@ -23,7 +27,7 @@ use crate::fault::refusal_of;
 use crate::paths::check_path;
 use crate::place::Place;
 use crate::quota::{Need, check_quota, dir_cost};
-use ice_base::{Disk, Form, Keep, Lot, OpFault, Pool};
+use ice_base::{Disk, Form, Keep, Lot, OpFault, Pool, Rule};
 use ice_dir::add;
 use ice_map::{Inode, put_inode};
 use tree_spec::{Name, Path, Refusal};
@@ -35,6 +39,7 @@ fn new_spot(ends: &Ends, root: bool) -> Result<Spot, Refusal>
         → MatchResult result (λ spot. IsSpot f o (parent p) t spot × (new_refusal p t ≡ None)) (λ r. RefusedAs (refused_of r) (new_refusal p t)) }
     ensures fits { (lot : LotView) → EndsFit lot ends.now → IfOk result (SpotFits lot) }
     ensures below { OnOk result (root ≡ false) }
+    ensures is { (entry : ℕ) (lot : LotView) (m : ℕ → List ℕ) → EndsAre entry lot m ends.now → EndsFit lot ends.now → IfOk result (SpotIs entry lot m) }
     ensures set { IfErr result (λ r. (r ≡ NotFound) ⊎ (r ≡ NotDir) ⊎ (r ≡ IsRoot) ⊎ (r ≡ Exists)) }
 {
     match ends.parent {
@@ -78,6 +83,8 @@ fn check_new<D: Disk, K: Keep<D>, P: Pool<D, K>, F: Form>(
     ensures paths { ShownBy (paths_refusal (form_of F.VERSION) (drop depth path.now ∷ [])) result }
     ensures untouched { (r : Why) → paths_refusal (form_of F.VERSION) (drop depth path.now ∷ []) ≡ Some r → (disk.new ≡ disk.old) × (keep.new ≡ keep.old) × (pool.new ≡ pool.old) }
     ensures looked { Looked D.Disk K.View lot.now keep.old disk.old keep.new disk.new }
+    ensures ready { K.shows lot.now keep.old disk.old → IfOk result (NewFits F.ENTRY lot.now (K.map keep.old disk.old lot.now)) }
+    ensures damaged { (n : ℕ) → IsErrOf result (Damaged n) → K.shows lot.now keep.old disk.old → (r : Rule) × (n ≡ rule_number r) × IsBroken F.ENTRY lot.now (K.map keep.old disk.old lot.now) r }
     ensures set { IfErr result IsTreeRefusal }
     ensures failed { IsErrOf result Fault → Rose (D.state disk.old).faults (D.state disk.new).faults }
 {
@@ -118,6 +125,7 @@ fn new_node(dir: bool) -> Inode
 }
 
 /// Takes an inode for an empty directory or file, and adds its row to the directory.
+/// Damaged, with the rule on bitmaps: the directory's own inode is marked free.
 #[tactic(auto, using(ice_base::proofs::SpareLaws::room_laws))]
 fn put_node<D: Disk, K: Keep<D>, P: Pool<D, K>, F: Form>(
     keep: &mut K,
@@ -137,9 +145,14 @@ fn put_node<D: Disk, K: Keep<D>, P: Pool<D, K>, F: Form>(
     ensures sound { (mode k : ℕ) (t : Tree) (p : List (List ℕ)) → K.shows lot.now keep.old disk.old → Takes (form_of F.VERSION) mode lot.now (K.map keep.old disk.old lot.now) t k p dir spot.now name.now
         → IfErr result (λ e. e ≡ FaultDisk) }
     ensures spent { Spent D.Disk K.View lot.now 11 keep.old disk.old keep.new disk.new }
+    ensures broken { K.shows lot.now keep.old disk.old → NewFits F.ENTRY lot.now (K.map keep.old disk.old lot.now) spot.now → IfErr result (IsBrokenBy F.ENTRY lot.now (K.map keep.old disk.old lot.now)) }
+    ensures done { K.shows lot.now keep.old disk.old → OnOk result (long_at (K.map keep.new disk.new lot.now sub_address) 16 ≡ long_at (K.map keep.old disk.old lot.now sub_address) 16) }
     ensures failed { IsErrOf result FaultDisk → Rose (D.state disk.old).faults (D.state disk.new).faults }
 {
     let number = pool.take_inode(keep, disk, lot)?;
+    if number == spot.number {
+        return Err(OpFault::Damaged(Rule::Bitmap));
+    }
     put_inode::<D, K, P, F>(keep, pool, disk, lot, number, &new_node(dir))?;
     add::<D, K, P, F>(keep, pool, disk, lot, spot.number, name, number)?;
     Ok(())
@@ -165,6 +178,7 @@ fn put_new<D: Disk, K: Keep<D>, P: Pool<D, K>, F: Form>(
         → IfErr result (λ e. e ≡ FaultDisk) }
     ensures counted { OnOk result (K.held keep.new sub_address ≡ true) }
     ensures spent { Spent D.Disk K.View lot.now 12 keep.old disk.old keep.new disk.new }
+    ensures broken { K.shows lot.now keep.old disk.old → NewFits F.ENTRY lot.now (K.map keep.old disk.old lot.now) spot.now → IfErr result (IsBrokenBy F.ENTRY lot.now (K.map keep.old disk.old lot.now)) }
     ensures failed { IsErrOf result FaultDisk → Rose (D.state disk.old).faults (D.state disk.new).faults }
 {
     put_node::<D, K, P, F>(keep, pool, disk, lot, spot, name, dir)?;
@@ -195,6 +209,7 @@ fn make_node<D: Disk, K: Keep<D>, P: Pool<D, K>, F: Form>(
     ensures untouched { (r : Why) → paths_refusal (form_of F.VERSION) (drop depth path.now ∷ []) ≡ Some r → (disk.new ≡ disk.old) × (keep.new ≡ keep.old) × (pool.new ≡ pool.old) }
     ensures refused { IfErr result (λ r. number_of r ≤ 14 → Looked D.Disk K.View lot.now keep.old disk.old keep.new disk.new) }
     ensures spent { Spent D.Disk K.View lot.now 96 keep.old disk.old keep.new disk.new }
+    ensures damaged { (n : ℕ) → IsErrOf result (Damaged n) → K.shows lot.now keep.old disk.old → (r : Rule) × (n ≡ rule_number r) × IsBroken F.ENTRY lot.now (K.map keep.old disk.old lot.now) r }
     ensures set { IfErr result IsTreeRefusal }
     ensures failed { IsErrOf result Fault → Rose (D.state disk.old).faults (D.state disk.new).faults }
 {
@@ -231,6 +246,7 @@ pub fn mkdir<D: Disk, K: Keep<D>, P: Pool<D, K>, F: Form>(
     ensures untouched { (r : Why) → paths_refusal (form_of F.VERSION) (drop depth path.now ∷ []) ≡ Some r → (disk.new ≡ disk.old) × (keep.new ≡ keep.old) × (pool.new ≡ pool.old) }
     ensures refused { IfErr result (λ r. number_of r ≤ 14 → Looked D.Disk K.View lot.now keep.old disk.old keep.new disk.new) }
     ensures spent { Spent D.Disk K.View lot.now 96 keep.old disk.old keep.new disk.new }
+    ensures damaged { (n : ℕ) → IsErrOf result (Damaged n) → K.shows lot.now keep.old disk.old → (r : Rule) × (n ≡ rule_number r) × IsBroken F.ENTRY lot.now (K.map keep.old disk.old lot.now) r }
     ensures set { IfErr result IsTreeRefusal }
     ensures failed { IsErrOf result Fault → Rose (D.state disk.old).faults (D.state disk.new).faults }
 {
@@ -259,6 +275,7 @@ pub fn make<D: Disk, K: Keep<D>, P: Pool<D, K>, F: Form>(
     ensures untouched { (r : Why) → paths_refusal (form_of F.VERSION) (drop depth path.now ∷ []) ≡ Some r → (disk.new ≡ disk.old) × (keep.new ≡ keep.old) × (pool.new ≡ pool.old) }
     ensures refused { IfErr result (λ r. number_of r ≤ 14 → Looked D.Disk K.View lot.now keep.old disk.old keep.new disk.new) }
     ensures spent { Spent D.Disk K.View lot.now 96 keep.old disk.old keep.new disk.new }
+    ensures damaged { (n : ℕ) → IsErrOf result (Damaged n) → K.shows lot.now keep.old disk.old → (r : Rule) × (n ≡ rule_number r) × IsBroken F.ENTRY lot.now (K.map keep.old disk.old lot.now) r }
     ensures set { IfErr result IsTreeRefusal }
     ensures failed { IsErrOf result Fault → Rose (D.state disk.old).faults (D.state disk.new).faults }
 {

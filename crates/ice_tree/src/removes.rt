@@ -1,22 +1,29 @@
 //! Files and empty directories that are taken away.
 ghost use Rattle.std.specs.Prelude.{◌≡◌, ◌≢◌, ◌≤◌, ◌<◌, ◌+◌, ◌*◌, ℕ, List, true, false, [], ◌∷◌, Some, None, OnOk, IfOk, IfErr, IsErrOf, MatchResult, length, drop};
 ghost use Rattle.ice_base.specs.Disk.{Rose};
+ghost use Rattle.ice_base.specs.Fields.{long_at};
 ghost use Rattle.ice_base.specs.Lots.{LotView, is_sited, sub_address};
 ghost use Rattle.ice_base.specs.Views.{Looked, Spent};
 ghost use Rattle.ice_base.specs.declared.fault.OpFault.TheVariants.{Disk as FaultDisk};
+ghost use Rattle.ice_base.specs.declared.fault.Rule.{Rule};
+ghost use Rattle.ice_map.specs.Inodes.{inode_of};
+ghost use Rattle.ice_file.specs.Files.{ReachesTo};
 ghost use Rattle.tree_spec.specs.Answers.{answer, next, is_root};
 ghost use Rattle.tree_spec.specs.Costs.{Form, form_of};
 ghost use Rattle.tree_spec.specs.Operations.{Remove};
 ghost use Rattle.tree_spec.specs.Replies.{number_of, refused_of};
-ghost use Rattle.tree_spec.specs.Trees.{Tree};
+ghost use Rattle.tree_spec.specs.Trees.{Tree, last_name};
 ghost use Rattle.tree_spec.specs.Why.{Why};
-ghost use Rattle.tree_spec.specs.declared.reply.Refusal.TheVariants.{NotDir, Fault};
+ghost use Rattle.tree_spec.specs.declared.reply.Refusal.TheVariants.{NotDir, Fault, Damaged};
 ghost use Rattle.ice_reads.specs.Tables.{Table, own_in};
 ghost use Rattle.ice_reads.specs.Recovers.{MapRecovers};
 ghost use Rattle.ice_steps.specs.Beside.{Beside};
+ghost use Rattle.ice_tree.specs.Broken.{IsBroken, IsBrokenFrom, IsBrokenIn, IsFaultBy};
 ghost use Rattle.ice_tree.specs.Changes.{IsEnds, EndsFit};
+ghost use Rattle.ice_tree.specs.Grounds.{CanCount, EndsAre, GoneIs};
 ghost use Rattle.ice_tree.specs.Moves.{gone_refusal, IsGone, GoneFits, Loses, StandsLoose};
-ghost use Rattle.ice_tree.specs.Outcomes.{AsModel, RefusedAs, meant_plain, ShownBy, IsTreeRefusal};
+ghost use Rattle.ice_tree.specs.Outcomes.{AsModel, RefusedAs, meant_plain, ShownBy, IsTreeRefusal, rule_number};
+ghost use Rattle.ice_tree.specs.Places.{IsReached, PlaceNamed};
 ghost use Rattle.ice_tree.specs.declared.place.Place.TheVariants.{Dir};
 ghost use Rattle.ice_tree.specs.Stages.{or_else, paths_refusal, quota_refusal};
 
@@ -63,6 +70,8 @@ fn gone_in(parent: Place, number: u32, bytes: u32) -> Result<Gone, Refusal>
 fn gone_of(ends: &Ends) -> Result<Gone, Refusal>
     ensures gone { (f : Form) (o : Table) (p : List (List ℕ)) (t : Tree) → is_root p ≡ false → IsEnds f o p t ends.now → MatchResult result (λ gone. (gone_refusal p t ≡ None) × IsGone f o p t gone) (λ r. RefusedAs (refused_of r) (gone_refusal p t)) }
     ensures fits { (lot : LotView) → EndsFit lot ends.now → IfOk result (GoneFits lot) }
+    ensures is { (entry : ℕ) (lot : LotView) (m : ℕ → List ℕ) (name : List ℕ) → EndsAre entry lot m ends.now → EndsFit lot ends.now → PlaceNamed entry m ends.now.parent name ends.now.end → IfOk result (GoneIs entry lot m name) }
+    ensures undamaged { (n : ℕ) → IsErrOf result (Damaged n) → ⊥ }
     ensures set { IfErr result IsTreeRefusal }
     ensures faultless { IsErrOf result Fault → ⊥ }
 {
@@ -96,6 +105,8 @@ fn find_gone<D: Disk, V: View<D>, F: Form>(
     ensures fits { IfOk result (GoneFits lot.now) }
     ensures below { OnOk result (depth < length path.now) }
     ensures looked { Looked D.Disk V.View lot.now view.old disk.old view.new disk.new }
+    ensures is { V.shows lot.now view.old disk.old → IfOk result (GoneIs F.ENTRY lot.now (V.map view.old disk.old lot.now) (last_name (drop depth path.now))) }
+    ensures damaged { (n : ℕ) → IsErrOf result (Damaged n) → V.shows lot.now view.old disk.old → (r : Rule) × (n ≡ rule_number r) × IsBroken F.ENTRY lot.now (V.map view.old disk.old lot.now) r }
     ensures set { IfErr result IsTreeRefusal }
     ensures failed { IsErrOf result Fault → Rose (D.state disk.old).faults (D.state disk.new).faults }
 {
@@ -122,6 +133,8 @@ fn check_gone<D: Disk, K: Keep<D>, P: Pool<D, K>, F: Form>(
         → IsGone (form_of F.VERSION) (own_in (form_of F.VERSION) (K.map keep.old disk.old lot.now)) p t gone.now → gone_refusal p t ≡ None
         → MatchResult result (λ u. quota_refusal (length lot.now.groups) (form_of F.VERSION) k (next (Remove p) t) ≡ None) (λ r. RefusedAs (refused_of r) (quota_refusal (length lot.now.groups) (form_of F.VERSION) k (next (Remove p) t))) }
     ensures looked { Looked D.Disk K.View lot.now keep.old disk.old keep.new disk.new }
+    ensures room { K.shows lot.now keep.old disk.old → OnOk result (CanCount (K.map keep.old disk.old lot.now)) }
+    ensures damaged { (n : ℕ) → IsErrOf result (Damaged n) → K.shows lot.now keep.old disk.old → (r : Rule) × (n ≡ rule_number r) × IsBroken F.ENTRY lot.now (K.map keep.old disk.old lot.now) r }
     ensures set { IfErr result IsTreeRefusal }
     ensures failed { IsErrOf result Fault → Rose (D.state disk.old).faults (D.state disk.new).faults }
 {
@@ -153,6 +166,9 @@ fn may_remove<D: Disk, K: Keep<D>, P: Pool<D, K>, F: Form>(
     ensures fits { IfOk result (GoneFits lot.now) }
     ensures below { OnOk result (depth < length path.now) }
     ensures looked { Looked D.Disk K.View lot.now keep.old disk.old keep.new disk.new }
+    ensures is { K.shows lot.now keep.old disk.old → IfOk result (GoneIs F.ENTRY lot.now (K.map keep.old disk.old lot.now) (last_name (drop depth path.now))) }
+    ensures room { K.shows lot.now keep.old disk.old → OnOk result (CanCount (K.map keep.old disk.old lot.now)) }
+    ensures damaged { (n : ℕ) → IsErrOf result (Damaged n) → K.shows lot.now keep.old disk.old → (r : Rule) × (n ≡ rule_number r) × IsBroken F.ENTRY lot.now (K.map keep.old disk.old lot.now) r }
     ensures set { IfErr result IsTreeRefusal }
     ensures failed { IsErrOf result Fault → Rose (D.state disk.old).faults (D.state disk.new).faults }
 {
@@ -181,6 +197,8 @@ fn drop_bytes<D: Disk, K: Keep<D>, P: Pool<D, K>, F: Form>(
         → OnOk result (Beside (form_of F.VERSION) mode lot.now (K.map keep.new disk.new lot.now) t k [] (number ∷ [])) }
     ensures sound { (mode k : ℕ) (t : Tree) → K.shows lot.now keep.old disk.old → StandsLoose (form_of F.VERSION) mode lot.now (K.map keep.old disk.old lot.now) t k number bytes → IfErr result (λ e. e ≡ FaultDisk) }
     ensures spent { Spent D.Disk K.View lot.now 72 keep.old disk.old keep.new disk.new }
+    ensures broken { (o : ℕ → List ℕ) → K.shows lot.now keep.old disk.old → IsReached F.ENTRY lot.now o number → (0 < bytes → ReachesTo 0 (inode_of (K.map keep.old disk.old lot.now) number)) → IfErr result (IsFaultBy (IsBrokenFrom F.ENTRY lot.now o (K.map keep.new disk.new lot.now))) }
+    ensures done { K.shows lot.now keep.old disk.old → OnOk result (long_at (K.map keep.new disk.new lot.now sub_address) 16 ≡ long_at (K.map keep.old disk.old lot.now sub_address) 16) }
     ensures failed { IsErrOf result FaultDisk → Rose (D.state disk.old).faults (D.state disk.new).faults }
 {
     if bytes == 0 {
@@ -217,6 +235,8 @@ fn clear<D: Disk, K: Keep<D>, P: Pool<D, K>, F: Form>(
         → OnOk result (MapRecovers (form_of F.VERSION) mode lot.now (K.map keep.new disk.new lot.now) t k) }
     ensures sound { (mode k : ℕ) (t : Tree) → K.shows lot.now keep.old disk.old → StandsLoose (form_of F.VERSION) mode lot.now (K.map keep.old disk.old lot.now) t k number bytes → IfErr result (λ e. e ≡ FaultDisk) }
     ensures spent { Spent D.Disk K.View lot.now 75 keep.old disk.old keep.new disk.new }
+    ensures broken { (o : ℕ → List ℕ) → K.shows lot.now keep.old disk.old → IsReached F.ENTRY lot.now o number → (0 < bytes → ReachesTo 0 (inode_of (K.map keep.old disk.old lot.now) number)) → IfErr result (IsFaultBy (IsBrokenFrom F.ENTRY lot.now o (K.map keep.new disk.new lot.now))) }
+    ensures done { K.shows lot.now keep.old disk.old → OnOk result (long_at (K.map keep.new disk.new lot.now sub_address) 16 ≡ long_at (K.map keep.old disk.old lot.now sub_address) 16) }
     ensures failed { IsErrOf result FaultDisk → Rose (D.state disk.old).faults (D.state disk.new).faults }
 {
     drop_bytes::<D, K, P, F>(keep, pool, disk, lot, number, bytes)?;
@@ -240,6 +260,8 @@ fn take_away<D: Disk, K: Keep<D>, P: Pool<D, K>, F: Form>(
         → OnOk result (MapRecovers (form_of F.VERSION) mode lot.now (K.map keep.new disk.new lot.now) (next (Remove p) t) k) }
     ensures sound { (mode k : ℕ) (t : Tree) (p : List (List ℕ)) → K.shows lot.now keep.old disk.old → Loses (form_of F.VERSION) mode lot.now (K.map keep.old disk.old lot.now) t k p gone.now name.now → IfErr result (λ e. e ≡ FaultDisk) }
     ensures spent { Spent D.Disk K.View lot.now 83 keep.old disk.old keep.new disk.new }
+    ensures broken { K.shows lot.now keep.old disk.old → GoneIs F.ENTRY lot.now (K.map keep.old disk.old lot.now) name.now gone.now → IfErr result (IsFaultBy (IsBrokenIn F.ENTRY lot.now (K.map keep.old disk.old lot.now) (K.map keep.new disk.new lot.now))) }
+    ensures done { K.shows lot.now keep.old disk.old → OnOk result (long_at (K.map keep.new disk.new lot.now sub_address) 16 ≡ long_at (K.map keep.old disk.old lot.now sub_address) 16) }
     ensures failed { IsErrOf result FaultDisk → Rose (D.state disk.old).faults (D.state disk.new).faults }
 {
     match take::<D, K, P, F>(keep, pool, disk, lot, gone.spot.number, name)? {
@@ -265,6 +287,7 @@ fn put_away<D: Disk, K: Keep<D>, P: Pool<D, K>, F: Form>(
     ensures sound { (mode k : ℕ) (t : Tree) (p : List (List ℕ)) → K.shows lot.now keep.old disk.old → Loses (form_of F.VERSION) mode lot.now (K.map keep.old disk.old lot.now) t k p gone.now name.now → IfErr result (λ e. e ≡ FaultDisk) }
     ensures counted { OnOk result (K.held keep.new sub_address ≡ true) }
     ensures spent { Spent D.Disk K.View lot.now 84 keep.old disk.old keep.new disk.new }
+    ensures broken { K.shows lot.now keep.old disk.old → GoneIs F.ENTRY lot.now (K.map keep.old disk.old lot.now) name.now gone.now → CanCount (K.map keep.old disk.old lot.now) → IfErr result (IsFaultBy (IsBrokenIn F.ENTRY lot.now (K.map keep.old disk.old lot.now) (K.map keep.new disk.new lot.now))) }
     ensures failed { IsErrOf result FaultDisk → Rose (D.state disk.old).faults (D.state disk.new).faults }
 {
     take_away::<D, K, P, F>(keep, pool, disk, lot, gone, name)?;
@@ -294,6 +317,7 @@ pub fn remove<D: Disk, K: Keep<D>, P: Pool<D, K>, F: Form>(
     ensures untouched { (r : Why) → paths_refusal (form_of F.VERSION) (drop depth path.now ∷ []) ≡ Some r → (disk.new ≡ disk.old) × (keep.new ≡ keep.old) × (pool.new ≡ pool.old) }
     ensures refused { IfErr result (λ r. number_of r ≤ 14 → Looked D.Disk K.View lot.now keep.old disk.old keep.new disk.new) }
     ensures spent { Spent D.Disk K.View lot.now 96 keep.old disk.old keep.new disk.new }
+    ensures damaged { (n : ℕ) → IsErrOf result (Damaged n) → K.shows lot.now keep.old disk.old → (r : Rule) × (n ≡ rule_number r) × IsBrokenIn F.ENTRY lot.now (K.map keep.old disk.old lot.now) (K.map keep.new disk.new lot.now) r }
     ensures set { IfErr result IsTreeRefusal }
     ensures failed { IsErrOf result Fault → Rose (D.state disk.old).faults (D.state disk.new).faults }
 {

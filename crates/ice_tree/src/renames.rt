@@ -1,22 +1,26 @@
 //! Files and directories that move.
-ghost use Rattle.std.specs.Prelude.{◌≡◌, ◌≢◌, ◌≤◌, ◌<◌, ◌+◌, ◌*◌, ◌||◌, ℕ, List, true, false, [], ◌∷◌, Some, None, OnOk, IfOk, IfErr, IsErrOf, MatchResult, MatchOption, length, drop, get_or};
+ghost use Rattle.std.specs.Prelude.{◌≡◌, ◌≢◌, ◌≤◌, ◌<◌, ◌+◌, ◌-◌, ◌*◌, ◌||◌, ℕ, List, true, false, [], ◌∷◌, Some, None, OnOk, IfOk, IfErr, IsErrOf, MatchResult, MatchOption, length, drop, get_or};
 ghost use Rattle.ice_base.specs.Disk.{Rose};
+ghost use Rattle.ice_base.specs.Fields.{long_at};
 ghost use Rattle.ice_base.specs.Lots.{LotView, is_sited, sub_address};
 ghost use Rattle.ice_base.specs.Views.{Looked, Spent};
 ghost use Rattle.ice_base.specs.declared.fault.OpFault.TheVariants.{Disk as FaultDisk};
+ghost use Rattle.ice_base.specs.declared.fault.Rule.{Rule};
 ghost use Rattle.tree_spec.specs.Answers.{answer, refusal, next, is_root, is_found, is_not_found, is_not_dir, deepest};
 ghost use Rattle.tree_spec.specs.Costs.{Form, form_of, map_cost, dir_blocks};
 ghost use Rattle.tree_spec.specs.Operations.{Rename};
 ghost use Rattle.tree_spec.specs.Replies.{number_of, refused_of};
 ghost use Rattle.tree_spec.specs.Routes.{is_prefix, is_same_name, is_same_path};
-ghost use Rattle.tree_spec.specs.Trees.{Tree, Walk, needs_dir};
+ghost use Rattle.tree_spec.specs.Trees.{last_name, Tree, Walk, needs_dir};
 ghost use Rattle.tree_spec.specs.Why.{Why};
-ghost use Rattle.tree_spec.specs.declared.reply.Refusal.TheVariants.{Fault};
+ghost use Rattle.tree_spec.specs.declared.reply.Refusal.TheVariants.{Fault, Damaged};
 ghost use Rattle.ice_reads.specs.Tables.{Map, Table, own_in};
 ghost use Rattle.ice_reads.specs.Recovers.{MapRecovers};
+ghost use Rattle.ice_tree.specs.Broken.{IsBroken, IsBrokenIn, IsFaultBy};
 ghost use Rattle.ice_tree.specs.Changes.{IsEnds, EndsFit, Needs};
-ghost use Rattle.ice_tree.specs.Outcomes.{AsModel, RefusedAs, meant_plain, ShownBy, IsTreeRefusal};
-ghost use Rattle.ice_tree.specs.Places.{PlaceFits, place_at, place_by};
+ghost use Rattle.ice_tree.specs.Grounds.{EndsAre, MoveIs, RowFits};
+ghost use Rattle.ice_tree.specs.Outcomes.{AsModel, RefusedAs, meant_plain, ShownBy, IsTreeRefusal, rule_number};
+ghost use Rattle.ice_tree.specs.Places.{PlaceFits, PlaceIs, PlaceReached, PlaceNamed, is_place, is_dir_place, place_at, place_by};
 ghost use Rattle.ice_tree.specs.Renames.{height_refusal, ends_refusal, move_refusal, IsMove, MoveFits, Renames};
 ghost use Rattle.ice_tree.specs.Stages.{or_else, paths_refusal, quota_refusal};
 ghost use Rattle.ice_tree.specs.declared.place.Place.TheVariants.{Dir};
@@ -143,6 +147,7 @@ fn check_height<D: Disk, V: View<D>, F: Form>(
         → place ≡ place_at (form_of F.VERSION) (own_in (form_of F.VERSION) (V.map view.old disk.old lot.now)) p t → length p ≡ here → length q ≡ there
         → MatchResult result (λ u. height_refusal p q t ≡ None) (λ r. RefusedAs (refused_of r) (height_refusal p q t)) }
     ensures looked { Looked D.Disk V.View lot.now view.old disk.old view.new disk.new }
+    ensures damaged { (n : ℕ) → IsErrOf result (Damaged n) → V.shows lot.now view.old disk.old → PlaceIs (V.map view.old disk.old lot.now) place → PlaceReached F.ENTRY lot.now (V.map view.old disk.old lot.now) place → (r : Rule) × (n ≡ rule_number r) × IsBroken F.ENTRY lot.now (V.map view.old disk.old lot.now) r }
     ensures set { IfErr result IsTreeRefusal }
     ensures failed { IsErrOf result Fault → Rose (D.state disk.old).faults (D.state disk.new).faults }
 {
@@ -170,6 +175,8 @@ fn check_ends(from: &Ends, into: &Ends, root: bool, begins: bool, same: bool) ->
     ensures ends { (f : Form) (o : Table) (p q : List (List ℕ)) (t : Tree) → IsEnds f o p t from.now → IsEnds f o q t into.now → root ≡ (is_root p || is_root q) → begins ≡ is_prefix p q → same ≡ is_same_path p q
         → MatchResult result (λ u. ends_refusal p q t ≡ None) (λ r. RefusedAs (refused_of r) (ends_refusal p q t)) }
     ensures rootless { OnOk result (root ≡ false) }
+    ensures there { OnOk result ((is_place from.now.end ≡ true) × (is_dir_place into.now.parent ≡ true)) }
+    ensures undamaged { (n : ℕ) → IsErrOf result (Damaged n) → ⊥ }
     ensures set { IfErr result IsTreeRefusal }
     ensures faultless { IsErrOf result Fault → ⊥ }
 {
@@ -213,6 +220,8 @@ fn spot_at(place: Place) -> Option<Spot>
 fn move_of(from: &Ends, into: &Ends, same: bool) -> Result<Move, Refusal>
     ensures step { (f : Form) (o : Table) (p q : List (List ℕ)) (t : Tree) → IsEnds f o p t from.now → IsEnds f o q t into.now → same ≡ is_same_path p q → ends_refusal p q t ≡ None → MatchResult result (IsMove f o p q t) (λ r. ⊥) }
     ensures fits { (lot : LotView) → EndsFit lot from.now → EndsFit lot into.now → IfOk result (MoveFits lot) }
+    ensures is { (entry : ℕ) (lot : LotView) (m : ℕ → List ℕ) (name : List ℕ) → EndsAre entry lot m from.now → EndsAre entry lot m into.now → EndsFit lot from.now → EndsFit lot into.now → PlaceNamed entry m from.now.parent name from.now.end → is_place from.now.end ≡ true → is_dir_place into.now.parent ≡ true
+        → MatchResult result (MoveIs entry lot m name) (λ r. ⊥) }
     ensures set { IfErr result IsTreeRefusal }
     ensures faultless { IsErrOf result Fault → ⊥ }
 {
@@ -249,6 +258,8 @@ fn find_move<D: Disk, V: View<D>, F: Form>(
     ensures fits { IfOk result (MoveFits lot.now) }
     ensures below { OnOk result ((depth < length path.now) × (depth < length to.now)) }
     ensures looked { Looked D.Disk V.View lot.now view.old disk.old view.new disk.new }
+    ensures is { V.shows lot.now view.old disk.old → IfOk result (MoveIs F.ENTRY lot.now (V.map view.old disk.old lot.now) (last_name (drop depth path.now))) }
+    ensures damaged { (n : ℕ) → IsErrOf result (Damaged n) → V.shows lot.now view.old disk.old → (r : Rule) × (n ≡ rule_number r) × IsBroken F.ENTRY lot.now (V.map view.old disk.old lot.now) r }
     ensures set { IfErr result IsTreeRefusal }
     ensures failed { IsErrOf result Fault → Rose (D.state disk.old).faults (D.state disk.new).faults }
 {
@@ -288,6 +299,8 @@ fn need_of<F: Form>(step: &Move) -> Need
     requires to { step.now.to.entries < 4096 }
     ensures needs { (mode k : ℕ) (lot : LotView) (m : Map) (t : Tree) (p q : List (List ℕ)) → MapRecovers (form_of F.VERSION) mode lot m t k → paths_refusal (form_of F.VERSION) (p ∷ q ∷ []) ≡ None → move_refusal p q t ≡ None
         → IsMove (form_of F.VERSION) (own_in (form_of F.VERSION) m) p q t step.now → Needs (form_of F.VERSION) t (next (Rename p q) t) result }
+    ensures apart { step.now.same ≡ false → step.now.from.number ≢ step.now.to.number → (result.blocks ≡ map_cost (dir_blocks (form_of F.VERSION) (step.now.to.entries + 1)) + map_cost (dir_blocks (form_of F.VERSION) (step.now.from.entries - 1)))
+        × (result.freed ≡ map_cost (dir_blocks (form_of F.VERSION) step.now.to.entries) + map_cost (dir_blocks (form_of F.VERSION) step.now.from.entries)) }
 {
     if step.same || step.from.number == step.to.number {
         return Need {
@@ -327,6 +340,9 @@ fn may_move<D: Disk, K: Keep<D>, P: Pool<D, K>, F: Form>(
     ensures fits { IfOk result (MoveFits lot.now) }
     ensures below { OnOk result ((depth < length path.now) × (depth < length to.now)) }
     ensures looked { Looked D.Disk K.View lot.now keep.old disk.old keep.new disk.new }
+    ensures is { K.shows lot.now keep.old disk.old → IfOk result (MoveIs F.ENTRY lot.now (K.map keep.old disk.old lot.now) (last_name (drop depth path.now))) }
+    ensures room { K.shows lot.now keep.old disk.old → IfOk result (RowFits F.ENTRY lot.now (K.map keep.old disk.old lot.now)) }
+    ensures damaged { (n : ℕ) → IsErrOf result (Damaged n) → K.shows lot.now keep.old disk.old → (r : Rule) × (n ≡ rule_number r) × IsBroken F.ENTRY lot.now (K.map keep.old disk.old lot.now) r }
     ensures set { IfErr result IsTreeRefusal }
     ensures failed { IsErrOf result Fault → Rose (D.state disk.old).faults (D.state disk.new).faults }
 {
@@ -362,6 +378,8 @@ fn move_row<D: Disk, K: Keep<D>, P: Pool<D, K>, F: Form>(
     ensures sound { (mode k : ℕ) (t : Tree) (p q : List (List ℕ)) → K.shows lot.now keep.old disk.old → Renames (form_of F.VERSION) mode lot.now (K.map keep.old disk.old lot.now) t k p q step.now name.now new.now → step.now.same ≡ false
         → IfErr result (λ e. e ≡ FaultDisk) }
     ensures spent { Spent D.Disk K.View lot.now 16 keep.old disk.old keep.new disk.new }
+    ensures broken { K.shows lot.now keep.old disk.old → MoveIs F.ENTRY lot.now (K.map keep.old disk.old lot.now) name.now step.now → RowFits F.ENTRY lot.now (K.map keep.old disk.old lot.now) step.now → step.now.same ≡ false → IfErr result (IsFaultBy (IsBrokenIn F.ENTRY lot.now (K.map keep.old disk.old lot.now) (K.map keep.new disk.new lot.now))) }
+    ensures done { K.shows lot.now keep.old disk.old → OnOk result (long_at (K.map keep.new disk.new lot.now sub_address) 16 ≡ long_at (K.map keep.old disk.old lot.now sub_address) 16) }
     ensures failed { IsErrOf result FaultDisk → Rose (D.state disk.old).faults (D.state disk.new).faults }
 {
     let _bytes = new.bytes();
@@ -397,6 +415,7 @@ fn put_moved<D: Disk, K: Keep<D>, P: Pool<D, K>, F: Form>(
         → IfErr result (λ e. e ≡ FaultDisk) }
     ensures counted { OnOk result (K.held keep.new sub_address ≡ true) }
     ensures spent { Spent D.Disk K.View lot.now 17 keep.old disk.old keep.new disk.new }
+    ensures broken { K.shows lot.now keep.old disk.old → MoveIs F.ENTRY lot.now (K.map keep.old disk.old lot.now) name.now step.now → RowFits F.ENTRY lot.now (K.map keep.old disk.old lot.now) step.now → IfErr result (IsFaultBy (IsBrokenIn F.ENTRY lot.now (K.map keep.old disk.old lot.now) (K.map keep.new disk.new lot.now))) }
     ensures failed { IsErrOf result FaultDisk → Rose (D.state disk.old).faults (D.state disk.new).faults }
 {
     if step.same {
@@ -432,6 +451,7 @@ pub fn rename<D: Disk, K: Keep<D>, P: Pool<D, K>, F: Form>(
     ensures untouched { (r : Why) → paths_refusal (form_of F.VERSION) (drop depth path.now ∷ drop depth to.now ∷ []) ≡ Some r → (disk.new ≡ disk.old) × (keep.new ≡ keep.old) × (pool.new ≡ pool.old) }
     ensures refused { IfErr result (λ r. number_of r ≤ 14 → Looked D.Disk K.View lot.now keep.old disk.old keep.new disk.new) }
     ensures spent { Spent D.Disk K.View lot.now 96 keep.old disk.old keep.new disk.new }
+    ensures damaged { (n : ℕ) → IsErrOf result (Damaged n) → K.shows lot.now keep.old disk.old → (r : Rule) × (n ≡ rule_number r) × IsBrokenIn F.ENTRY lot.now (K.map keep.old disk.old lot.now) (K.map keep.new disk.new lot.now) r }
     ensures set { IfErr result IsTreeRefusal }
     ensures failed { IsErrOf result Fault → Rose (D.state disk.old).faults (D.state disk.new).faults }
 {
