@@ -1,14 +1,17 @@
 -- Maps that are cut.
-use Rattle.std.proofs.Common.{◌≡◌, ◌≤◌, ◌<◌, ◌+◌, ◌-◌, ◌&&◌, ℕ, Bool, true, false, cond, List, [], ◌∷◌, ◌++◌, map, length, take, slice_index, replicate, length-append, length-take, ◌∙◌, sym, refl, ap, arith, ltb, leb}
+use Rattle.std.proofs.Common.{◌≡◌, ◌≢◌, ◌≤◌, ◌<◌, ◌+◌, ◌-◌, ◌&&◌, ℕ, Bool, true, false, cond, List, [], ◌∷◌, ◌++◌, map, length, take, slice_index, replicate, length-append, length-take, ◌∙◌, sym, refl, ap, arith, ltb, leb}
 use Rattle.std.specs.List.{range_with_len}
 use Rattle.std.proofs.lemmas.Bool.Decides.{nat_tests}
 use Rattle.std.proofs.lemmas.List.{length-replicate, get_or-append_right, get_or-replicate, get_or_past}
 use Rattle.std.proofs.lemmas.List.FromFn.{get_or-map-range_with_len, length-map-range_with_len}
-use Rattle.ice_base.specs.Lots.{LotView}
+use Rattle.ice_base.specs.Fields.{SameBeside}
+use Rattle.ice_base.specs.Inodes.{inode_address}
+use Rattle.ice_base.specs.Lots.{LotView, sub_address}
 use Rattle.ice_base.specs.Spare.{has}
-use Rattle.ice_base.specs.Used.{used_block}
+use Rattle.ice_base.specs.Used.{used_block, count_place}
 use Rattle.ice_map.specs.declared.codec.Inode.{Inode}
 use Rattle.ice_map.specs.Maps.{nth_block, blocks_of, blocks_between, indirect_of, uses, times, cut_off, shortened, Stays, Cut, OwnsOnce}
+use Rattle.ice_map.proofs.GrowLaws.{inode_not_sub}
 use Rattle.ice_map.proofs.ListLaws.{has-none, has-times, times-append, range-append}
 use Rattle.ice_file.specs.Own.{MadeOf, NoneUnused, Holds}
 use Rattle.ice_file.specs.Writes.{Moved, content_of, uses_of}
@@ -124,3 +127,9 @@ cut-once lot m x c r order made = record {
   used = λ b h. (made.holds b (off-has m x c r order b h)).1;
   once = λ b. let o = made.once b in let t = off-times m x c r order b in omega arith;
 }
+
+-- a cut, and then a put of the inode's block, change nothing of the sub-super block but the count of used blocks
+pub cut-sub : (lot : LotView) (m m0 m1 m2 : ℕ → List ℕ) (x y : Inode) (number c r : ℕ) → m0 ≡ m → Cut lot m0 m1 x y c r → ((b : ℕ) → b ≢ inode_address number → m2 b ≡ m1 b)
+    → SameBeside (count_place false) 4 (m sub_address) (m2 sub_address)
+cut-sub lot m m0 m1 m2 x y number c r e was only = λ k h.
+    ap (λ (b : List ℕ). slice_index b k) (only sub_address (λ q. inode_not_sub number (sym q))) ∙ was.gave.counts.others k h ∙ ap (λ (n : ℕ → List ℕ). slice_index (n sub_address) k) e

@@ -1,12 +1,15 @@
 //! Cuts of files.
-ghost use Rattle.std.specs.Prelude.{◌≡◌, ◌≤◌, ◌<◌, ◌*◌, true, false, OnOk, IfErr, IsErrOf, length, take};
+ghost use Rattle.std.specs.Prelude.{◌≡◌, ◌≢◌, ◌≤◌, ◌<◌, ◌*◌, true, false, OnOk, IfErr, IsErrOf, length, take};
 ghost use Rattle.ice_base.specs.Disk.{Rose};
-ghost use Rattle.ice_base.specs.Lots.{is_sited};
-ghost use Rattle.ice_base.specs.Used.{counted};
+ghost use Rattle.ice_base.specs.Fields.{SameBeside};
+ghost use Rattle.ice_base.specs.Lots.{is_sited, sub_address};
+ghost use Rattle.ice_base.specs.Used.{count_place, counted};
 ghost use Rattle.ice_base.specs.Views.{Looked, Spent};
 ghost use Rattle.ice_base.specs.declared.fault.OpFault.TheVariants.{Disk as FaultDisk, Damaged};
+ghost use Rattle.ice_base.specs.declared.fault.Rule.{Rule};
 ghost use Rattle.ice_base.specs.declared.fault.Rule.TheVariants.{Counts, Kind, Pointer, Bitmap};
 ghost use Rattle.ice_map.specs.Inodes.{inode_of};
+ghost use Rattle.ice_map.specs.Maps.{Misleads, UsesUnmarked};
 ghost use Rattle.ice_file.specs.Files.{longest_file, ReachesTo, FileSet, IsCutToFault};
 ghost use Rattle.ice_file.specs.Own.{own, file_bytes, blocks_for, WellMade};
 ghost use Rattle.ice_file.specs.Writes.{uses_of};
@@ -36,6 +39,12 @@ pub fn cut_to<D: Disk, K: Keep<D>, P: Pool<D, K>, F: Form>(
     ensures zero { IsErrOf result (Damaged Counts) → K.shows lot.now keep.old disk.old → counted false (K.map keep.old disk.old lot.now) < uses_of (blocks_for (inode_of (K.map keep.old disk.old lot.now) number).size) }
     ensures unused { IsErrOf result (Damaged Bitmap) → K.shows lot.now keep.old disk.old → ¬ WellMade lot.now F.ENTRY (K.map keep.old disk.old lot.now) number }
     ensures pointer { IsErrOf result (Damaged Pointer) → K.shows lot.now keep.old disk.old → ¬ WellMade lot.now F.ENTRY (K.map keep.old disk.old lot.now) number }
+    ensures kept { (rule : Rule) → IsErrOf result (Damaged rule) → K.shows lot.now keep.old disk.old → inode_of (K.map keep.new disk.new lot.now) number ≡ inode_of (K.map keep.old disk.old lot.now) number }
+    ensures empty { IsErrOf result (Damaged Counts) → K.shows lot.now keep.old disk.old → counted false (K.map keep.new disk.new lot.now) ≡ 0 }
+    ensures unmarked { IsErrOf result (Damaged Bitmap) → K.shows lot.now keep.old disk.old → UsesUnmarked (K.map keep.new disk.new lot.now) (inode_of (K.map keep.new disk.new lot.now) number) (blocks_for (inode_of (K.map keep.new disk.new lot.now) number).size) }
+    ensures misled { IsErrOf result (Damaged Pointer) → K.shows lot.now keep.old disk.old → Misleads lot.now (K.map keep.new disk.new lot.now) (inode_of (K.map keep.new disk.new lot.now) number) (blocks_for (inode_of (K.map keep.new disk.new lot.now) number).size) }
+    ensures sub { K.shows lot.now keep.old disk.old → OnOk result (SameBeside (count_place false) 4 (K.map keep.old disk.old lot.now sub_address) (K.map keep.new disk.new lot.now sub_address)) }
+    ensures file { IfErr result (λ e. (rule : Rule) → e ≡ Damaged rule → rule ≢ Kind → K.shows lot.now keep.old disk.old → ReachesTo len (inode_of (K.map keep.old disk.old lot.now) number)) }
     ensures faults { IfErr result IsCutToFault }
     ensures failed { IsErrOf result FaultDisk → Rose (D.state disk.old).faults (D.state disk.new).faults }
 {

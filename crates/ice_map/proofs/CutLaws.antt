@@ -123,16 +123,16 @@ next-free lot m inode rest k count m0 m1 a h l same marked free owns =
     between-at m inode rest k count h l ∙ ap (λ x. (blocks_between m inode rest k ++ x ∷ []) ++ blocks_between m inode (k + 1) count) (sym same) in
     free-next lot m0 m1 (blocks_between m inode rest k) (blocks_between m inode (k + 1) count) a marked free (rw list at owns)
 
--- a run whose indirect block was read
+-- a block of a map whose indirect block was read, and a run of them
+pub same-block : (m : ℕ → List ℕ) (b : List ℕ) (inode : Inode) (k : ℕ) → (12 ≤ k → b ≡ m inode.single) → nth_block m inode k ≡ nth_block (λ _. b) inode k
+same-block m b inode k e =
+    elim (ltb k 12) as (λ t. ltb k 12 ≡ t → nth_block m inode k ≡ nth_block (λ _. b) inode k) [
+      | true ↦ λ t. let n : k < 12 = grind (arith, nat_tests) in nth-direct m inode k n ∙ sym (nth-direct (λ _. b) inode k n)
+      | false ↦ λ t. let n : 12 ≤ k = grind (arith, nat_tests) in nth-single m inode k n ∙ ap (λ (x : List ℕ). word_at x (4 * (k - 12))) (sym (e n)) ∙ sym (nth-single (λ _. b) inode k n)
+    ] refl
+
 pub same-run : (m : ℕ → List ℕ) (b : List ℕ) (inode : Inode) (rest count : ℕ) → (12 < count → b ≡ m inode.single) → blocks_between m inode rest count ≡ blocks_between (λ _. b) inode rest count
 same-run m b inode rest count e = map_range_same (nth_block m inode) (nth_block (λ _. b) inode) rest (count - rest) (λ k l h. same-block m b inode k (λ n. e (omega arith)))
-  where
-    same-block : (m : ℕ → List ℕ) (b : List ℕ) (inode : Inode) (k : ℕ) → (12 ≤ k → b ≡ m inode.single) → nth_block m inode k ≡ nth_block (λ _. b) inode k
-    same-block m b inode k e =
-        elim (ltb k 12) as (λ t. ltb k 12 ≡ t → nth_block m inode k ≡ nth_block (λ _. b) inode k) [
-          | true ↦ λ t. let n : k < 12 = grind (arith, nat_tests) in nth-direct m inode k n ∙ sym (nth-direct (λ _. b) inode k n)
-          | false ↦ λ t. let n : 12 ≤ k = grind (arith, nat_tests) in nth-single m inode k n ∙ ap (λ (x : List ℕ). word_at x (4 * (k - 12))) (sym (e n)) ∙ sym (nth-single (λ _. b) inode k n)
-        ] refl
 
 -- what is cut off, by its cases
 pub cut-direct : (m : ℕ → List ℕ) (inode : Inode) (count rest : ℕ) → count ≤ 12 → cut_off m inode count rest ≡ blocks_between m inode rest count

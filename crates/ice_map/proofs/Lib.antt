@@ -6,5 +6,6 @@ pub mod MapLaws
 pub mod PutsLaws
 pub mod FailLaws
 pub mod CutLaws
+pub mod DamageLaws
 pub mod UsesLaws
 pub mod GrowLaws

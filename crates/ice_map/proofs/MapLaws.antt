@@ -27,4 +27,8 @@ pub leads-lost : (lot : LotView) (m : ℕ → List ℕ) (inode : Inode) (n : ℕ
 unfolding leads
 leads-lost lot m inode n h d = grind (arith, nat_tests)
 
+pub leads-bad : (lot : LotView) (m : ℕ → List ℕ) (inode : Inode) (n : ℕ) → is_data lot (nth_block m inode n) ≡ false → leads lot m inode n ≡ false
+unfolding leads
+leads-bad lot m inode n d = grind (arith, nat_tests)
+
 pub ruleset nth_laws = (nth-direct, nth-single, leads-direct, leads-single, leads-lost)

@@ -2,13 +2,13 @@
 ghost use Rattle.std.specs.Prelude.{is_ok, ◌≡◌, ◌≢◌, ◌≤◌, ◌<◌, ◌+◌, ◌*◌, ◌-◌, ◌++◌, ℕ, true, false, List, [], ◌∷◌, OnOk, OnErr, IfOk, IfErr, IsErrOf, length, take, replicate};
 ghost use Rattle.ice_base.specs.Disk.{Rose};
 ghost use Rattle.ice_base.specs.Lots.{is_sited, sub_address};
-ghost use Rattle.ice_base.specs.Spare.{bitmaps};
-ghost use Rattle.ice_base.specs.Used.{is_data, counted};
+ghost use Rattle.ice_base.specs.Spare.{has, bitmaps};
+ghost use Rattle.ice_base.specs.Used.{used_block, is_data, counted};
 ghost use Rattle.ice_base.specs.Views.{Looked, Spent, Puts};
 ghost use Rattle.ice_base.specs.declared.fault.OpFault.TheVariants.{Disk as FaultDisk, Damaged};
 ghost use Rattle.ice_base.specs.declared.fault.Rule.TheVariants.{Counts, Pointer, Bitmap};
 ghost use Rattle.ice_map.specs.Faults.{IsCutFault, IsLookFault};
-ghost use Rattle.ice_map.specs.Maps.{longest, nth_block, blocks_between, cut_off, cut_room, given_puts, shortened, Marked, Stays, Owns, OwnsOnce, MapStays, Placed, Cut};
+ghost use Rattle.ice_map.specs.Maps.{longest, nth_block, blocks_between, cut_off, cut_room, given_puts, shortened, Marked, Stays, Owns, OwnsOnce, MapStays, Placed, Cut, Misleads, UsesUnmarked};
 
 use crate::codec::Inode;
 use crate::maps::checked;
@@ -49,6 +49,9 @@ fn give_between<D: Disk, K: Keep<D>, P: Pool<D, K>>(
     ensures spent { Spent D.Disk K.View lot.now (2 * (count - rest)) keep.old disk.old keep.new disk.new }
     ensures zero { IsErrOf result (Damaged Counts) → K.shows lot.now keep.old disk.old → counted false (K.map keep.old disk.old lot.now) < count - rest }
     ensures unused { IsErrOf result (Damaged Bitmap) → K.shows lot.now keep.old disk.old → ¬ OwnsOnce (K.map keep.old disk.old lot.now) (blocks_between (λ _. block.now) inode.now rest count) }
+    ensures empty { IsErrOf result (Damaged Counts) → K.shows lot.now keep.old disk.old → counted false (K.map keep.new disk.new lot.now) ≡ 0 }
+    ensures unmarked { IsErrOf result (Damaged Bitmap) → K.shows lot.now keep.old disk.old → (k : ℕ) × (rest ≤ k) × (k < count) × (used_block (K.map keep.new disk.new lot.now) (nth_block (λ _. block.now) inode.now k) ≡ false) }
+    ensures placed { OnOk result ((b : ℕ) → has (blocks_between (λ _. block.now) inode.now rest count) b ≡ true → is_data lot.now b ≡ true) }
     ensures pointer { IsErrOf result (Damaged Pointer) → (k : ℕ) × (rest ≤ k) × (k < count) × (is_data lot.now (nth_block (λ _. block.now) inode.now k) ≡ false) }
     ensures faults { IfErr result IsCutFault }
     ensures failed { IsErrOf result FaultDisk → Rose (D.state disk.old).faults (D.state disk.new).faults }
@@ -110,6 +113,10 @@ fn give_indirect<D: Disk, K: Keep<D>, P: Pool<D, K>>(
     ensures zero { IsErrOf result (Damaged Counts) → K.shows lot.now keep.old disk.old → counted false (K.map keep.old disk.old lot.now) < length (cut_off (K.map keep.old disk.old lot.now) inode.now count rest) }
     ensures unused { IsErrOf result (Damaged Bitmap) → K.shows lot.now keep.old disk.old → ¬ OwnsOnce (K.map keep.old disk.old lot.now) (cut_off (K.map keep.old disk.old lot.now) inode.now count rest) }
     ensures pointer { IsErrOf result (Damaged Pointer) → K.shows lot.now keep.old disk.old → ¬ Placed lot.now (K.map keep.old disk.old lot.now) inode.now count }
+    ensures empty { IsErrOf result (Damaged Counts) → K.shows lot.now keep.old disk.old → counted false (K.map keep.new disk.new lot.now) ≡ 0 }
+    ensures unmarked { IsErrOf result (Damaged Bitmap) → K.shows lot.now keep.old disk.old → UsesUnmarked (K.map keep.new disk.new lot.now) inode.now count }
+    ensures misled { IsErrOf result (Damaged Pointer) → K.shows lot.now keep.old disk.old → Misleads lot.now (K.map keep.new disk.new lot.now) inode.now count }
+    ensures placed { K.shows lot.now keep.old disk.old → OnOk result ((b : ℕ) → has (cut_off (K.map keep.old disk.old lot.now) inode.now count rest) b ≡ true → is_data lot.now b ≡ true) }
     ensures faults { IfErr result IsCutFault }
     ensures failed { IsErrOf result FaultDisk → Rose (D.state disk.old).faults (D.state disk.new).faults }
 {
@@ -176,6 +183,10 @@ fn give_rest<D: Disk, K: Keep<D>, P: Pool<D, K>>(
     ensures zero { IsErrOf result (Damaged Counts) → K.shows lot.now keep.old disk.old → counted false (K.map keep.old disk.old lot.now) < length (cut_off (K.map keep.old disk.old lot.now) inode.now count rest) }
     ensures unused { IsErrOf result (Damaged Bitmap) → K.shows lot.now keep.old disk.old → ¬ OwnsOnce (K.map keep.old disk.old lot.now) (cut_off (K.map keep.old disk.old lot.now) inode.now count rest) }
     ensures pointer { IsErrOf result (Damaged Pointer) → K.shows lot.now keep.old disk.old → ¬ Placed lot.now (K.map keep.old disk.old lot.now) inode.now count }
+    ensures empty { IsErrOf result (Damaged Counts) → K.shows lot.now keep.old disk.old → counted false (K.map keep.new disk.new lot.now) ≡ 0 }
+    ensures unmarked { IsErrOf result (Damaged Bitmap) → K.shows lot.now keep.old disk.old → UsesUnmarked (K.map keep.new disk.new lot.now) inode.now count }
+    ensures misled { IsErrOf result (Damaged Pointer) → K.shows lot.now keep.old disk.old → Misleads lot.now (K.map keep.new disk.new lot.now) inode.now count }
+    ensures placed { K.shows lot.now keep.old disk.old → OnOk result ((b : ℕ) → has (cut_off (K.map keep.old disk.old lot.now) inode.now count rest) b ≡ true → is_data lot.now b ≡ true) }
     ensures faults { IfErr result IsCutFault }
     ensures failed { IsErrOf result FaultDisk → Rose (D.state disk.old).faults (D.state disk.new).faults }
 {
@@ -215,6 +226,10 @@ pub fn cut<D: Disk, K: Keep<D>, P: Pool<D, K>, F: Form>(
     ensures zero { IsErrOf result (Damaged Counts) → K.shows lot.now keep.old disk.old → counted false (K.map keep.old disk.old lot.now) < length (cut_off (K.map keep.old disk.old lot.now) inode.old count rest) }
     ensures unused { IsErrOf result (Damaged Bitmap) → K.shows lot.now keep.old disk.old → ¬ OwnsOnce (K.map keep.old disk.old lot.now) (cut_off (K.map keep.old disk.old lot.now) inode.old count rest) }
     ensures pointer { IsErrOf result (Damaged Pointer) → K.shows lot.now keep.old disk.old → ¬ Placed lot.now (K.map keep.old disk.old lot.now) inode.old count }
+    ensures empty { IsErrOf result (Damaged Counts) → K.shows lot.now keep.old disk.old → counted false (K.map keep.new disk.new lot.now) ≡ 0 }
+    ensures unmarked { IsErrOf result (Damaged Bitmap) → K.shows lot.now keep.old disk.old → UsesUnmarked (K.map keep.new disk.new lot.now) inode.old count }
+    ensures misled { IsErrOf result (Damaged Pointer) → K.shows lot.now keep.old disk.old → Misleads lot.now (K.map keep.new disk.new lot.now) inode.old count }
+    ensures placed { K.shows lot.now keep.old disk.old → OnOk result ((b : ℕ) → has (cut_off (K.map keep.old disk.old lot.now) inode.old count rest) b ≡ true → is_data lot.now b ≡ true) }
     ensures faults { IfErr result IsCutFault }
     ensures failed { IsErrOf result FaultDisk → Rose (D.state disk.old).faults (D.state disk.new).faults }
 {

@@ -2,6 +2,7 @@ use Rattle.std.proofs.Common.{rules, ◌≤◌, ℕ, arith}
 use Rattle.std.proofs.lemmas.Bool.Decides.{nat_tests}
 use Rattle.ice_map.proofs.PutsLaws.{spent-after, spent-then}
 use Rattle.ice_map.specs.Maps.{cut_room}
+use Rattle.ice_file.proofs.CutLaws.{cut-sub}
 use Rattle.ice_file.proofs.FileLaws.{cut-all, cut-owns, cut-most}
 use Rattle.ice_file.proofs.cuts.cut_to.Goals as goal
 
@@ -40,3 +41,8 @@ returns-clause-cut g c = λ s made.
     cut-all c.args.lot.now (g.K.View.map c.args.keep.now c.args.disk.now c.args.lot.now) (g.K.View.map c.file_inode.new.view c.file_inode.new.disk c.args.lot.now) (g.K.View.map c.cut.new.keep c.cut.new.disk c.args.lot.now) (g.K.View.map c.put_inode.new.keep c.put_inode.new.disk c.args.lot.now)
     c.in_ok-inode.inode c.cut.new.inode g.F.Form.ENTRY c.args.number c.args.len c.map_length-count.result c.map_length-rest.result c.file_inode.ensures.looked.map (c.in_ok-inode.ensures.value s) c.in_ok-inode.ensures.reaches (omega arith) (omega arith)
     (c.in_ok-cut.ensures.cut t) c.cut.ensures.stays c.in_ok-cut.ensures.fields (c.in_ok-put_inode.ensures.written (c.cut.ensures.spent.shows t)) c.in_ok-put_inode.ensures.puts.only made
+
+pub returns-clause-sub : goal.returns-clause-sub
+returns-clause-sub g c = λ s.
+    cut-sub c.args.lot.now (g.K.View.map c.args.keep.now c.args.disk.now c.args.lot.now) (g.K.View.map c.file_inode.new.view c.file_inode.new.disk c.args.lot.now) (g.K.View.map c.cut.new.keep c.cut.new.disk c.args.lot.now) (g.K.View.map c.put_inode.new.keep c.put_inode.new.disk c.args.lot.now)
+    c.in_ok-inode.inode c.cut.new.inode c.args.number c.map_length-count.result c.map_length-rest.result c.file_inode.ensures.looked.map (c.in_ok-cut.ensures.cut (c.file_inode.ensures.looked.shows s)) c.in_ok-put_inode.ensures.puts.only

@@ -1,6 +1,8 @@
 use Rattle.std.proofs.Common.{◌+◌, ◌∙◌, false, arith}
+use Rattle.ice_base.specs.declared.fault.Rule.TheVariants.{Counts, Bitmap}
 use Rattle.ice_base.proofs.LotLaws.{sited-few}
 use Rattle.ice_map.proofs.CutLaws.{between-none, length-between, next-puts, next-gave, all-puts, all-self, give-room, next-free, zero-next}
+use Rattle.ice_map.proofs.DamageLaws.{placed-none, placed-next, still-zero, still-free}
 use Rattle.ice_map.proofs.MarkLaws.{marked-refl}
 use Rattle.ice_map.proofs.PutsLaws.{puts-then, puts-widen, puts-fail, puts-none, spent-none, spent-then, bitmaps-one}
 use Rattle.ice_map.proofs.cuts.give_between.Goals as goal
@@ -11,6 +13,7 @@ loop-k-init g c = record {
   puts = puts-none g.K.View c.args.lot.now _ _ _;
   bitmaps = puts-none g.K.View c.args.lot.now _ _ _;
   gave = λ s. rw (between-none (λ _. c.args.block.now) c.args.inode.now c.args.rest c.args.rest (omega arith)) (marked-refl c.args.lot.now false _);
+  placed = placed-none c.args.lot.now (λ _. c.args.block.now) c.args.inode.now c.args.rest;
 }
 
 pub returns-in-Err-clause-puts : goal.returns-in-Err-clause-puts
@@ -49,6 +52,16 @@ returns-in-Err-give_block-clause-unused g c = λ e s.
     next-free c.args.lot.now (λ _. c.args.block.now) c.args.inode.now c.args.rest c.loop-k.k c.args.count _ _ c.in-Ok.at (omega arith) (omega arith) (c.in-Ok.ensures.same ∙ c.entry.ensures)
     (c.loop-k.invariant.gave s) (c.in-Err-give_block.ensures.unused e (c.loop-k.invariant.spent.shows s))
 
+pub returns-in-Err-give_block-clause-empty : goal.returns-in-Err-give_block-clause-empty
+returns-in-Err-give_block-clause-empty g c = λ e s.
+    let l = c.in-Err-give_block.ensures.looked_damaged Counts e in
+    still-zero _ _ l.map (c.in-Err-give_block.ensures.zero e (c.loop-k.invariant.spent.shows s))
+
+pub returns-in-Err-give_block-clause-unmarked : goal.returns-in-Err-give_block-clause-unmarked
+returns-in-Err-give_block-clause-unmarked g c = λ e s.
+    let l = c.in-Err-give_block.ensures.looked_damaged Bitmap e in
+    (c.loop-k.k, omega arith, omega arith, still-free _ _ _ c.in-Ok.at l.map (c.in-Ok.ensures.same ∙ c.entry.ensures) (c.in-Err-give_block.ensures.unused e (c.loop-k.invariant.spent.shows s)))
+
 pub loop-k-preserved : goal.loop-k-preserved
 loop-k-preserved g c =
     let same = c.in-Ok.ensures.same ∙ c.entry.ensures in
@@ -59,4 +72,5 @@ loop-k-preserved g c =
       puts = next-puts g.K.View c.args.lot.now (λ _. c.args.block.now) c.args.inode.now c.args.rest c.loop-k.k _ c.in-Ok.at _ _ _ _ _ _ (omega arith) same c.loop-k.invariant.puts c.in-Ok-give_block.ensures.puts;
       bitmaps = puts-then g.K.View c.args.lot.now _ _ _ _ _ _ _ _ _ _ c.loop-k.invariant.bitmaps c.in-Ok-give_block.ensures.puts (all-self _) (bitmaps-one c.args.lot.now c.in-Ok.at (cc));
       gave = λ s. next-gave c.args.lot.now (λ _. c.args.block.now) c.args.inode.now c.args.rest c.loop-k.k _ _ _ c.in-Ok.at (omega arith) same (cc) (c.loop-k.invariant.gave s) (c.in-Ok-give_block.ensures.gave (c.loop-k.invariant.spent.shows s)) c.in-Ok-give_block.ensures.puts.only;
+      placed = placed-next c.args.lot.now (λ _. c.args.block.now) c.args.inode.now c.args.rest c.loop-k.k c.in-Ok.at (omega arith) same (cc) c.loop-k.invariant.placed;
     }

@@ -1,7 +1,9 @@
-use Rattle.std.proofs.Common.{◌+◌, ◌-◌, ◌*◌, sym, arith}
+use Rattle.std.proofs.Common.{◌+◌, ◌-◌, ◌*◌, refl, sym, arith}
+use Rattle.ice_base.specs.declared.fault.Rule.TheVariants.{Counts, Bitmap}
 use Rattle.ice_base.proofs.LotLaws.{sited-few}
 use Rattle.ice_base.proofs.PutsLaws.{puts_after}
 use Rattle.ice_map.proofs.CutLaws.{all-self, give-room, gave-next, cut-length, puts-part, owns-part, owns-last, placed-single, placed-run, marked-from, cut-room-by, cut-run-more, cut-run-last, last-puts, counted-from}
+use Rattle.ice_map.proofs.DamageLaws.{read-stays, still-zero, still-free, unmarked-run, unmarked-single, misled-run, misled-single, placed-last}
 use Rattle.ice_map.proofs.PutsLaws.{puts-then, puts-widen, puts-look, spent-then, spent-by, spent-after, bitmaps-one, bitmaps-only}
 use Rattle.ice_map.proofs.MarkLaws.{data_not_bitmap, data_not_sub}
 use Rattle.ice_map.proofs.cuts.give_indirect.Goals as goal
@@ -114,3 +116,41 @@ pub returns-in-Ok-give_block-clause-single : goal.returns-in-Ok-give_block-claus
 returns-in-Ok-give_block-clause-single g c =
     bitmaps-only g.K.View c.args.lot.now _ _ _ _ _ _ (returns-in-Ok-give_block-clause-bitmaps g c)
     c.args.inode.now.single (λ e. data_not_sub c.args.lot.now _ (sited-few _ _ c.requires.sited) c.in-Ok.ensures.data (sym e)) (λ o e. data_not_bitmap c.args.lot.now _ o c.in-Ok.ensures.data (sym e))
+
+pub returns-in-Err-give_between-clause-bitmaps : goal.returns-in-Err-give_between-clause-bitmaps
+returns-in-Err-give_between-clause-bitmaps g c = puts_after g.D.Disk g.K.View c.args.lot.now _ _ _ _ _ _ _ _ c.read_indirect.ensures.looked c.in-Err-give_between.ensures.bitmaps
+
+pub returns-in-Err-clause-misled : goal.returns-in-Err-clause-misled
+returns-in-Err-clause-misled g c = λ e s. misled-single c.args.lot.now _ c.args.inode.now c.args.count c.requires.long (c.in-Err.ensures.pointer e)
+
+pub returns-in-Err-give_between-clause-empty : goal.returns-in-Err-give_between-clause-empty
+returns-in-Err-give_between-clause-empty g c = λ e s. c.in-Err-give_between.ensures.empty e (c.read_indirect.ensures.looked.shows s)
+
+pub returns-in-Err-give_between-clause-unmarked : goal.returns-in-Err-give_between-clause-unmarked
+returns-in-Err-give_between-clause-unmarked g c = λ e s.
+    let p = c.in-Err-give_between.ensures.unmarked e (c.read_indirect.ensures.looked.shows s) in
+    unmarked-run _ c.read_indirect.new.into c.args.inode.now c.args.count p.0
+    (λ _. read-stays g.K.View c.args.lot.now _ _ _ _ _ _ c.args.inode.now c.read_indirect.new.into (sited-few _ _ c.requires.sited) c.in-Ok.ensures.data (c.in-Ok.ensures.content s) (returns-in-Err-give_between-clause-bitmaps g c)) p.2 p.3
+
+pub returns-in-Err-give_between-clause-misled : goal.returns-in-Err-give_between-clause-misled
+returns-in-Err-give_between-clause-misled g c = λ e s.
+    let p = c.in-Err-give_between.ensures.pointer e in
+    misled-run c.args.lot.now _ c.read_indirect.new.into c.args.inode.now c.args.count p.0
+    (λ _. read-stays g.K.View c.args.lot.now _ _ _ _ _ _ c.args.inode.now c.read_indirect.new.into (sited-few _ _ c.requires.sited) c.in-Ok.ensures.data (c.in-Ok.ensures.content s) (returns-in-Err-give_between-clause-bitmaps g c)) p.2 p.3
+
+pub returns-in-Err-give_block-clause-empty : goal.returns-in-Err-give_block-clause-empty
+returns-in-Err-give_block-clause-empty g c = λ e s.
+    let l = c.in-Err-give_block.ensures.looked_damaged Counts e in
+    still-zero _ _ l.map (c.in-Err-give_block.ensures.zero e (c.give_between.ensures.spent.shows (c.read_indirect.ensures.looked.shows s)))
+
+pub returns-in-Err-give_block-clause-unmarked : goal.returns-in-Err-give_block-clause-unmarked
+returns-in-Err-give_block-clause-unmarked g c = λ e s.
+    let l = c.in-Err-give_block.ensures.looked_damaged Bitmap e in
+    unmarked-single _ c.args.inode.now c.args.count c.requires.long
+    (still-free _ _ c.args.inode.now.single c.args.inode.now.single l.map refl (c.in-Err-give_block.ensures.unused e (c.give_between.ensures.spent.shows (c.read_indirect.ensures.looked.shows s))))
+
+pub returns-then-rest-gt12-clause-placed : goal.returns-then-rest-gt12-clause-placed
+returns-then-rest-gt12-clause-placed g c = λ s. rw (cut-run-more _ c.read_indirect.new.into c.args.inode.now c.args.count c.args.rest c.if-rest-gt12.true (λ _. c.in-Ok.ensures.content s)) c.in-Ok-give_between.ensures.placed
+
+pub returns-in-Ok-give_block-clause-placed : goal.returns-in-Ok-give_block-clause-placed
+returns-in-Ok-give_block-clause-placed g c = λ s. placed-last c.args.lot.now _ c.read_indirect.new.into c.args.inode.now c.args.count c.args.rest c.requires.long (omega arith) (λ _. c.in-Ok.ensures.content s) c.in-Ok.ensures.data c.in-Ok-give_between.ensures.placed

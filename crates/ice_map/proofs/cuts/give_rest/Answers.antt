@@ -1,9 +1,12 @@
-use Rattle.std.proofs.Common.{OnOk, is_ok, false, refl, arith}
+use Rattle.std.proofs.Common.{◌≡◌, ℕ, OnOk, is_ok, true, false, refl, arith}
+use Rattle.ice_base.specs.Spare.{has}
+use Rattle.ice_base.specs.Used.{is_data}
 use Rattle.ice_base.specs.Views.{Puts}
 use Rattle.ice_map.specs.Maps.{Marked, given_puts}
 use Rattle.ice_map.proofs.MarkLaws.{marked-refl}
 use Rattle.ice_map.proofs.PutsLaws.{puts-none}
 use Rattle.ice_map.proofs.CutLaws.{on-cut, cut-none, cut-length, owns-part, placed-run}
+use Rattle.ice_map.proofs.DamageLaws.{placed-uncut, unmarked-run, misled-run}
 use Rattle.ice_map.proofs.cuts.give_rest.Goals as goal
 
 pub returns-then-rest-count-clause-gave : goal.returns-then-rest-count-clause-gave
@@ -33,3 +36,20 @@ pub returns-clause-pointer : goal.returns-clause-pointer
 returns-clause-pointer g c = λ e s placed.
     let p = c.give_between.ensures.pointer e in
     placed-run c.args.lot.now _ _ c.args.inode.now c.args.count p.0 (λ n. absurd (omega arith)) p.2 placed p.3
+
+pub returns-then-rest-count-clause-placed : goal.returns-then-rest-count-clause-placed
+returns-then-rest-count-clause-placed g c = λ s. placed-uncut c.args.lot.now _ c.args.inode.now c.args.count c.args.rest (omega arith)
+
+pub returns-clause-unmarked : goal.returns-clause-unmarked
+returns-clause-unmarked g c = λ e s.
+    let p = c.give_between.ensures.unmarked e s in
+    unmarked-run _ _ c.args.inode.now c.args.count p.0 (λ n. absurd (omega arith)) p.2 p.3
+
+pub returns-clause-misled : goal.returns-clause-misled
+returns-clause-misled g c = λ e s.
+    let p = c.give_between.ensures.pointer e in
+    misled-run c.args.lot.now _ _ c.args.inode.now c.args.count p.0 (λ n. absurd (omega arith)) p.2 p.3
+
+pub returns-clause-placed : goal.returns-clause-placed
+returns-clause-placed g c = λ s. on-cut (λ xs. OnOk c.give_between.result ((b : ℕ) → has xs b ≡ true → is_data c.args.lot.now b ≡ true))
+    _ _ c.args.inode.now c.args.count c.args.rest (omega arith) c.give_between.ensures.placed
