@@ -3,3 +3,4 @@ pub mod DirLaws
 pub mod SetLaws
 pub mod PutLaws
 pub mod TakeLaws
+pub mod FaultLaws

@@ -1,20 +1,25 @@
 -- What a removal of one row does.
-use Rattle.std.proofs.Common.{◌≡◌, ◌≢◌, ◌≤◌, ◌<◌, ◌+◌, ◌-◌, ◌*◌, ◌/◌, ℕ, true, List, [], length, ◌∙◌, sym, ap, subst, arith}
+use Rattle.std.proofs.Common.{◌≡◌, ◌≢◌, ◌≤◌, ◌<◌, ◌+◌, ◌-◌, ◌*◌, ◌/◌, ◌%◌, ℕ, true, false, cond, ◌&&◌, nat_lt, nat_le, List, [], ◌∷◌, length, length-append, slice_index, ◌∙◌, sym, refl, ap, subst, arith}
 use Rattle.std.proofs.lemmas.Bool.Decides.{nat_tests}
 use Rattle.std.proofs.lemmas.Nat.{div-add-mod', mod_below}
 use Rattle.std.specs.List.{swap_remove, position_or_len}
-use Rattle.ice_base.specs.Fields.{SameBeside}
+use Rattle.ice_base.specs.Fields.{word_at, SameBeside}
 use Rattle.ice_base.specs.Inodes.{inode_address}
-use Rattle.ice_base.specs.Lots.{LotView}
+use Rattle.ice_base.specs.Lots.{LotView, sub_address}
+use Rattle.ice_base.specs.Spare.{has}
+use Rattle.ice_base.specs.Used.{is_data, used_block, count_place, counted, free_count}
 use Rattle.ice_map.specs.declared.codec.Inode.{Inode}
-use Rattle.ice_map.specs.Inodes.{inode_of, InodeSet}
-use Rattle.ice_map.specs.Maps.{nth_block, leads, cut_off, cut_room, shortened, Stays, Cut, OwnsOnce, Placed}
+use Rattle.ice_map.specs.Inodes.{inode_at, inode_of, InodeSet}
+use Rattle.ice_map.specs.Maps.{nth_block, blocks_between, leads, cut_off, cut_room, shortened, Stays, Cut, OwnsOnce, Placed}
+use Rattle.ice_map.proofs.CutLaws.{length-between}
+use Rattle.ice_map.proofs.GrowLaws.{inode_not_bitmap, inode_not_data, inode_not_sub}
+use Rattle.ice_map.proofs.MarkLaws.{data_not_bitmap, data_not_sub, used-same, free-same}
 use Rattle.ice_file.specs.Own.{MadeOf}
-use Rattle.ice_file.specs.Writes.{Reached, content_of}
+use Rattle.ice_file.specs.Writes.{Reached, content_of, uses_of}
 use Rattle.ice_file.proofs.CutLaws.{cut-moved, cut-contents, cut-once}
 use Rattle.ice_file.proofs.MoveLaws.{had-reached, made-leads}
 use Rattle.ice_file.proofs.SetLaws.{resized}
-use Rattle.ice_dir.specs.Changes.{dir_blocks, RowPut, DirSet}
+use Rattle.ice_dir.specs.Changes.{dir_blocks, RowPut, DirSet, EntryGone}
 use Rattle.ice_dir.specs.Rows.{Row, per_block, place_of, row_at, row_of, rows_of, named, without, FirstNamed, IsDirectory}
 use Rattle.ice_dir.proofs.DirLaws.{per-sixteen, position-found, rows-read}
 use Rattle.ice_dir.proofs.PutLaws.{dir-sixteenth, row-inside, row-put, dir-taken}
@@ -23,14 +28,17 @@ use Rattle.ice_dir.proofs.PutLaws.{dir-sixteenth, row-inside, row-put, dir-taken
 pub row-leads : (lot : LotView) (entry : ℕ) (m : ℕ → List ℕ) (x : Inode) (k per : ℕ) → entry ≡ 64 → MadeOf lot m x (dir_blocks entry x.size) → k < x.size → per ≡ per_block entry → leads lot m x (k / per) ≡ true
 row-leads lot entry m x k per e made h p = ap (λ n. leads lot m x (k / n)) p ∙ made-leads lot m x (dir_blocks entry x.size) (k / per_block entry) made (row-inside entry x.size k e h)
 
-pub block-leads : (lot : LotView) (entry : ℕ) (m : ℕ → List ℕ) (x : Inode) (n : ℕ) → entry ≡ 64 → MadeOf lot m x (dir_blocks entry x.size) → n * per_block entry < x.size → leads lot m x n ≡ true
-block-leads lot entry m x n e made h =
-    let l = dir-sixteenth entry x.size e in
-    let b = div-add-mod' (x.size + 15) 16 in
-    let s = mod_below (x.size + 15) 16 (omega arith) in
+pub block-inside : (entry size n : ℕ) → entry ≡ 64 → n * per_block entry < size → n < dir_blocks entry size
+block-inside entry size n e h =
+    let l = dir-sixteenth entry size e in
+    let b = div-add-mod' (size + 15) 16 in
+    let s = mod_below (size + 15) 16 (omega arith) in
     let p = ap (λ t. n * t) (per-sixteen entry e) in
-    let q : n * 16 < x.size = omega (arith, p, h) in
-    made-leads lot m x (dir_blocks entry x.size) n made (omega (arith, l, b, s, q))
+    let q : n * 16 < size = omega (arith, p, h) in
+    omega (arith, l, b, s, q)
+
+pub block-leads : (lot : LotView) (entry : ℕ) (m : ℕ → List ℕ) (x : Inode) (n : ℕ) → entry ≡ 64 → MadeOf lot m x (dir_blocks entry x.size) → n * per_block entry < x.size → leads lot m x n ≡ true
+block-leads lot entry m x n e made h = made-leads lot m x (dir_blocks entry x.size) n made (block-inside entry x.size n e h)
 
 -- the last row was copied over row k
 pub row-moved : (lot : LotView) (entry : ℕ) (m0 ma mb m2 : ℕ → List ℕ) (x : Inode) (k per at p q : ℕ) (from old new : List ℕ) → entry ≡ 64 → MadeOf lot m0 x (dir_blocks entry x.size) → length lot.groups ≤ 64 → k < x.size → per ≡ per_block entry → ma ≡ m0 → mb ≡ ma
@@ -89,3 +97,69 @@ pub dir-without : (lot : LotView) (entry : ℕ) (m m' m3 : ℕ → List ℕ) (nu
 dir-without lot entry m m' m3 number x name k e is kind same found d =
     let at = ap (λ (rs : List Row). position_or_len (named name) rs) (rows-read entry m m' number x e is kind same) ∙ position-found (row_of entry m' x) name x.size k found in
     subst (λ i. DirSet lot entry m m3 number (swap_remove (rows_of entry m number) i ([], 0))) (sym at) d
+
+-- how many blocks a directory gives back that loses one row
+pub off-length : (entry : ℕ) (m : ℕ → List ℕ) (x : Inode) (count rest : ℕ) → entry ≡ 64 → count ≡ dir_blocks entry x.size → rest ≡ dir_blocks entry (x.size - 1) → uses_of count ≡ uses_of rest + length (cut_off m x count rest)
+off-length entry m x count rest e c r =
+    let order = blocks-fall entry x.size e in
+    let run = length-between m x rest count in
+    let all = length-append (blocks_between m x rest count) (cond (nat_lt 12 count && nat_le rest 12) (x.single ∷ []) []) in
+    grind (arith, nat_tests)
+
+-- the bitmap blocks, the inodes' blocks and the sub-super block are no data places
+no-data : (lot : LotView) (a : ℕ) → (is_data lot a ≡ true → ⊥) → is_data lot a ≡ false
+no-data lot a h = elim (is_data lot a) as (λ t. is_data lot a ≡ t → t ≡ false) [ true ↦ λ t. absurd (h t) | false ↦ λ t. refl ] refl
+
+pub not-at : (lot : LotView) (a b : ℕ) → is_data lot a ≡ true → is_data lot b ≡ false → b ≢ a
+not-at lot a b place none e = let f = ap (is_data lot) e in absurd cc
+
+-- what stays where data places alone were put
+module _ (lot : LotView) (m0 m1 : ℕ → List ℕ) (beside : (b : ℕ) → is_data lot b ≡ false → m1 b ≡ m0 b) where
+  pub beside-inode : (n : ℕ) → inode_of m1 n ≡ inode_of m0 n
+  beside-inode n = ap (λ (b : List ℕ). inode_at b (n % 8)) (beside (inode_address n) (no-data lot (inode_address n) (λ d. inode_not_data lot n (inode_address n) d refl)))
+
+  beside-bitmaps : (o : ℕ) → m1 (256 * o) ≡ m0 (256 * o)
+  beside-bitmaps o = beside (256 * o) (no-data lot (256 * o) (λ d. data_not_bitmap lot (256 * o) o d refl))
+
+  beside-sub : length lot.groups ≤ 64 → m1 sub_address ≡ m0 sub_address
+  beside-sub few = beside sub_address (no-data lot sub_address (λ d. data_not_sub lot sub_address few d refl))
+
+-- a directory from which an entry was taken, whatever its blocks held
+module _ (lot : LotView) (entry : ℕ) (m0 m1 m2 m3 : ℕ → List ℕ) (x y : Inode) (number k count rest : ℕ) (sixty : entry ≡ 64) (few : length lot.groups ≤ 64) (is : IsDirectory lot x) (below : k < x.size) (before : inode_of m0 number ≡ x)
+    (beside : (b : ℕ) → is_data lot b ≡ false → m1 b ≡ m0 b) (c : count ≡ dir_blocks entry x.size) (r : rest ≡ dir_blocks entry (x.size - 1)) (was : Cut lot m1 m2 x y count rest) (stay : Stays lot m1 m2 [])
+    (placed : (b : ℕ) → has (cut_off m1 x count rest) b ≡ true → is_data lot b ≡ true) (fields : y ≡ shortened x rest) (set : InodeSet m2 m3 number (resized y (x.size - 1))) (only : (b : ℕ) → b ≢ inode_address number → m3 b ≡ m2 b) where
+  gone-bitmaps : (o : ℕ) → m3 (256 * o) ≡ m2 (256 * o)
+  gone-bitmaps o = only (256 * o) (λ e. inode_not_bitmap number o (sym e))
+
+  gone-sub : m3 sub_address ≡ m2 sub_address
+  gone-sub = only sub_address (λ e. inode_not_sub number (sym e))
+
+  gone-free : free_count false lot m3 + uses_of rest ≡ free_count false lot m0 + uses_of count
+  gone-free =
+      let a = free-same lot m2 m3 (λ b. used-same false m2 m3 b gone-bitmaps) in
+      let b = free-same lot m0 m1 (λ b. used-same false m0 m1 b (beside-bitmaps lot m0 m1 beside)) in
+      let f = was.gave.free in
+      let l = off-length entry m1 x count rest sixty c r in
+      omega arith
+
+  gone-counts : counted false m3 ≤ counted false m0
+  gone-counts =
+      let a = ap (λ (b : List ℕ). word_at b (count_place false)) gone-sub in
+      let b = ap (λ (b : List ℕ). word_at b (count_place false)) (beside-sub lot m0 m1 beside few) in
+      let v = was.gave.counts.value in
+      omega arith
+
+  gone-lacks : (b : ℕ) → is_data lot b ≡ false → has (cut_off m1 x count rest) b ≡ false
+  gone-lacks b d = elim (has (cut_off m1 x count rest) b) as (λ t. has (cut_off m1 x count rest) b ≡ t → t ≡ false) [ true ↦ λ t. let p = placed b t in absurd cc | false ↦ λ t. refl ] refl
+
+  pub entry-gone : EntryGone lot entry m0 m3 number
+  entry-gone = record {
+    kind = ap (λ (i : Inode). i.kind) (set.value ∙ ap (λ (i : Inode). resized i (x.size - 1)) fields) ∙ is.kind;
+    size = let a = ap (λ (i : Inode). i.size) set.value in let b = ap (λ (i : Inode). i.size) before in omega arith;
+    others = λ n ne. set.others n ne ∙ stay.inodes n ∙ beside-inode lot m0 m1 beside n;
+    free = let a = ap (λ (i : Inode). uses_of (dir_blocks entry i.size)) set.value ∙ ap uses_of (sym r) in let b = ap (λ (i : Inode). uses_of (dir_blocks entry i.size)) before ∙ ap uses_of (sym c) in let f = gone-free in omega arith;
+    counts = gone-counts;
+    sub = λ n h. ap (λ (b : List ℕ). slice_index b n) gone-sub ∙ was.gave.counts.others n h ∙ ap (λ (b : List ℕ). slice_index b n) (beside-sub lot m0 m1 beside few);
+    places = λ b d. used-same false m2 m3 b gone-bitmaps ∙ was.gave.used b ∙ ap (λ t. cond t false (used_block m1 b)) (gone-lacks b d) ∙ used-same false m0 m1 b (beside-bitmaps lot m0 m1 beside);
+    inodes = λ i. used-same true m2 m3 i gone-bitmaps ∙ was.gave.inodes i ∙ used-same true m0 m1 i (beside-bitmaps lot m0 m1 beside);
+  }

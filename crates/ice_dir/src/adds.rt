@@ -1,19 +1,21 @@
 //! Entries that are added.
-ghost use Rattle.std.specs.Prelude.{◌≡◌, ◌≤◌, ◌<◌, ◌*◌, ◌+◌, ◌/◌, ◌^◌, ◌++◌, true, false, [], ◌∷◌, OnOk, OnErr, IfOk, IfErr, IsErrOf, length};
+ghost use Rattle.std.specs.Prelude.{◌≡◌, ◌≢◌, ◌≤◌, ◌<◌, ◌*◌, ◌+◌, ◌/◌, ◌^◌, ◌++◌, true, false, [], ◌∷◌, OnOk, OnErr, IfOk, IfErr, IsErrOf, length};
 ghost use Rattle.ice_base.specs.Disk.{Rose};
-ghost use Rattle.ice_base.specs.Lots.{is_sited};
-ghost use Rattle.ice_base.specs.Used.{is_data, counted, free_count, Reserved};
+ghost use Rattle.ice_base.specs.Fields.{SameBeside};
+ghost use Rattle.ice_base.specs.Lots.{is_sited, sub_address};
+ghost use Rattle.ice_base.specs.Used.{is_data, count_place, counted, free_count, Reserved};
 ghost use Rattle.ice_base.specs.Views.{Looked, Spent};
 ghost use Rattle.ice_base.specs.declared.fault.OpFault.TheVariants.{Disk as FaultDisk, Damaged, NoSpace};
+ghost use Rattle.ice_base.specs.declared.fault.Rule.{Rule};
 ghost use Rattle.ice_base.specs.declared.fault.Rule.TheVariants.{Counts, Kind, Pointer, Bitmap};
 ghost use Rattle.ice_map.specs.Faults.{IsGrowFault};
 ghost use Rattle.ice_map.specs.Inodes.{inode_of};
-ghost use Rattle.ice_map.specs.Maps.{longest, needs};
+ghost use Rattle.ice_map.specs.Maps.{longest, needs, Misleads};
 ghost use Rattle.ice_file.specs.Own.{MadeOf, WellMade};
 ghost use Rattle.ice_file.specs.Writes.{Reached, content_of, uses_of};
 ghost use Rattle.ice_dir.specs.Changes.{dir_blocks, HasRoom, DirSet, RowPut};
 ghost use Rattle.ice_dir.specs.Faults.{IsAddFault};
-ghost use Rattle.ice_dir.specs.Rows.{rows_of};
+ghost use Rattle.ice_dir.specs.Rows.{rows_of, IsDirectory};
 
 use crate::looks::{dir_inode, read_block};
 use crate::rows::{blocks_for_rows, row_place, rows_per_block, write_row};
@@ -47,7 +49,10 @@ fn open_block<D: Disk, K: Keep<D>, P: Pool<D, K>, F: Form>(
     ensures full { IsErrOf result (Damaged Counts) → K.shows lot.now keep.old disk.old → (k ≡ count) × (2 ^ 32 ≤ counted false (K.map keep.old disk.old lot.now) + needs count) }
     ensures unreserved { IsErrOf result (Damaged Bitmap) → K.shows lot.now keep.old disk.old → ¬ Reserved lot.now (K.map keep.old disk.old lot.now) }
     ensures pointer { IsErrOf result (Damaged Pointer) → K.shows lot.now keep.old disk.old → ¬ MadeOf lot.now (K.map keep.old disk.old lot.now) inode.old count }
+    ensures misled { IsErrOf result (Damaged Pointer) → K.shows lot.now keep.old disk.old → Misleads lot.now (K.map keep.old disk.old lot.now) inode.old count }
     ensures looked { IsErrOf result NoSpace → Looked D.Disk K.View lot.now keep.old disk.old keep.new disk.new }
+    ensures unmoved { IsErrOf result (Damaged Pointer) → Looked D.Disk K.View lot.now keep.old disk.old keep.new disk.new }
+    ensures sub { K.shows lot.now keep.old disk.old → OnOk result (SameBeside (count_place false) 4 (K.map keep.old disk.old lot.now sub_address) (K.map keep.new disk.new lot.now sub_address)) }
     ensures faults { IfErr result IsGrowFault }
     ensures failed { IsErrOf result FaultDisk → Rose (D.state disk.old).faults (D.state disk.new).faults }
 {
@@ -82,7 +87,10 @@ fn append<D: Disk, K: Keep<D>, P: Pool<D, K>, F: Form>(
     ensures full { IsErrOf result (Damaged Counts) → K.shows lot.now keep.old disk.old → 2 ^ 32 + uses_of (dir_blocks F.ENTRY dir.old.size) ≤ counted false (K.map keep.old disk.old lot.now) + uses_of (dir_blocks F.ENTRY (dir.old.size + 1)) }
     ensures unreserved { IsErrOf result (Damaged Bitmap) → K.shows lot.now keep.old disk.old → ¬ Reserved lot.now (K.map keep.old disk.old lot.now) }
     ensures pointer { IsErrOf result (Damaged Pointer) → K.shows lot.now keep.old disk.old → ¬ MadeOf lot.now (K.map keep.old disk.old lot.now) dir.old (dir_blocks F.ENTRY dir.old.size) }
+    ensures misled { IsErrOf result (Damaged Pointer) → K.shows lot.now keep.old disk.old → Misleads lot.now (K.map keep.old disk.old lot.now) dir.old (dir_blocks F.ENTRY dir.old.size) }
     ensures looked { IsErrOf result NoSpace → Looked D.Disk K.View lot.now keep.old disk.old keep.new disk.new }
+    ensures unmoved { IsErrOf result (Damaged Pointer) → Looked D.Disk K.View lot.now keep.old disk.old keep.new disk.new }
+    ensures sub { K.shows lot.now keep.old disk.old → OnOk result (SameBeside (count_place false) 4 (K.map keep.old disk.old lot.now sub_address) (K.map keep.new disk.new lot.now sub_address)) }
     ensures faults { IfErr result IsGrowFault }
     ensures failed { IsErrOf result FaultDisk → Rose (D.state disk.old).faults (D.state disk.new).faults }
 {
@@ -121,7 +129,11 @@ pub fn add<D: Disk, K: Keep<D>, P: Pool<D, K>, F: Form>(
     ensures kind { IsErrOf result (Damaged Kind) → K.shows lot.now keep.old disk.old → ¬ HasRoom lot.now (inode_of (K.map keep.old disk.old lot.now) number) }
     ensures unreserved { IsErrOf result (Damaged Bitmap) → K.shows lot.now keep.old disk.old → ¬ Reserved lot.now (K.map keep.old disk.old lot.now) }
     ensures pointer { IsErrOf result (Damaged Pointer) → K.shows lot.now keep.old disk.old → ¬ WellMade lot.now F.ENTRY (K.map keep.old disk.old lot.now) number }
+    ensures misled { IsErrOf result (Damaged Pointer) → K.shows lot.now keep.old disk.old → Misleads lot.now (K.map keep.old disk.old lot.now) (inode_of (K.map keep.old disk.old lot.now) number) (dir_blocks F.ENTRY (inode_of (K.map keep.old disk.old lot.now) number).size) }
+    ensures is_dir { (rule : Rule) → IsErrOf result (Damaged rule) → rule ≢ Kind → K.shows lot.now keep.old disk.old → IsDirectory lot.now (inode_of (K.map keep.old disk.old lot.now) number) }
     ensures looked { IsErrOf result NoSpace → Looked D.Disk K.View lot.now keep.old disk.old keep.new disk.new }
+    ensures unmoved { IsErrOf result (Damaged Pointer) → Looked D.Disk K.View lot.now keep.old disk.old keep.new disk.new }
+    ensures sub { K.shows lot.now keep.old disk.old → OnOk result (SameBeside (count_place false) 4 (K.map keep.old disk.old lot.now sub_address) (K.map keep.new disk.new lot.now sub_address)) }
     ensures unchanged { IsErrOf result (Damaged Kind) → Looked D.Disk K.View lot.now keep.old disk.old keep.new disk.new }
     ensures faults { IfErr result IsAddFault }
     ensures failed { IsErrOf result FaultDisk → Rose (D.state disk.old).faults (D.state disk.new).faults }

@@ -52,6 +52,7 @@ fn extend_direct<D: Disk, K: Keep<D>, P: Pool<D, K>>(
     ensures unreserved { IsErrOf result (Damaged Bitmap) → K.shows lot.now keep.old disk.old → ¬ Reserved lot.now (K.map keep.old disk.old lot.now) }
     ensures pointer { IsErrOf result (Damaged Pointer) → (12 < count) × (is_data lot.now inode.old.single ≡ false) }
     ensures looked { IsErrOf result NoSpace → Looked D.Disk K.View lot.now keep.old disk.old keep.new disk.new }
+    ensures unmoved { IsErrOf result (Damaged Pointer) → Looked D.Disk K.View lot.now keep.old disk.old keep.new disk.new }
     ensures faults { IfErr result IsGrowFault }
     ensures failed { IsErrOf result FaultDisk → Rose (D.state disk.old).faults (D.state disk.new).faults }
 {
@@ -144,6 +145,7 @@ fn extend_first<D: Disk, K: Keep<D>, P: Pool<D, K>>(
     ensures unreserved { IsErrOf result (Damaged Bitmap) → K.shows lot.now keep.old disk.old → ¬ Reserved lot.now (K.map keep.old disk.old lot.now) }
     ensures pointer { IsErrOf result (Damaged Pointer) → (12 < count) × (is_data lot.now inode.old.single ≡ false) }
     ensures looked { IsErrOf result NoSpace → Looked D.Disk K.View lot.now keep.old disk.old keep.new disk.new }
+    ensures unmoved { IsErrOf result (Damaged Pointer) → Looked D.Disk K.View lot.now keep.old disk.old keep.new disk.new }
     ensures faults { IfErr result IsGrowFault }
     ensures failed { IsErrOf result FaultDisk → Rose (D.state disk.old).faults (D.state disk.new).faults }
 {
@@ -186,6 +188,7 @@ fn extend_single<D: Disk, K: Keep<D>, P: Pool<D, K>>(
     ensures unreserved { IsErrOf result (Damaged Bitmap) → K.shows lot.now keep.old disk.old → ¬ Reserved lot.now (K.map keep.old disk.old lot.now) }
     ensures pointer { IsErrOf result (Damaged Pointer) → (12 < count) × (is_data lot.now inode.old.single ≡ false) }
     ensures looked { IsErrOf result NoSpace → Looked D.Disk K.View lot.now keep.old disk.old keep.new disk.new }
+    ensures unmoved { IsErrOf result (Damaged Pointer) → Looked D.Disk K.View lot.now keep.old disk.old keep.new disk.new }
     ensures faults { IfErr result IsGrowFault }
     ensures failed { IsErrOf result FaultDisk → Rose (D.state disk.old).faults (D.state disk.new).faults }
 {
@@ -227,6 +230,7 @@ pub fn extend<D: Disk, K: Keep<D>, P: Pool<D, K>, F: Form>(
     ensures unreserved { IsErrOf result (Damaged Bitmap) → K.shows lot.now keep.old disk.old → ¬ Reserved lot.now (K.map keep.old disk.old lot.now) }
     ensures pointer { IsErrOf result (Damaged Pointer) → (12 < count) × (is_data lot.now inode.old.single ≡ false) }
     ensures looked { IsErrOf result NoSpace → Looked D.Disk K.View lot.now keep.old disk.old keep.new disk.new }
+    ensures unmoved { IsErrOf result (Damaged Pointer) → Looked D.Disk K.View lot.now keep.old disk.old keep.new disk.new }
     ensures faults { IfErr result IsGrowFault }
     ensures failed { IsErrOf result FaultDisk → Rose (D.state disk.old).faults (D.state disk.new).faults }
 {

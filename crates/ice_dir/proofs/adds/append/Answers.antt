@@ -1,6 +1,8 @@
-use Rattle.std.proofs.Common.{◌+◌, ◌/◌, ◌∙◌, sym, ap, subst}
+use Rattle.std.proofs.Common.{ℕ, ◌+◌, ◌/◌, List, slice_index, ◌∙◌, sym, ap, subst}
 use Rattle.ice_base.proofs.LotLaws.{sited-few}
 use Rattle.ice_base.specs.Fields.{SameBeside}
+use Rattle.ice_base.specs.Lots.{sub_address}
+use Rattle.ice_map.proofs.MarkLaws.{data_not_sub}
 use Rattle.ice_file.specs.Own.{MadeOf}
 use Rattle.ice_file.specs.Writes.{Reached, content_of}
 use Rattle.ice_dir.specs.Changes.{dir_blocks}
@@ -31,3 +33,8 @@ returns-clause-put g c = λ s made.
     (ap (row_at entry c.write_row.new.block) (sym place) ∙ c.write_row.ensures.row)
     (c.in_ok-store.ensures.content (c.open_block.ensures.spent.shows s))
     c.store.ensures.puts.only
+
+pub returns-clause-sub : goal.returns-clause-sub
+returns-clause-sub g c = λ s k h.
+    ap (λ (b : List ℕ). slice_index b k) (c.store.ensures.puts.only sub_address (data_not_sub c.args.lot.now c.in_ok-at.at (sited-few _ _ c.requires.sited) c.in_ok-at.ensures.data))
+    ∙ c.in_ok-at.ensures.sub s k h

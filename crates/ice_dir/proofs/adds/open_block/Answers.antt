@@ -1,4 +1,5 @@
 use Rattle.std.proofs.Common.{rules, arith}
+use Rattle.ice_map.proofs.DamageLaws.{misled-single}
 use Rattle.ice_file.proofs.MoveLaws.{grown-reached, made-leads, made-single}
 use Rattle.ice_dir.proofs.adds.open_block.Goals as goal
 
@@ -14,6 +15,11 @@ returns-in_err-taken-clause-pointer g c = λ e s made.
     let d = made-single c.args.lot.now (g.K.View.map c.args.keep.now c.args.disk.now c.args.lot.now) c.args.inode.now c.args.count made p.0 in
     let q = p.1 in
     cc
+
+pub returns-in_err-taken-clause-misled : goal.returns-in_err-taken-clause-misled
+returns-in_err-taken-clause-misled g c = λ e s.
+    let p = c.in_err-taken.ensures.pointer (search rules) in
+    misled-single c.args.lot.now (g.K.View.map c.args.keep.now c.args.disk.now c.args.lot.now) c.args.inode.now c.args.count p.0 p.1
 
 pub returns-clause-reached : goal.returns-clause-reached
 returns-clause-reached g c = λ s made.

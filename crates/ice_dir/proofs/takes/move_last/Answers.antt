@@ -2,7 +2,8 @@ use Rattle.std.proofs.Common.{rules, ◌-◌, arith}
 use Rattle.ice_base.specs.Lots.{sub_address}
 use Rattle.ice_base.proofs.LotLaws.{sited-few}
 use Rattle.ice_map.proofs.MarkLaws.{data_not_sub}
-use Rattle.ice_dir.proofs.TakeLaws.{row-leads, row-moved}
+use Rattle.ice_dir.proofs.FaultLaws.{misled-row}
+use Rattle.ice_dir.proofs.TakeLaws.{row-leads, row-moved, not-at}
 use Rattle.ice_dir.proofs.takes.move_last.Goals as goal
 
 pub returns-in_err-read_block-clause-pointer : goal.returns-in_err-read_block-clause-pointer
@@ -18,6 +19,32 @@ returns-in_err-at-clause-pointer g c = λ e s made.
     let l = row-leads c.args.lot.now g.F.Form.ENTRY (g.K.View.map c.args.keep.now c.args.disk.now c.args.lot.now) c.args.dir.now c.args.k c.rows_per_block-per_block.result one.1 made c.requires.below c.rows_per_block-per_block.ensures.value in
     let m = c.read_block.ensures.looked.map in
     let d = c.in_err-at.ensures.pointer (search rules) (c.read_block.ensures.looked.shows s) in
+    cc
+
+pub returns-in_err-read_block-clause-misled : goal.returns-in_err-read_block-clause-misled
+returns-in_err-read_block-clause-misled g c = λ e s.
+    let one = g.F.Form.is_one in
+    misled-row c.args.lot.now g.F.Form.ENTRY (g.K.View.map c.read_block.new.view c.read_block.new.disk c.args.lot.now) (g.K.View.map c.args.keep.now c.args.disk.now c.args.lot.now) c.args.dir.now (c.args.dir.now.size - 1) c.rows_per_block-per_block.result one.1
+    c.read_block.ensures.looked.map c.rows_per_block-per_block.ensures.value (let b = c.requires.below in omega arith) (c.in_err-read_block.ensures.pointer (search rules) s)
+
+pub returns-in_err-at-clause-misled : goal.returns-in_err-at-clause-misled
+returns-in_err-at-clause-misled g c = λ e s.
+    let one = g.F.Form.is_one in
+    misled-row c.args.lot.now g.F.Form.ENTRY (g.K.View.map c.read_block-2.new.view c.read_block-2.new.disk c.args.lot.now) (g.K.View.map c.read_block.new.view c.read_block.new.disk c.args.lot.now) c.args.dir.now c.args.k c.rows_per_block-per_block.result one.1
+    c.read_block-2.ensures.looked.map c.rows_per_block-per_block.ensures.value c.requires.below (c.in_err-at.ensures.pointer (search rules) (c.read_block.ensures.looked.shows s))
+
+pub returns-in_err-store-clause-beside : goal.returns-in_err-store-clause-beside
+returns-in_err-store-clause-beside g c = λ b d.
+    let m = c.read_block.ensures.looked.map in
+    let n = c.read_block-2.ensures.looked.map in
+    let o = c.store.ensures.puts.only b (not-at c.args.lot.now c.in_ok-at.at b c.in_ok-at.ensures.data d) in
+    cc
+
+pub returns-clause-beside : goal.returns-clause-beside
+returns-clause-beside g c = λ b d.
+    let m = c.read_block.ensures.looked.map in
+    let n = c.read_block-2.ensures.looked.map in
+    let o = c.store.ensures.puts.only b (not-at c.args.lot.now c.in_ok-at.at b c.in_ok-at.ensures.data d) in
     cc
 
 pub returns-in_err-store-clause-counts : goal.returns-in_err-store-clause-counts
