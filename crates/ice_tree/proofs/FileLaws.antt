@@ -204,22 +204,22 @@ module _ (f : Form) (one : f ≡ form_one) (entry : ℕ) (sized : entry ≡ 64) 
         (subst (λ s. FileSet lot s m m' number (overwritten (file_bytes (own s m number)) off bytes)) sized set))
 
     pub write-sound : (e : OpFault) → IsWriteFault e
-        → (e ≡ NoSpace → WellMade lot entry m number → free_count false lot m + uses_of (blocks_for (inode_of m number).size) < uses_of (blocks_with (inode_of m number).size (off + length bytes)))
-        → (e ≡ Damaged Counts → WellMade lot entry m number → uses_of (blocks_for (inode_of m number).size) ≤ counted false m → 2 ^ 32 + uses_of (blocks_for (inode_of m number).size) ≤ counted false m + uses_of (blocks_with (inode_of m number).size (off + length bytes)))
-        → (e ≡ Damaged Kind → ¬ ReachesTo off (inode_of m number)) → (e ≡ Damaged Pointer → ¬ WellMade lot entry m number) → (e ≡ Damaged Bitmap → WellMade lot entry m number → ¬ Reserved lot m) → e ≡ Disk
+        → (e ≡ NoSpace → free_count false lot m + uses_of (blocks_for (inode_of m number).size) < uses_of (blocks_with (inode_of m number).size (off + length bytes)))
+        → (e ≡ Damaged Counts → 2 ^ 32 + uses_of (blocks_for (inode_of m number).size) ≤ counted false m + uses_of (blocks_with (inode_of m number).size (off + length bytes)))
+        → (e ≡ Damaged Kind → ¬ ReachesTo off (inode_of m number)) → (e ≡ Damaged Pointer → ¬ WellMade lot entry m number) → (e ≡ Damaged Bitmap → ¬ Reserved lot m) → e ≡ Disk
     write-sound e h none full kind pointer unreserved =
         let b = whole mode lot m t k p number few write-takes.recovers write-takes.number_is writes.old writes.found in
         write-fails e h
         (λ q. subst (λ i. ¬ (free_count false lot m + uses_of (blocks_for (inode_of m i).size) < uses_of (blocks_with (inode_of m i).size (off + length bytes)))) (sym write-takes.number_is)
         (write_fits mode lot m t k few [] [] b p writes.old writes.found (written writes.old off bytes) (off + length bytes) long writes.small
         (let l = ap (blocks form_one) (at-same p (λ s. File (written writes.old off bytes)) (λ u. File (written (bytes_of u) off bytes)) t (File writes.old) writes.found refl) in let q = blocks-next t k (length lot.groups) form_one (Write p off bytes) write-takes.accepted refl in omega arith))
-        (none q write-made))
+        (none q))
         (λ q. subst (λ i. ¬ (2 ^ 32 + uses_of (blocks_for (inode_of m i).size) ≤ counted false m + uses_of (blocks_with (inode_of m i).size (off + length bytes)))) (sym write-takes.number_is)
         (write_counts mode lot m t k few [] [] b p writes.old writes.found (off + length bytes) writes.small)
-        (full q write-made (counts mode lot m t k p number few write-takes.recovers write-takes.number_is writes.old writes.found)))
+        (full q))
         (λ q. kind q (reach mode lot m t k p number few write-takes.recovers write-takes.number_is writes.old writes.found off writes.within))
         (λ q. pointer q write-made)
-        (λ q. unreserved q write-made write-takes.recovers.holds.reserved)
+        (λ q. unreserved q write-takes.recovers.holds.reserved)
 
   -- the file is cut
   module _ (len : ℕ) (x : TakesAt f mode lot m t k p (Trunc p len) number) where
