@@ -2,7 +2,7 @@
 use Rattle.std.proofs.Common.{◌≡◌, ◌≤◌, ◌<◌, ◌+◌, ◌*◌, ℕ, true, false, List, [], ◌∷◌, length, refl, subst, arith}
 use Rattle.ice_base.specs.Lots.{LotView}
 use Rattle.ice_base.specs.Spare.{has}
-use Rattle.ice_base.specs.Used.{used_block, is_data}
+use Rattle.ice_base.specs.Used.{used_block, used_inode, is_data}
 use Rattle.ice_map.specs.Inodes.{inode_of}
 use Rattle.ice_map.specs.Maps.{times}
 use Rattle.ice_map.proofs.ListLaws.{times-append, has-times}
@@ -76,3 +76,14 @@ module _ (mode : ℕ) (lot : LotView) (m : Map) (t : Tree) (k : ℕ) (xs is : Li
       number : (s : Tree) → Reads form_one lot (own 64 m) (inode_on form_one (own 64 m) 0 q) (length q) s → inode_on form_one (own 64 m) 0 q < 64 * length lot.groups
       number (File bytes) r = r.0.number
       number (Dir es) r = r.0.number
+
+  -- its inode is marked used
+  pub beside_marked : (q : List (List ℕ)) (s : Tree) → walk q t ≡ Found s → used_inode m (inode_on form_one (own 64 m) 0 q) ≡ true
+  beside_marked q s found =
+      let o = own_in form_one m in
+      let here = inode_on form_one o 0 q in
+      let e = b.inodes here (beside_number q s found) in
+      let c = times-append (used_inodes form_one o 0 t) is here in
+      let p = uses-part form_one o (λ i. i ∷ []) here q 0 t s found in
+      let f = inode-first form_one o here s in
+      mark-set (used_inode m here) (omega arith)

@@ -33,6 +33,13 @@ fault-names P e r is h {A} n named = by e h (sym is ∙ error named)
     by NoSpace h q = absurd h
     by NoNodes h q = absurd h
 
+-- a refusal that is handed on
+pub same-refusal : {A B : Type 0} (r : Refusal) (n : ℕ) → IsErrOf {T = A} (Err r) (code.Damaged n) → IsErrOf {T = B} (Err r) (code.Damaged n)
+same-refusal {A} {B} r n e = ap (λ x. Err x) (error e)
+  where
+    error : IsErrOf {T = A} (Err r) (code.Damaged n) → r ≡ code.Damaged n
+    error q = cc
+
 -- the rules of the sub-super block alone
 abbrev IsSubRule : Rule → Type 0
 IsSubRule rule.Magic = ⊤

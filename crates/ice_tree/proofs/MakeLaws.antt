@@ -1,10 +1,10 @@
 -- What a new directory or file does to a tree, and what it needs.
-use Rattle.std.proofs.Common.{◌≡◌, ◌≤◌, ◌<◌, ◌+◌, ◌-◌, ◌*◌, ◌^◌, ℕ, Bool, true, false, List, [], ◌∷◌, ◌++◌, length, None, sym, refl, subst, ◌∙◌, arith}
+use Rattle.std.proofs.Common.{◌≡◌, ◌≢◌, ◌≤◌, ◌<◌, ◌+◌, ◌-◌, ◌*◌, ◌^◌, ℕ, Bool, true, false, List, [], ◌∷◌, ◌++◌, length, None, sym, refl, ap, subst, ◌∙◌, arith}
 use Rattle.ice_base.specs.Inodes.{inode_address}
 use Rattle.ice_base.specs.Lots.{LotView, sub_address}
 use Rattle.ice_base.specs.Pools.{TookInode}
 use Rattle.ice_base.specs.Faults.{IsDiskFault, IsTakeInodeFault}
-use Rattle.ice_base.specs.Used.{AllUsed, bitmap_of, counted, free_count, Reserved}
+use Rattle.ice_base.specs.Used.{AllUsed, bitmap_of, used_inode, counted, free_count, Reserved}
 use Rattle.ice_base.specs.declared.fault.OpFault.{OpFault}
 use Rattle.ice_base.specs.declared.fault.OpFault.TheVariants.{Disk, Damaged, NoSpace, NoNodes}
 use Rattle.ice_base.specs.declared.fault.Rule.TheVariants.{Counts, Kind, Pointer, Bitmap}
@@ -30,13 +30,14 @@ use Rattle.ice_steps.specs.Beside.{Beside, OnlyAt}
 use Rattle.ice_steps.proofs.Chains.{dir_made, file_made}
 use Rattle.ice_steps.proofs.Costs.{inode_left, inode_counts, add_counts, add_fits}
 use Rattle.ice_steps.proofs.Fresh.{fresh_value, fresh_dir, fresh_file, dir_beside, file_beside, put_loose, put_stays}
-use Rattle.ice_steps.proofs.Made.{beside_made}
+use Rattle.ice_steps.proofs.Made.{beside_made, beside_marked}
 use Rattle.ice_steps.proofs.Needs.{beside_room, beside_reserved}
 use Rattle.ice_steps.proofs.Recovers.{recovers_beside}
 use Rattle.ice_steps.proofs.Stays.{stays_walk}
 use Rattle.ice_steps.proofs.Takes.{took_inode, took_stays}
 use Rattle.ice_tree.specs.declared.ends.Spot.{Spot}
 use Rattle.ice_tree.specs.Changes.{new_operation, new_inode, Takes}
+use Rattle.ice_tree.proofs.PlaceLaws.{true_false}
 
 -- ---- which faults there are
 
@@ -133,6 +134,10 @@ module _ (mode : ℕ) (lot : LotView) (m0 : Map) (t : Tree) (k : ℕ) (p : Names
       (λ q. inode_left mode lot m0 t k few [] [] whole (one_left t k (length lot.groups) p dir x.accepted) (none q))
       (λ q. inode_counts mode lot m0 t k few [] [] whole (full q))
 
+  -- the directory's own inode is marked used
+  spot_used : used_inode m0 spot.number ≡ true
+  spot_used = subst (λ i. used_inode m0 i ≡ true) (sym x.spot_is.number) (beside_marked mode lot m0 t k [] [] whole (parent p) (Dir place.entries) place.there)
+
   module _ (m1 m2 : Map) (j : ℕ) (n : NodePut lot m0 m1 m2 j dir) where
     beside-taken : Beside form_one mode lot m1 t k [] (j ∷ [])
     beside-taken = took_inode mode lot m0 m1 t k [] j few whole n.took n.small n.taken
@@ -194,6 +199,10 @@ module _ (f : Form) (one : f ≡ form_one) (entry : ℕ) (sized : entry ≡ 64) 
 
   pub take_sound : (e : OpFault) → IsTakeInodeFault e → (e ≡ NoNodes → AllUsed true lot m0) → (e ≡ Damaged Counts → counted true m0 ≡ 2 ^ 32 - 1) → e ≡ Disk
   take_sound = take_fault mode lot m0 t k p dir spot name few as_one
+
+  -- the inode that is taken is not the directory's
+  pub spot_apart : (j : ℕ) → used_inode m0 j ≡ false → j ≢ spot.number
+  spot_apart j free e = true_false (used_inode m0 j) (ap (used_inode m0) e ∙ spot_used mode lot m0 t k p dir spot name few as_one) free
 
   module _ (m1 m2 : Map) (j : ℕ) (n : NodePut lot m0 m1 m2 j dir) where
     pub spot_well : WellMade lot entry m2 spot.number

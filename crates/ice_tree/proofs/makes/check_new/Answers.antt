@@ -1,10 +1,17 @@
-use Rattle.std.proofs.Common.{◌∙◌, length, drop, sym, ap, subst, [], ◌∷◌}
+use Rattle.std.proofs.Common.{◌≡◌, ◌+◌, ◌∙◌, length, drop, sym, ap, subst, [], ◌∷◌, arith}
+use Rattle.ice_base.proofs.LotLaws.{sited-few}
+use Rattle.ice_base.specs.declared.fault.Rule.{Rule}
+use Rattle.ice_reads.specs.Tables.{Map}
+use Rattle.ice_tree.specs.Broken.{IsBroken}
+use Rattle.ice_tree.specs.Grounds.{HasFree}
+use Rattle.ice_tree.proofs.CostLaws.{dir-cost}
+use Rattle.ice_tree.proofs.FaultLaws.{same-refusal}
 use Rattle.tree_spec.specs.Costs.{form_of}
 use Rattle.tree_spec.specs.Answers.{next}
 use Rattle.tree_spec.specs.Replies.{refused_of}
 use Rattle.ice_reads.specs.Tables.{own_in}
 use Rattle.ice_tree.specs.Changes.{new_operation, new_refusal}
-use Rattle.ice_tree.specs.Outcomes.{RefusedAs}
+use Rattle.ice_tree.specs.Outcomes.{RefusedAs, rule_number}
 use Rattle.ice_tree.specs.Stages.{or_else, paths_refusal, quota_refusal}
 use Rattle.ice_tree.proofs.SpotLaws.{new-stages, new-needs, root-is}
 use Rattle.ice_tree.proofs.StageLaws.{refused-now, refused-later, none-both, recovers-same}
@@ -60,3 +67,26 @@ returns-in-Err-check_quota-clause-spot g c = λ dir mode k t s r.
     (refused-later x (paths_refusal f (p ∷ [])) (or_else (new_refusal p t) (quota_refusal n f k (next (new_operation dir p) t))) c.in_default.ensures.refusal
     (refused-later x (new_refusal p t) (quota_refusal n f k (next (new_operation dir p) t)) spot.1
     (c.in-Err-check_quota.ensures.quota mode k t (next (new_operation dir p) t) (c.find_ends.ensures.looked.shows s) later needs)))
+
+pub returns-in-Ok-check_quota-clause-ready : goal.returns-in-Ok-check_quota-clause-ready
+returns-in-Ok-check_quota-clause-ready g c = λ s.
+    let f = form_of g.F.Form.VERSION in
+    let one = ap form_of g.F.Form.is_one.0 in
+    let m = g.K.View.map c.args.keep.now c.args.disk.now c.args.lot.now in
+    let looked = c.find_ends.ensures.looked in
+    let spot = c.in-Ok-new_spot.ensures.is g.F.Form.ENTRY c.args.lot.now m (c.in-Ok.ensures.are s) c.in-Ok.ensures.fits in
+    let enough = subst (λ (n : Map). HasFree c.args.lot.now n (record { nodes = 1; lost = 0; blocks = c.dir_cost.result; freed = c.dir_cost-2.result })) looked.map (c.in-Ok-check_quota.ensures.enough (looked.shows s)) in
+    let few = sited-few c.args.lot.now _ c.requires.sited in
+    let small = c.in-Ok-new_spot.ensures.fits c.args.lot.now c.in-Ok.ensures.fits in
+    record {
+      spot_is = spot;
+      node = omega (arith, enough.nodes);
+      blocks = omega (arith, enough.blocks, c.dir_cost.ensures, c.dir_cost-2.ensures,
+      dir-cost f one g.F.Form.ENTRY g.F.Form.is_one.1 (c.in-Ok-new_spot.spot.entries + 1) (omega (arith, few, small.count)), dir-cost f one g.F.Form.ENTRY g.F.Form.is_one.1 c.in-Ok-new_spot.spot.entries (omega (arith, few, small.count)));
+      done = enough.done;
+    }
+
+pub returns-in-Err-check_quota-clause-damaged : goal.returns-in-Err-check_quota-clause-damaged
+returns-in-Err-check_quota-clause-damaged g c = λ n e s.
+    let looked = c.find_ends.ensures.looked in
+    subst (λ (m : Map). (r : Rule) × (n ≡ rule_number r) × IsBroken g.F.Form.ENTRY c.args.lot.now m r) looked.map (c.in-Err-check_quota.ensures.damaged n (same-refusal c.in-Err-check_quota.refusal n e) (looked.shows s))

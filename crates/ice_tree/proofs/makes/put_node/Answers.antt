@@ -1,10 +1,17 @@
-use Rattle.std.proofs.Common.{ap, subst, Err, arith}
+use Rattle.std.proofs.Common.{ap, sym, subst, ◌∙◌, inl, Err, ℕ, List, arith}
 use Rattle.std.proofs.lemmas.Result.{err_from_is_err_and}
 use Rattle.ice_base.proofs.LotLaws.{sited-few}
 use Rattle.ice_map.specs.declared.codec.Inode.{Inode}
 use Rattle.ice_map.specs.Inodes.{InodeSet}
 use Rattle.tree_spec.specs.Costs.{form_of}
-use Rattle.ice_tree.proofs.MakeLaws.{NodePut, take_sound, spot_well, add_sound, node_recovers}
+use Rattle.ice_base.specs.Fields.{long_at}
+use Rattle.ice_base.specs.Inodes.{inode_address}
+use Rattle.ice_base.specs.Lots.{sub_address}
+use Rattle.ice_base.proofs.FieldLaws.{long-beside}
+use Rattle.ice_map.proofs.GrowLaws.{inode_not_sub}
+use Rattle.ice_steps.proofs.Keeps.{only-one}
+use Rattle.ice_tree.proofs.NewDamage.{take-broken, add-broken}
+use Rattle.ice_tree.proofs.MakeLaws.{NodePut, take_sound, spot_apart, spot_well, add_sound, node_recovers}
 use Rattle.ice_tree.proofs.makes.put_node.Goals as goal
 
 pub returns-in_err-number-clause-sound : goal.returns-in_err-number-clause-sound
@@ -58,3 +65,48 @@ returns-clause-made g c = λ mode k t p s takes.
     (let limit = g.F.Form.is_one.2 in omega (arith, c.requires.fits, limit))
     (g.K.View.map c.add.new.keep c.add.new.disk c.args.lot.now)
     (c.in_ok-add.ensures.added s2 well)
+
+pub returns-then-number-spot-clause-sound : goal.returns-then-number-spot-clause-sound
+returns-then-number-spot-clause-sound g c = λ mode k t p s takes.
+    absurd (spot_apart (form_of g.F.Form.VERSION) (ap form_of g.F.Form.is_one.0) g.F.Form.ENTRY g.F.Form.is_one.1 mode c.args.lot.now (g.K.View.map c.args.keep.now c.args.disk.now c.args.lot.now) t k p c.args.dir c.args.spot.now c.args.name.now
+    (sited-few c.args.lot.now _ c.requires.sited) takes c.in_ok-number.number (c.in_ok-number.ensures.took s).least.0 c.if-number-spot.true)
+
+pub returns-in_err-number-clause-broken : goal.returns-in_err-number-clause-broken
+returns-in_err-number-clause-broken g c = λ s fits.
+    let x = err_from_is_err_and c.from_residual.result c.from_residual.ensures.1 in
+    let e = c.in_err-number.ensures in
+    rw (x.1, x.2)
+    (take-broken g.F.Form.ENTRY g.F.Form.is_one.1 c.args.lot.now (sited-few c.args.lot.now _ c.requires.sited) (g.K.View.map c.args.keep.now c.args.disk.now c.args.lot.now) c.args.spot.now fits
+    _ e.faults (λ q. e.none (ap (λ y. Err y) q) s) (λ q. e.full (ap (λ y. Err y) q) s))
+
+pub returns-in_err-add-clause-broken : goal.returns-in_err-add-clause-broken
+returns-in_err-add-clause-broken g c = λ s fits.
+    let x = err_from_is_err_and c.from_residual-in_err-add.result c.from_residual-in_err-add.ensures.1 in
+    let e = c.in_err-add.ensures in
+    let s1 = c.take_inode.ensures.spent.shows s in
+    let s2 = c.put_inode.ensures.spent.shows s1 in
+    let m0 = g.K.View.map c.args.keep.now c.args.disk.now c.args.lot.now in
+    let m1 = g.K.View.map c.take_inode.new.keep c.take_inode.new.disk c.args.lot.now in
+    let m2 = g.K.View.map c.put_inode.new.keep c.put_inode.new.disk c.args.lot.now in
+    rw (x.1, x.2)
+    (add-broken g.F.Form.ENTRY g.F.Form.is_one.1 c.args.lot.now (sited-few c.args.lot.now _ c.requires.sited) m0 c.args.spot.now fits m1 m2 c.in_ok-number.number c.args.dir
+    (record {
+      small = c.in_ok-number.ensures.number;
+      took = c.in_ok-number.ensures.took s;
+      taken = c.in_ok-number.ensures.puts.only;
+      put = subst (λ (x : Inode). InodeSet m1 m2 c.in_ok-number.number x) c.new_node.ensures (c.in_ok-put_inode.ensures.written s1);
+      there = c.put_inode.ensures.puts.only;
+    })
+    c.if-number-spot.false
+    _ e.faults (λ q. e.none (ap (λ y. Err y) q) s2) (λ q. e.full (ap (λ y. Err y) q) s2) (λ q. e.kind (ap (λ y. Err y) q) s2) (λ q. e.misled (ap (λ y. Err y) q) s2) (λ q. e.unreserved (ap (λ y. Err y) q) s2))
+
+pub returns-clause-done : goal.returns-clause-done
+returns-clause-done g c = λ s.
+    let s1 = c.take_inode.ensures.spent.shows s in
+    let s2 = c.put_inode.ensures.spent.shows s1 in
+    let m0 = g.K.View.map c.args.keep.now c.args.disk.now c.args.lot.now in
+    let m1 = g.K.View.map c.take_inode.new.keep c.take_inode.new.disk c.args.lot.now in
+    let m2 = g.K.View.map c.put_inode.new.keep c.put_inode.new.disk c.args.lot.now in
+    long-beside _ _ 24 4 16 (c.in_ok-add.ensures.sub s2) (inl (omega arith))
+    ∙ ap (λ (b : List ℕ). long_at b 16) (only-one (inode_address c.in_ok-number.number) m1 m2 c.put_inode.ensures.puts.only sub_address (λ e. inode_not_sub c.in_ok-number.number (sym e)))
+    ∙ long-beside _ _ 28 4 16 (c.in_ok-number.ensures.took s).counts.others (inl (omega arith))
