@@ -1,5 +1,5 @@
 -- Which rule a refusal names, and that the lot breaks it.
-use Rattle.std.proofs.Common.{◌≡◌, ℕ, subst, Bool, true, false, List, Some, None, Option, Result, Ok, Err, IsErrOf, refl, ap, sym, ◌∙◌}
+use Rattle.std.proofs.Common.{◌≡◌, ◌≤◌, ◌<◌, ◌+◌, ℕ, subst, arith, Bool, true, false, List, Some, None, Option, Result, Ok, Err, IsErrOf, refl, ap, sym, ◌∙◌}
 use Rattle.std.specs.Prelude.{◌==◌, not, ◌^◌, nat_lt, slice_index, if◌then◌else◌, IfErr, ⊤}
 use Rattle.ice_base.specs.Fields.{word_at, long_at}
 use Rattle.ice_base.specs.Lots.{LotView, sub_address}
@@ -12,7 +12,7 @@ use Rattle.tree_spec.specs.declared.reply.Refusal.{Refusal}
 use Rattle.tree_spec.specs.declared.reply.Refusal.TheVariants as code
 use Rattle.ice_reads.proofs.Focus.{same_Some, None≢Some}
 use Rattle.ice_tree.specs.Broken.{IsBroken, IsBrokenIn, IsBrokenBy, IsFaultBy}
-use Rattle.ice_tree.specs.Outcomes.{rule_number, refusal_by, IsSubFault}
+use Rattle.ice_tree.specs.Outcomes.{rule_number, refusal_by, IsSubFault, IsCountFault}
 
 -- a fault as a refusal names the fault's rule
 pub fault-names : (P : Rule → Type 0) (e : OpFault) (r : Refusal) → r ≡ refusal_by e → IsFaultBy P e → {A : Type 0} (n : ℕ) → IsErrOf {T = A} (Err r) (code.Damaged n) → (x : Rule) × (n ≡ rule_number x) × P x
@@ -32,6 +32,12 @@ fault-names P e r is h {A} n named = by e h (sym is ∙ error named)
     by (Damaged x) h q = (x, same (rule_number x) n q, h)
     by NoSpace h q = absurd h
     by NoNodes h q = absurd h
+
+-- one more operation can be counted, so that the disk failed
+pub count-broken : (P : Rule → Type 0) (done : ℕ) (e : OpFault) → IsCountFault e → (e ≡ Damaged rule.Done → 2 ^ 63 ≤ done + 1) → done + 1 < 2 ^ 63 → IsFaultBy P e
+count-broken P done Disk h full room = tt
+count-broken P done (Damaged rule.Done) h full room = absurd (omega (arith, full refl, room))
+count-broken P done _ h full room = absurd h
 
 -- a refusal that is handed on
 pub same-refusal : {A B : Type 0} (r : Refusal) (n : ℕ) → IsErrOf {T = A} (Err r) (code.Damaged n) → IsErrOf {T = B} (Err r) (code.Damaged n)

@@ -23,3 +23,4 @@ pub mod FaultLaws
 pub mod MapDamage
 pub mod NewDamage
 pub mod CostLaws
+pub mod FileDamage

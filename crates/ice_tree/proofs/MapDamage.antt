@@ -8,6 +8,7 @@ use Rattle.ice_base.specs.Used.{is_data}
 use Rattle.ice_map.specs.declared.codec.Inode.{Inode}
 use Rattle.ice_map.specs.Maps.{leads, Misleads}
 use Rattle.ice_map.proofs.MapLaws.{leads-direct, leads-single, leads-lost}
+use Rattle.ice_file.specs.Files.{longest_file}
 use Rattle.ice_file.specs.Own.{map_length, blocks_for}
 use Rattle.ice_file.specs.Writes.{uses_of}
 use Rattle.ice_file.proofs.OwnLaws.{nth-moves}
@@ -33,6 +34,12 @@ dir-few entry n e h =
     let a = div-add-mod' (n + 15) 16 in
     let r = mod_below (n + 15) 16 (omega arith) in
     omega (arith, s, a, r, h, uses-few (nat_lt 12 (dir_blocks entry n)) (dir_blocks entry n))
+
+pub file-few : (n : ℕ) → n ≤ longest_file → uses_of (blocks_for n) ≤ 300
+file-few n h =
+    let a = div-add-mod' (n + 1023) 1024 in
+    let r = mod_below (n + 1023) 1024 (omega arith) in
+    omega (arith, a, r, h, uses-few (nat_lt 12 (blocks_for n)) (blocks_for n))
 
 -- what the blocks of a map are hangs on its indirect block alone
 pub leads-same : (lot : LotView) (m m' : Map) (x : Inode) (k : ℕ) → (is_data lot x.single ≡ true → m' x.single ≡ m x.single) → leads lot m' x k ≡ leads lot m x k

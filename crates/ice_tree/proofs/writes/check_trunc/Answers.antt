@@ -1,10 +1,14 @@
-use Rattle.std.proofs.Common.{◌∙◌, drop, length, sym, subst}
+use Rattle.std.proofs.Common.{◌≡◌, ◌∙◌, drop, length, sym, subst}
 use Rattle.tree_spec.specs.Costs.{form_of}
 use Rattle.tree_spec.specs.Answers.{next}
 use Rattle.tree_spec.specs.Operations.{Trunc}
 use Rattle.tree_spec.specs.Replies.{refused_of}
 use Rattle.ice_tree.specs.Changes.{reach_refusal}
-use Rattle.ice_tree.specs.Outcomes.{RefusedAs}
+use Rattle.ice_base.specs.declared.fault.Rule.{Rule}
+use Rattle.ice_reads.specs.Tables.{Map}
+use Rattle.ice_tree.specs.Broken.{IsBroken}
+use Rattle.ice_tree.specs.Outcomes.{RefusedAs, rule_number}
+use Rattle.ice_tree.proofs.FaultLaws.{same-refusal}
 use Rattle.ice_tree.specs.Stages.{quota_refusal}
 use Rattle.ice_tree.proofs.FileLaws.{trunc-stages, reach-none, trunc-needs}
 use Rattle.ice_tree.proofs.StageLaws.{refused-now, refused-later, none-both, recovers-same}
@@ -46,3 +50,8 @@ returns-in-Err-check_quota-clause-file g c = λ mode k t s r.
     subst (RefusedAs x) (sym (trunc-stages t k n f p c.args.len))
     (refused-later x (reach_refusal f p c.args.len t) (quota_refusal n f k (next (Trunc p c.args.len) t)) (reach-none f p c.args.len t names file.bytes file.there file.reaches)
     (c.in-Err-check_quota.ensures.quota mode k t (next (Trunc p c.args.len) t) (c.reach_file.ensures.looked.shows s) later needs))
+
+pub returns-in-Err-check_quota-clause-damaged : goal.returns-in-Err-check_quota-clause-damaged
+returns-in-Err-check_quota-clause-damaged g c = λ n e s.
+    let looked = c.reach_file.ensures.looked in
+    subst (λ (m : Map). (r : Rule) × (n ≡ rule_number r) × IsBroken g.F.Form.ENTRY c.args.lot.now m r) looked.map (c.in-Err-check_quota.ensures.damaged n (same-refusal c.in-Err-check_quota.refusal n e) (looked.shows s))
