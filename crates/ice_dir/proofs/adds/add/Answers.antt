@@ -1,5 +1,7 @@
-use Rattle.std.proofs.Common.{◌+◌, sym, subst, arith}
+use Rattle.std.proofs.Common.{ℕ, ◌+◌, List, slice_index, ◌∙◌, sym, ap, subst, arith}
 use Rattle.ice_base.proofs.LotLaws.{sited-few}
+use Rattle.ice_base.specs.Lots.{sub_address}
+use Rattle.ice_map.proofs.GrowLaws.{inode_not_sub}
 use Rattle.ice_file.specs.Own.{MadeOf}
 use Rattle.ice_dir.specs.Changes.{dir_blocks, RowPut}
 use Rattle.ice_dir.proofs.PutLaws.{dir-added, made-dir}
@@ -24,3 +26,10 @@ returns-clause-added g c = λ s made.
     let put' = subst (λ m. RowPut lot entry m m1 x c.append.new.dir (dir_blocks entry x.size) (dir_blocks entry (x.size + 1)) x.size (c.bytes.result.now, c.args.inode)) looked.map put in
     let set = c.in_ok-put_inode.ensures.written (c.append.ensures.spent.shows (looked.shows s)) in
     rw (sym c.bytes.ensures.value) (dir-added lot entry m0 m1 m2 x c.append.new.dir c.args.number (c.bytes.result.now, c.args.inode) one.1 is (let l = c.len.ensures.len in let t = c.if-dir-len.false in omega arith) before put' set c.put_inode.ensures.puts.only)
+
+pub returns-clause-sub : goal.returns-clause-sub
+returns-clause-sub g c = λ s k h.
+    let looked = c.dir_inode.ensures.looked in
+    ap (λ (b : List ℕ). slice_index b k) (c.put_inode.ensures.puts.only sub_address (λ e. inode_not_sub c.args.number (sym e)))
+    ∙ c.in_ok-append.ensures.sub (looked.shows s) k h
+    ∙ ap (λ (m : ℕ → List ℕ). slice_index (m sub_address) k) looked.map

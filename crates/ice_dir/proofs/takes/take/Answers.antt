@@ -1,11 +1,15 @@
 use Rattle.std.proofs.Common.{rules, ◌≡◌, ◌∙◌, ap, sym, subst, Some, arith, List, ℕ, []}
 use Rattle.std.specs.List.{swap_remove}
 use Rattle.ice_base.proofs.LotLaws.{sited-few}
+use Rattle.ice_base.specs.declared.fault.Rule.TheVariants.{Pointer, Bitmap}
+use Rattle.ice_map.specs.declared.codec.Inode.{Inode}
 use Rattle.ice_map.specs.Inodes.{inode_of}
+use Rattle.ice_map.specs.Maps.{Misleads, UsesUnmarked}
 use Rattle.ice_file.specs.Own.{WellMade}
-use Rattle.ice_dir.specs.Changes.{DirSet}
+use Rattle.ice_dir.specs.Changes.{dir_blocks, DirSet}
 use Rattle.ice_dir.specs.Rows.{row_of, rows_of}
 use Rattle.ice_dir.proofs.DirLaws.{look-found, look-none, rows-read}
+use Rattle.ice_dir.proofs.FaultLaws.{misled-block}
 use Rattle.ice_dir.proofs.PutLaws.{made-dir}
 use Rattle.ice_dir.proofs.TakeLaws.{block-leads, dir-without}
 use Rattle.ice_dir.proofs.takes.take.Goals as goal
@@ -23,6 +27,31 @@ returns-in_err-seek-clause-pointer g c = λ e s made.
     let l = block-leads lot g.F.Form.ENTRY (g.K.View.map c.args.keep.now c.args.disk.now lot) c.in_ok-dir.dir p.0 one.1 owned p.1 in
     let q = p.2 in
     cc
+
+pub returns-in_err-seek-clause-misled : goal.returns-in_err-seek-clause-misled
+returns-in_err-seek-clause-misled g c = λ e s.
+    let one = g.F.Form.is_one in
+    let same = c.seek.ensures.looked.map ∙ c.dir_inode.ensures.looked.map in
+    let is : inode_of (g.K.View.map c.seek.new.view c.seek.new.disk c.args.lot.now) c.args.number ≡ c.in_ok-dir.dir = ap (λ (m : ℕ → List ℕ). inode_of m c.args.number) same ∙ sym (c.in_ok-dir.ensures.value s) in
+    let p = c.in_err-seek.ensures.pointer (search rules) (c.dir_inode.ensures.looked.shows s) in
+    subst (λ (i : Inode). Misleads c.args.lot.now (g.K.View.map c.seek.new.view c.seek.new.disk c.args.lot.now) i (dir_blocks g.F.Form.ENTRY i.size)) (sym is)
+    (misled-block c.args.lot.now g.F.Form.ENTRY (g.K.View.map c.seek.new.view c.seek.new.disk c.args.lot.now) (g.K.View.map c.dir_inode.new.view c.dir_inode.new.disk c.args.lot.now) c.in_ok-dir.dir p.0 one.1 c.seek.ensures.looked.map p.1 p.2)
+
+pub returns-in_err-remove_row-in-Some-clause-unmarked : goal.returns-in_err-remove_row-in-Some-clause-unmarked
+returns-in_err-remove_row-in-Some-clause-unmarked g c = λ e s.
+    let m = g.K.View.map c.remove_row.new.keep c.remove_row.new.disk c.args.lot.now in
+    let t = c.seek.ensures.looked.shows (c.dir_inode.ensures.looked.shows s) in
+    let same = c.seek.ensures.looked.map ∙ c.dir_inode.ensures.looked.map in
+    let is : inode_of m c.args.number ≡ c.in_ok-dir.dir = c.in_err-remove_row-in-Some.ensures.kept Bitmap (search rules) t ∙ ap (λ (m : ℕ → List ℕ). inode_of m c.args.number) same ∙ sym (c.in_ok-dir.ensures.value s) in
+    subst (λ (i : Inode). UsesUnmarked m i (dir_blocks g.F.Form.ENTRY i.size)) (sym is) (c.in_err-remove_row-in-Some.ensures.unmarked (search rules) t)
+
+pub returns-in_err-remove_row-in-Some-clause-misled : goal.returns-in_err-remove_row-in-Some-clause-misled
+returns-in_err-remove_row-in-Some-clause-misled g c = λ e s.
+    let m = g.K.View.map c.remove_row.new.keep c.remove_row.new.disk c.args.lot.now in
+    let t = c.seek.ensures.looked.shows (c.dir_inode.ensures.looked.shows s) in
+    let same = c.seek.ensures.looked.map ∙ c.dir_inode.ensures.looked.map in
+    let is : inode_of m c.args.number ≡ c.in_ok-dir.dir = c.in_err-remove_row-in-Some.ensures.kept Pointer (search rules) t ∙ ap (λ (m : ℕ → List ℕ). inode_of m c.args.number) same ∙ sym (c.in_ok-dir.ensures.value s) in
+    subst (λ (i : Inode). Misleads c.args.lot.now m i (dir_blocks g.F.Form.ENTRY i.size)) (sym is) (c.in_err-remove_row-in-Some.ensures.misled (search rules) t)
 
 pub returns-in-None-clause-found : goal.returns-in-None-clause-found
 returns-in-None-clause-found g c = λ s.
