@@ -6,4 +6,6 @@ mod compare;
 #[cfg(test)]
 mod cube;
 #[cfg(test)]
+mod damage;
+#[cfg(test)]
 mod rows;

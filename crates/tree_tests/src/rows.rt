@@ -12,27 +12,27 @@ use tree_spec::{Command, Entry, Refusal, Reply, Room, Value};
 
 const PIECE: [u8; 16384] = [7; 16384];
 
-fn makes(text: &[u8]) -> Command<'static> {
+pub(crate) fn makes(text: &[u8]) -> Command<'static> {
     Command::Make { path: path(text) }
 }
 
-fn mkdirs(text: &[u8]) -> Command<'static> {
+pub(crate) fn mkdirs(text: &[u8]) -> Command<'static> {
     Command::Mkdir { path: path(text) }
 }
 
-fn removes(text: &[u8]) -> Command<'static> {
+pub(crate) fn removes(text: &[u8]) -> Command<'static> {
     Command::Remove { path: path(text) }
 }
 
-fn stats(text: &[u8]) -> Command<'static> {
+pub(crate) fn stats(text: &[u8]) -> Command<'static> {
     Command::Stat { path: path(text) }
 }
 
-fn lists(text: &[u8]) -> Command<'static> {
+pub(crate) fn lists(text: &[u8]) -> Command<'static> {
     Command::List { path: path(text) }
 }
 
-fn reads(text: &[u8], at: u32, len: u32) -> Command<'static> {
+pub(crate) fn reads(text: &[u8], at: u32, len: u32) -> Command<'static> {
     Command::Read {
         path: path(text),
         at,
@@ -40,7 +40,7 @@ fn reads(text: &[u8], at: u32, len: u32) -> Command<'static> {
     }
 }
 
-fn writes<'a>(text: &[u8], at: u32, bytes: &'a [u8]) -> Command<'a> {
+pub(crate) fn writes<'a>(text: &[u8], at: u32, bytes: &'a [u8]) -> Command<'a> {
     Command::Write {
         path: path(text),
         at,
@@ -48,14 +48,14 @@ fn writes<'a>(text: &[u8], at: u32, bytes: &'a [u8]) -> Command<'a> {
     }
 }
 
-fn cuts(text: &[u8], len: u32) -> Command<'static> {
+pub(crate) fn cuts(text: &[u8], len: u32) -> Command<'static> {
     Command::Trunc {
         path: path(text),
         len,
     }
 }
 
-fn renames(text: &[u8], to: &[u8]) -> Command<'static> {
+pub(crate) fn renames(text: &[u8], to: &[u8]) -> Command<'static> {
     Command::Rename {
         path: path(text),
         to: path(to),
@@ -63,7 +63,7 @@ fn renames(text: &[u8], to: &[u8]) -> Command<'static> {
 }
 
 /// One command after another through `ThroughKeep`, each with the reply that is wanted.
-fn replies<D: Disk>(
+pub(crate) fn replies<D: Disk>(
     rt: &impl Abort,
     disk: &mut D,
     lot: &Lot,
@@ -87,7 +87,7 @@ fn counts(rt: &impl Abort, host: &MemHost) -> (u32, u32, u64) {
     (read_u32(sub, 24), read_u32(sub, 28), read_u64(sub, 16))
 }
 
-const PLAIN: Reply = Ok(Value::Plain);
+pub(crate) const PLAIN: Reply = Ok(Value::Plain);
 
 #[test]
 fn files_are_written_read_and_cut(rt: HostRuntime) -> Result<(), Fail> {
