@@ -20,3 +20,6 @@ pub mod RemoveLaws
 pub mod ListLaws
 pub mod SpreadLaws
 pub mod FaultLaws
+pub mod TakeDamage
+pub mod RemoveDamage
+pub mod MoveDamage
