@@ -24,3 +24,6 @@ pub mod MapDamage
 pub mod NewDamage
 pub mod CostLaws
 pub mod FileDamage
+pub mod TakeDamage
+pub mod RemoveDamage
+pub mod MoveDamage

@@ -1,6 +1,6 @@
-use Rattle.std.proofs.Common.{ap, refl, arith, ◌∙◌, ◌+◌}
+use Rattle.std.proofs.Common.{ap, refl, arith, ◌∙◌}
 use Rattle.ice_base.proofs.LotLaws.{sited-few}
-use Rattle.tree_spec.specs.Costs.{form_of, map_cost, dir_blocks, file_blocks}
+use Rattle.tree_spec.specs.Costs.{form_of, map_cost, dir_blocks}
 use Rattle.tree_spec.specs.Operations.{Remove}
 use Rattle.tree_spec.specs.Answers.{next}
 use Rattle.ice_tree.proofs.GoneLaws.{gone-needs}

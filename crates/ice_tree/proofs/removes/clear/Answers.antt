@@ -1,4 +1,4 @@
-use Rattle.std.proofs.Common.{◌≡◌, ◌∙◌, sym, ap, Err}
+use Rattle.std.proofs.Common.{◌∙◌, ap, Err, ℕ, List}
 use Rattle.std.proofs.lemmas.Result.{on_ok_weaker, err_from_is_err_and}
 use Rattle.ice_base.proofs.LotLaws.{sited-few}
 use Rattle.ice_base.specs.Faults.{IsGiveFault}
@@ -6,6 +6,7 @@ use Rattle.ice_base.specs.declared.fault.OpFault.{OpFault}
 use Rattle.ice_base.specs.declared.fault.OpFault.TheVariants.{Disk as FaultDisk}
 use Rattle.tree_spec.specs.Costs.{form_of}
 use Rattle.ice_tree.proofs.RemoveLaws.{err-is, inode-given, can-give-inode}
+use Rattle.ice_tree.proofs.RemoveDamage.{done-given}
 use Rattle.ice_tree.proofs.removes.clear.Goals as goal
 
 pub returns-in_err-drop_bytes-clause-sound : goal.returns-in_err-drop_bytes-clause-sound
@@ -36,3 +37,13 @@ returns-clause-sound g c = λ mode k t s l.
     can-give-inode (form_of g.F.Form.VERSION) (ap form_of g.F.Form.is_one.0) mode lot (sited-few lot _ c.requires.sited) (g.K.View.map c.drop_bytes.new.keep c.drop_bytes.new.disk lot) t k c.args.number c.args.bytes g.F.Form.ENTRY g.F.Form.is_one.1
     (g.K.View.map c.put_inode.new.keep c.put_inode.new.disk lot) c.free_node.result b (c.in_ok-put_inode.ensures.written one) c.put_inode.ensures.puts.only
     e fault (λ q. x.zero (is ∙ ap (λ (y : OpFault). Err y) q) two) (λ q. x.unused (is ∙ ap (λ (y : OpFault). Err y) q) two))
+
+pub returns-clause-done : goal.returns-clause-done
+returns-clause-done g c = λ s.
+    let lot = c.args.lot.now in
+    let m1 : ℕ → List ℕ = g.K.View.map c.drop_bytes.new.keep c.drop_bytes.new.disk lot in
+    let m2 : ℕ → List ℕ = g.K.View.map c.put_inode.new.keep c.put_inode.new.disk lot in
+    let m3 : ℕ → List ℕ = g.K.View.map c.give_inode.new.keep c.give_inode.new.disk lot in
+    let one = c.drop_bytes.ensures.spent.shows s in
+    let two = c.put_inode.ensures.spent.shows one in
+    on_ok_weaker c.give_inode.result (λ gave. done-given m1 m2 m3 c.args.number _ (c.in_ok-drop_bytes.ensures.done s) c.put_inode.ensures.puts.only gave) (c.give_inode.ensures.gave two)

@@ -1,11 +1,15 @@
-use Rattle.std.proofs.Common.{◌≡◌, ◌∙◌, sym, ap, Err}
+use Rattle.std.proofs.Common.{◌∙◌, ap, Err, ℕ, List, arith}
 use Rattle.std.proofs.lemmas.Result.{on_ok_weaker}
 use Rattle.ice_base.proofs.LotLaws.{sited-few}
+use Rattle.ice_base.specs.Lots.{sub_address}
 use Rattle.ice_base.specs.declared.fault.OpFault.{OpFault}
 use Rattle.ice_base.specs.declared.fault.OpFault.TheVariants.{Disk as FaultDisk}
 use Rattle.ice_file.specs.Files.{IsCutToFault}
 use Rattle.tree_spec.specs.Costs.{form_of}
 use Rattle.ice_tree.proofs.RemoveLaws.{err-is, loose-made, nothing-dropped, bytes-dropped, can-drop}
+use Rattle.ice_tree.proofs.RemoveDamage.{drop-blamed}
+use Rattle.ice_tree.proofs.TakeDamage.{err-by, done-beside}
+use Rattle.ice_tree.specs.Broken.{IsBrokenFrom, IsFaultBy}
 use Rattle.ice_tree.proofs.removes.drop_bytes.Goals as goal
 
 pub returns-then-bytes-eq0-clause-dropped : goal.returns-then-bytes-eq0-clause-dropped
@@ -31,3 +35,19 @@ returns-clause-sound g c = λ mode k t s l.
     (λ e is fault.
     can-drop (form_of g.F.Form.VERSION) (ap form_of g.F.Form.is_one.0) mode c.args.lot.now few m t k c.args.number c.args.bytes g.F.Form.ENTRY g.F.Form.is_one.1 l c.if-bytes-eq0.false
     e fault (λ q. x.kind (is ∙ ap (λ (y : OpFault). Err y) q) s) (λ q. x.zero (is ∙ ap (λ (y : OpFault). Err y) q) s) (λ q. x.unused (is ∙ ap (λ (y : OpFault). Err y) q) s) (λ q. x.pointer (is ∙ ap (λ (y : OpFault). Err y) q) s))
+
+pub returns-clause-broken : goal.returns-clause-broken
+returns-clause-broken g c = λ o s reached file.
+    let m0 : ℕ → List ℕ = g.K.View.map c.args.keep.now c.args.disk.now c.args.lot.now in
+    let m1 : ℕ → List ℕ = g.K.View.map c.cut_to.new.keep c.cut_to.new.disk c.args.lot.now in
+    let x = c.cut_to.ensures in
+    err-by c.cut_to.result IsCutToFault (IsFaultBy (IsBrokenFrom g.F.Form.ENTRY c.args.lot.now o m1)) x.faults
+    (λ e is fault.
+    drop-blamed g.F.Form.ENTRY c.args.lot.now o m0 m1 c.args.number reached (file (omega arith)) e fault (λ q. x.kind (is ∙ ap (λ (y : OpFault). Err y) q) s) (λ q. x.zero (is ∙ ap (λ (y : OpFault). Err y) q) s)
+    (λ r q. x.kept r (is ∙ ap (λ (y : OpFault). Err y) q) s) (λ q. x.empty (is ∙ ap (λ (y : OpFault). Err y) q) s) (λ q. x.unmarked (is ∙ ap (λ (y : OpFault). Err y) q) s) (λ q. x.misled (is ∙ ap (λ (y : OpFault). Err y) q) s))
+
+pub returns-clause-done : goal.returns-clause-done
+returns-clause-done g c = λ s.
+    let m0 : ℕ → List ℕ = g.K.View.map c.args.keep.now c.args.disk.now c.args.lot.now in
+    let m1 : ℕ → List ℕ = g.K.View.map c.cut_to.new.keep c.cut_to.new.disk c.args.lot.now in
+    on_ok_weaker c.cut_to.result (λ same. done-beside (m0 sub_address) (m1 sub_address) same) (c.cut_to.ensures.sub s)

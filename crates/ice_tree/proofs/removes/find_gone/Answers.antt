@@ -1,4 +1,4 @@
-use Rattle.std.proofs.Common.{◌∙◌, sym, drop}
+use Rattle.std.proofs.Common.{◌∙◌, drop}
 use Rattle.tree_spec.specs.Costs.{form_of}
 use Rattle.ice_reads.specs.Tables.{own_in}
 use Rattle.ice_tree.proofs.GoneLaws.{not-root}

@@ -1,11 +1,15 @@
-use Rattle.std.proofs.Common.{◌≡◌, ◌∙◌, sym, ap, Err}
+use Rattle.std.proofs.Common.{◌∙◌, sym, ap, Err, ℕ, List, inr}
 use Rattle.std.specs.Prelude.{is_some}
-use Rattle.std.proofs.lemmas.Result.{err_from_is_err_and}
+use Rattle.std.proofs.lemmas.Result.{err_from_is_err_and, IfErr-weaker, on_ok_weaker}
 use Rattle.ice_base.proofs.LotLaws.{sited-few}
+use Rattle.ice_base.specs.Lots.{sub_address}
 use Rattle.tree_spec.specs.Costs.{form_of}
 use Rattle.tree_spec.specs.Answers.{next}
 use Rattle.tree_spec.specs.Operations.{Remove}
 use Rattle.ice_tree.proofs.RemoveLaws.{spot-made, spot-has, spot-takes, spot-left}
+use Rattle.ice_tree.proofs.RemoveDamage.{file-stays}
+use Rattle.ice_tree.proofs.TakeDamage.{fault-weaker, done-beside, take-blamed}
+use Rattle.ice_tree.specs.Broken.{IsBrokenFrom, IsBrokenIn, IsFaultBy}
 use Rattle.ice_tree.proofs.removes.take_away.Goals as goal
 
 pub returns-in_err-take-clause-sound : goal.returns-in_err-take-clause-sound
@@ -42,3 +46,33 @@ returns-in-Some-clause-sound g c = λ mode k t p s l.
     let set = c.in_ok-take.ensures.taken s (spot-made f one mode lot few m t k p c.args.gone.now c.args.name.now g.F.Form.ENTRY g.F.Form.is_one.1 l) (ap is_some c.in-Some.is) in
     c.clear.ensures.sound mode k (next (Remove p) t) (c.take.ensures.spent.shows s)
     (spot-left f one mode lot few m t k p c.args.gone.now c.args.name.now g.F.Form.ENTRY g.F.Form.is_one.1 l (g.K.View.map c.take.new.keep c.take.new.disk lot) set)
+
+pub returns-in_err-take-clause-broken : goal.returns-in_err-take-clause-broken
+returns-in_err-take-clause-broken g c = λ s is.
+    let lot = c.args.lot.now in
+    let m0 : ℕ → List ℕ = g.K.View.map c.args.keep.now c.args.disk.now lot in
+    let m1 : ℕ → List ℕ = g.K.View.map c.take.new.keep c.take.new.disk lot in
+    let x = err_from_is_err_and c.from_residual.result c.from_residual.ensures.1 in
+    let e = c.in_err-take.ensures in
+    rw (x.1, x.2)
+    (take-blamed g.F.Form.ENTRY lot m0 m1 c.args.gone.now.spot.number is.spot_is.reached is.spot_is.dir _ e.faults (λ q. e.zero (ap (λ y. Err y) q) s) (λ q. e.kind (ap (λ y. Err y) q) s)
+    (λ r q. e.kept r (ap (λ y. Err y) q) s) (λ q. e.unmarked (ap (λ y. Err y) q) s) (λ q. e.misled (ap (λ y. Err y) q) s))
+
+pub returns-in-Some-clause-broken : goal.returns-in-Some-clause-broken
+returns-in-Some-clause-broken g c = λ s is.
+    let lot = c.args.lot.now in
+    let m0 : ℕ → List ℕ = g.K.View.map c.args.keep.now c.args.disk.now lot in
+    let m1 : ℕ → List ℕ = g.K.View.map c.take.new.keep c.take.new.disk lot in
+    let m2 : ℕ → List ℕ = g.K.View.map c.clear.new.keep c.clear.new.disk lot in
+    let left = c.in_ok-take.ensures.left s (ap is_some c.in-Some.is) in
+    IfErr-weaker c.clear.result (IsFaultBy (IsBrokenFrom g.F.Form.ENTRY lot m0 m2)) (IsFaultBy (IsBrokenIn g.F.Form.ENTRY lot m0 m2))
+    (λ e. fault-weaker (IsBrokenFrom g.F.Form.ENTRY lot m0 m2) (IsBrokenIn g.F.Form.ENTRY lot m0 m2) (λ r h. inr h) e)
+    (c.clear.ensures.broken m0 (c.take.ensures.spent.shows s) is.reached (file-stays g.F.Form.ENTRY lot m0 m1 c.args.name.now c.args.gone.now is left))
+
+pub returns-in-Some-clause-done : goal.returns-in-Some-clause-done
+returns-in-Some-clause-done g c = λ s.
+    let lot = c.args.lot.now in
+    let m0 : ℕ → List ℕ = g.K.View.map c.args.keep.now c.args.disk.now lot in
+    let m1 : ℕ → List ℕ = g.K.View.map c.take.new.keep c.take.new.disk lot in
+    let left = c.in_ok-take.ensures.left s (ap is_some c.in-Some.is) in
+    on_ok_weaker c.clear.result (λ e. e ∙ done-beside (m0 sub_address) (m1 sub_address) left.sub) (c.clear.ensures.done (c.take.ensures.spent.shows s))
