@@ -1,7 +1,9 @@
 -- Which rule a refusal names, and that the lot breaks it.
-use Rattle.std.proofs.Common.{◌≡◌, ◌≤◌, ◌<◌, ◌+◌, ℕ, subst, arith, Bool, true, false, List, Some, None, Option, Result, Ok, Err, IsErrOf, refl, ap, sym, ◌∙◌}
+use Rattle.std.proofs.Common.{◌≡◌, ◌≤◌, ◌<◌, ◌+◌, ℕ, subst, arith, inl, Bool, true, false, List, Some, None, Option, Result, Ok, Err, IsErrOf, refl, ap, sym, ◌∙◌}
 use Rattle.std.specs.Prelude.{◌==◌, not, ◌^◌, nat_lt, slice_index, if◌then◌else◌, IfErr, ⊤}
-use Rattle.ice_base.specs.Fields.{word_at, long_at}
+use Rattle.ice_base.specs.Fields.{word_at, long_at, SameBeside}
+use Rattle.ice_base.specs.Used.{count_place}
+use Rattle.ice_base.proofs.FieldLaws.{long-beside}
 use Rattle.ice_base.specs.Lots.{LotView, sub_address}
 use Rattle.ice_base.specs.declared.fault.OpFault.{OpFault}
 use Rattle.ice_base.specs.declared.fault.OpFault.TheVariants.{Disk, Damaged, NoSpace, NoNodes}
@@ -33,18 +35,38 @@ fault-names P e r is h {A} n named = by e h (sym is ∙ error named)
     by NoSpace h q = absurd h
     by NoNodes h q = absurd h
 
+-- what a failed call says of its fault
+pub err-by : {T E : Type 0} (r : Result T E) (F G : E → Type 0) → IfErr r F → ((e : E) → r ≡ Err e → F e → G e) → IfErr r G
+err-by (Ok x) F G h go = tt
+err-by (Err e) F G h go = go e refl h
+
+-- a fault of which more holds
+pub fault-weaker : (P Q : Rule → Type 0) → ((r : Rule) → P r → Q r) → (e : OpFault) → IsFaultBy P e → IsFaultBy Q e
+fault-weaker P Q go Disk h = tt
+fault-weaker P Q go (Damaged r) h = go r h
+fault-weaker P Q go NoSpace h = h
+fault-weaker P Q go NoNodes h = h
+
+-- the count of operations lies beside that of blocks
+pub done-beside : (old new : List ℕ) → SameBeside (count_place false) 4 old new → long_at new 16 ≡ long_at old 16
+done-beside old new same = long-beside old new 24 4 16 same (inl (omega arith))
+
 -- one more operation can be counted, so that the disk failed
 pub count-broken : (P : Rule → Type 0) (done : ℕ) (e : OpFault) → IsCountFault e → (e ≡ Damaged rule.Done → 2 ^ 63 ≤ done + 1) → done + 1 < 2 ^ 63 → IsFaultBy P e
 count-broken P done Disk h full room = tt
 count-broken P done (Damaged rule.Done) h full room = absurd (omega (arith, full refl, room))
 count-broken P done _ h full room = absurd h
 
--- a refusal that is handed on
-pub same-refusal : {A B : Type 0} (r : Refusal) (n : ℕ) → IsErrOf {T = A} (Err r) (code.Damaged n) → IsErrOf {T = B} (Err r) (code.Damaged n)
-same-refusal {A} {B} r n e = ap (λ x. Err x) (error e)
+-- a refusal that is handed on names the same rule, of which more holds
+pub broke-too : {A B : Type 0} (P Q : Rule → Type 0) → ((x : Rule) → P x → Q x) → (r : Refusal) → ((n : ℕ) → IsErrOf {T = A} (Err r) (code.Damaged n) → (x : Rule) × (n ≡ rule_number x) × P x)
+    → (n : ℕ) → IsErrOf {T = B} (Err r) (code.Damaged n) → (x : Rule) × (n ≡ rule_number x) × Q x
+broke-too {A} {B} P Q go r found n named =
+    let same : r ≡ code.Damaged n = refusal named in
+    let h = found n (ap (λ y. Err y) same) in
+    (h.0, h.1, go h.0 h.2)
   where
-    error : IsErrOf {T = A} (Err r) (code.Damaged n) → r ≡ code.Damaged n
-    error q = cc
+    refusal : IsErrOf {T = B} (Err r) (code.Damaged n) → r ≡ code.Damaged n
+    refusal q = cc
 
 -- the rules of the sub-super block alone
 abbrev IsSubRule : Rule → Type 0

@@ -1,27 +1,52 @@
 -- What the map of a file or a directory says where it is damaged.
-use Rattle.std.proofs.Common.{◌≡◌, ℕ, ◌+◌, ◌*◌, ◌/◌, ◌<◌, ◌≤◌, ◌==◌, Bool, true, false, cond, List, length, refl, sym, ap, ◌∙◌, arith}
+use Rattle.std.proofs.Common.{◌≡◌, ℕ, ◌+◌, ◌*◌, ◌/◌, ◌<◌, ◌≤◌, Bool, true, false, cond, length, refl, sym, ap, ◌∙◌, subst, arith}
 use Rattle.std.proofs.lemmas.Bool.Decides.{nat_tests}
 use Rattle.std.proofs.lemmas.Nat.{div-add-mod', mod_below}
-use Rattle.std.specs.Prelude.{nat_lt}
+use Rattle.std.specs.Prelude.{◌==◌, nat_lt}
 use Rattle.ice_base.specs.Lots.{LotView}
-use Rattle.ice_base.specs.Used.{is_data}
+use Rattle.ice_base.specs.Used.{is_data, counted}
 use Rattle.ice_map.specs.declared.codec.Inode.{Inode}
-use Rattle.ice_map.specs.Maps.{leads, Misleads}
+use Rattle.ice_map.specs.Inodes.{inode_of}
+use Rattle.ice_map.specs.Maps.{uses, leads, Misleads, UsesUnmarked}
 use Rattle.ice_map.proofs.MapLaws.{leads-direct, leads-single, leads-lost}
 use Rattle.ice_file.specs.Files.{longest_file}
 use Rattle.ice_file.specs.Own.{map_length, blocks_for}
 use Rattle.ice_file.specs.Writes.{uses_of}
-use Rattle.ice_file.proofs.OwnLaws.{nth-moves}
-use Rattle.ice_dir.specs.Changes.{dir_blocks}
+use Rattle.ice_file.proofs.OwnLaws.{nth-moves, length-uses}
+use Rattle.ice_dir.specs.Changes.{HasRoom, dir_blocks}
+use Rattle.ice_dir.specs.Rows.{IsDirectory}
 use Rattle.ice_dir.proofs.PutLaws.{dir-sixteenth}
 use Rattle.ice_reads.specs.Tables.{Map}
+use Rattle.ice_tree.specs.Broken.{FewCounted, FreeBlock, BadPointer}
+use Rattle.ice_tree.specs.Places.{IsNode, IsReached}
 
--- how long the map is
-pub dir-map : (entry : ℕ) (x : Inode) → x.kind ≡ 2 → map_length entry x ≡ dir_blocks entry x.size
-dir-map entry x two = let test : (x.kind == 2) ≡ true = grind (arith, nat_tests) in ap (λ b. blocks_for (cond b (entry * x.size) x.size)) test
+-- how many blocks the map of a directory has, and that of a file
+pub map-dir : (entry : ℕ) (inode : Inode) → inode.kind ≡ 2 → map_length entry inode ≡ dir_blocks entry inode.size
+map-dir entry inode kind = ap (λ k. blocks_for (cond (k == 2) (entry * inode.size) inode.size)) kind
 
-pub file-map : (entry : ℕ) (x : Inode) → x.kind ≡ 1 → map_length entry x ≡ blocks_for x.size
-file-map entry x one = let test : (x.kind == 2) ≡ false = grind (arith, nat_tests) in ap (λ b. blocks_for (cond b (entry * x.size) x.size)) test
+pub map-file : (entry : ℕ) (inode : Inode) → inode.kind ≡ 1 → map_length entry inode ≡ blocks_for inode.size
+map-file entry inode kind = ap (λ k. blocks_for (cond (k == 2) (entry * inode.size) inode.size)) kind
+
+-- what is damaged at an inode whose map has c blocks
+module _ (entry : ℕ) (lot : LotView) (o m : Map) (number c : ℕ) (reached : IsReached entry lot o number) (node : IsNode lot (inode_of m number)) (long : map_length entry (inode_of m number) ≡ c) where
+  pub few-counted : counted false m < uses_of c → FewCounted entry lot o m
+  few-counted h =
+      let l = length-uses m (inode_of m number) (map_length entry (inode_of m number)) in
+      let s = ap uses_of long in
+      record { number = number; reached = reached; node = node; few = omega arith }
+
+  pub free-block : UsesUnmarked m (inode_of m number) c → FreeBlock entry lot o m
+  free-block u = record { number = number; reached = reached; node = node; bad = subst (UsesUnmarked m (inode_of m number)) (sym long) u }
+
+  pub bad-pointer : Misleads lot m (inode_of m number) c → BadPointer entry lot o m
+  bad-pointer u = record { number = number; reached = reached; node = node; bad = subst (Misleads lot m (inode_of m number)) (sym long) u }
+
+-- a directory without room for an entry is full
+pub full-directory : (lot : LotView) (inode : Inode) → IsDirectory lot inode → ¬ HasRoom lot inode → 64 * length lot.groups ≤ inode.size + 1
+full-directory lot inode dir none = not-below (inode.size + 1) (64 * length lot.groups) (λ h. none (record { is = dir; room = h }))
+  where
+    not-below : (a b : ℕ) → ¬ (a < b) → b ≤ a
+    not-below a b h = omega arith
 
 -- how many blocks it uses at most
 uses-few : (b : Bool) (c : ℕ) → c + cond b 1 0 ≤ c + 1

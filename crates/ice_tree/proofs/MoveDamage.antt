@@ -1,7 +1,6 @@
 -- What a rename that fails says of the lot.
 use Rattle.std.proofs.Common.{◌≡◌, ◌≢◌, ◌<◌, ◌≤◌, ◌+◌, ◌-◌, ◌*◌, ◌%◌, ◌^◌, ℕ, true, false, List, length, nat_eq, refl, sym, ap, ◌∙◌, subst, arith, inl, inr}
 use Rattle.std.proofs.lemmas.Bool.Decides.{nat_tests}
-use Rattle.std.proofs.lemmas.Nat.{div-add-mod'}
 use Rattle.ice_base.specs.Lots.{LotView}
 use Rattle.ice_base.specs.Used.{counted, free_count, is_data, Reserved}
 use Rattle.ice_base.specs.declared.fault.OpFault.{OpFault}
@@ -15,11 +14,10 @@ use Rattle.ice_file.specs.Writes.{uses_of}
 use Rattle.ice_dir.specs.Changes.{dir_blocks, HasRoom, EntryGone}
 use Rattle.ice_dir.specs.Faults.{IsAddFault}
 use Rattle.ice_dir.specs.Rows.{IsDirectory}
-use Rattle.ice_dir.proofs.PutLaws.{dir-sixteenth}
 use Rattle.ice_tree.specs.Broken.{BadPointer, IsBrokenIn, IsFaultBy}
 use Rattle.ice_tree.specs.Grounds.{MoveIs, RowFits}
 use Rattle.ice_tree.specs.declared.renames.Move.{Move}
-use Rattle.ice_tree.proofs.TakeDamage.{map-dir, bad-pointer}
+use Rattle.ice_tree.proofs.MapDamage.{map-dir, dir-few, bad-pointer, full-directory}
 
 -- two numbers are one, or differ
 by-number : (P : Type 0) (a b : ℕ) → (a ≡ b → P) → (a ≢ b → P) → P
@@ -34,15 +32,6 @@ by-number P a b one two =
 
     differ : (a b : ℕ) → nat_eq a b ≡ false → a ≢ b
     differ a b t = grind (arith, nat_tests)
-
-not-below : (a b : ℕ) → ¬ (a < b) → b ≤ a
-not-below a b h = omega arith
-
-uses-few : (c : ℕ) → uses_of c ≤ c + 1
-uses-few c = grind (arith, nat_tests)
-
-dir-few : (entry : ℕ) → entry ≡ 64 → (n : ℕ) → n ≤ 4096 → dir_blocks entry n ≤ 256
-dir-few entry e64 n h = let e = dir-sixteenth entry n e64 in let d = div-add-mod' (n + 15) 16 in omega arith
 
 low-place : (lot : LotView) (b : ℕ) → b % 256 < 9 → is_data lot b ≡ false
 unfolding is_data
@@ -87,9 +76,9 @@ module _ (entry : ℕ) (e64 : entry ≡ 64) (lot : LotView) (few : length lot.gr
           let q = fits.blocks differ (λ x. n (sym x)) in
           omega arith
 
-  -- the directory is full, or has room
-  full-directory : ¬ HasRoom lot (inode_of m1 to) → (to ≢ from) × (64 * length lot.groups ≤ (inode_of m0 to).size + 1)
-  full-directory full = (apart, not-below _ _ roomy)
+  -- the directory is the other one, and full
+  full : ¬ HasRoom lot (inode_of m1 to) → (to ≢ from) × (64 * length lot.groups ≤ (inode_of m0 to).size + 1)
+  full none = (apart, full-directory lot (inode_of m0 to) is.to_is.dir (subst (λ (x : Inode). ¬ HasRoom lot x) (to-same apart) none))
     where
       apart : to ≢ from
       apart e =
@@ -98,10 +87,7 @@ module _ (entry : ℕ) (e64 : entry ≡ 64) (lot : LotView) (few : length lot.gr
           let l = d.few in
           let k : (inode_of m1 to).kind ≡ 2 = ap (λ i. (inode_of m1 i).kind) e ∙ gone.kind in
           let b : (inode_of m1 to).size + 1 ≡ (inode_of m0 from).size = ap (λ i. (inode_of m1 i).size + 1) e ∙ s in
-          full (record { is = record { kind = k; few = omega arith }; room = omega arith })
-
-      roomy : (inode_of m0 to).size + 1 < 64 * length lot.groups → ⊥
-      roomy h = full (subst (HasRoom lot) (sym (to-same apart)) (record { is = is.to_is.dir; room = h }))
+          none (record { is = record { kind = k; few = omega arith }; room = omega arith })
 
   -- each place that holds no data was marked as it is
   reserved-after : Reserved lot m0 → Reserved lot m1
@@ -112,21 +98,20 @@ module _ (entry : ℕ) (e64 : entry ≡ 64) (lot : LotView) (few : length lot.gr
       → (e ≡ Damaged Counts → 2 ^ 32 + uses_of (dir_blocks entry (inode_of m1 to).size) ≤ counted false m1 + uses_of (dir_blocks entry ((inode_of m1 to).size + 1)))
       → (e ≡ Damaged Kind → ¬ HasRoom lot (inode_of m1 to)) → (e ≡ Damaged Bitmap → ¬ Reserved lot m1) → (e ≡ Damaged Pointer → Misleads lot m1 (inode_of m1 to) (dir_blocks entry (inode_of m1 to).size))
       → ((r : Rule) → e ≡ Damaged r → r ≢ Kind → IsDirectory lot (inode_of m1 to)) → (e ≡ Damaged Pointer → m2 ≡ m1) → IsFaultBy (IsBrokenIn entry lot m0 m2) e
-  add-blamed m2 Disk f none full kind unreserved misled dir unmoved = tt
-  add-blamed m2 NoSpace f none full kind unreserved misled dir unmoved = absurd (no-space (none refl))
-  add-blamed m2 (Damaged Counts) f none full kind unreserved misled dir unmoved =
+  add-blamed m2 Disk f none most kind unreserved misled dir unmoved = tt
+  add-blamed m2 NoSpace f none most kind unreserved misled dir unmoved = absurd (no-space (none refl))
+  add-blamed m2 (Damaged Counts) f none most kind unreserved misled dir unmoved =
       let d = dir Counts refl (λ e. absurd cc) in
-      let u = full refl in
+      let u = most refl in
       let l = d.few in
-      let s = uses-few (dir_blocks entry ((inode_of m1 to).size + 1)) in
-      let b = dir-few entry e64 ((inode_of m1 to).size + 1) (omega arith) in
+      let b = dir-few entry ((inode_of m1 to).size + 1) e64 (omega arith) in
       let c = gone.counts in
       inl (inl (record { inodes = false; many = omega arith }))
-  add-blamed m2 (Damaged Kind) f none full kind unreserved misled dir unmoved =
-      let x = full-directory (kind refl) in
+  add-blamed m2 (Damaged Kind) f none most kind unreserved misled dir unmoved =
+      let x = full (kind refl) in
       inl (inr (record { number = to; reached = is.to_is.reached; dir = is.to_is.dir; full = x.1 }))
-  add-blamed m2 (Damaged Bitmap) f none full kind unreserved misled dir unmoved = inl (inl (λ r. unreserved refl (reserved-after r)))
-  add-blamed m2 (Damaged Pointer) f none full kind unreserved misled dir unmoved =
+  add-blamed m2 (Damaged Bitmap) f none most kind unreserved misled dir unmoved = inl (inl (λ r. unreserved refl (reserved-after r)))
+  add-blamed m2 (Damaged Pointer) f none most kind unreserved misled dir unmoved =
       let d = dir Pointer refl (λ e. absurd cc) in
       inr (subst (λ (m : ℕ → List ℕ). BadPointer entry lot m0 m) (sym (unmoved refl)) (bad-pointer entry lot m0 m1 to (dir_blocks entry (inode_of m1 to).size) is.to_is.reached (inr d) (map-dir entry (inode_of m1 to) d.kind) (misled refl)))
-  add-blamed m2 _ f none full kind unreserved misled dir unmoved = absurd f
+  add-blamed m2 _ f none most kind unreserved misled dir unmoved = absurd f

@@ -29,25 +29,17 @@ use Rattle.ice_tree.specs.declared.ends.Spot.{Spot}
 use Rattle.ice_tree.specs.Broken.{IsBroken, IsBrokenBy, FullDirectory}
 use Rattle.ice_tree.specs.Grounds.{NewFits}
 use Rattle.ice_tree.proofs.MakeLaws.{NodePut}
-use Rattle.ice_tree.proofs.MapDamage.{dir-map, dir-few, misleads-same}
-
--- a directory without room for an entry is full
-pub full-directory : (entry : ℕ) (lot : LotView) (m : Map) (number : ℕ) → IsDirectory lot (inode_of m number) → ¬ HasRoom lot (inode_of m number) → 64 * length lot.groups ≤ (inode_of m number).size + 1
-full-directory entry lot m number dir none =
-    elim (nat_lt ((inode_of m number).size + 1) (64 * length lot.groups)) as (λ t. nat_lt ((inode_of m number).size + 1) (64 * length lot.groups) ≡ t → 64 * length lot.groups ≤ (inode_of m number).size + 1) [
-      | true ↦ λ t. absurd (none (record { is = dir; room = grind (arith, nat_tests) }))
-      | false ↦ λ t. grind (arith, nat_tests)
-    ] refl
+use Rattle.ice_tree.proofs.MapDamage.{map-dir, dir-few, misleads-same, bad-pointer, full-directory}
 
 module _ (entry : ℕ) (e64 : entry ≡ 64) (lot : LotView) (few : length lot.groups ≤ 64) (m0 : Map) (spot : Spot) (fits : NewFits entry lot m0 spot) where
   -- no inode can be taken
-  pub take-broken : (e : OpFault) → IsTakeInodeFault e → (e ≡ NoNodes → AllUsed true lot m0) → (e ≡ Damaged Counts → counted true m0 ≡ 2 ^ 32 - 1) → IsBrokenBy entry lot m0 e
-  take-broken Disk h none full = tt
-  take-broken NoNodes h none full =
+  pub take-blamed : (e : OpFault) → IsTakeInodeFault e → (e ≡ NoNodes → AllUsed true lot m0) → (e ≡ Damaged Counts → counted true m0 ≡ 2 ^ 32 - 1) → IsBrokenBy entry lot m0 e
+  take-blamed Disk h none full = tt
+  take-blamed NoNodes h none full =
       let z : free_count true lot m0 ≡ 0 = count_none (λ i. not (used true m0 i)) (64 * length lot.groups) (λ i l. ap not (none refl i l)) in
       absurd (omega (arith, z, fits.node))
-  take-broken (Damaged Counts) h none full = inl (record { inodes = true; many = omega (arith, few, full refl) })
-  take-broken _ h none full = absurd h
+  take-blamed (Damaged Counts) h none full = inl (record { inodes = true; many = omega (arith, few, full refl) })
+  take-blamed _ h none full = absurd h
 
   module _ (m1 m2 : Map) (j : ℕ) (dir : Bool) (put : NodePut lot m0 m1 m2 j dir) (apart : j ≢ spot.number) where
     away : (a : ℕ) → a ≢ sub_address → a ≢ bitmap_of true j → a ≢ inode_address j → m2 a ≡ m0 a
@@ -74,29 +66,29 @@ module _ (entry : ℕ) (e64 : entry ≡ 64) (lot : LotView) (few : length lot.gr
     same-size = ap (λ (x : Inode). x.size) same-node ∙ fits.spot_is.entries
 
     -- no entry can be added
-    pub add-broken : (e : OpFault) → IsAddFault e
+    pub add-blamed : (e : OpFault) → IsAddFault e
         → (e ≡ NoSpace → free_count false lot m2 + uses_of (dir_blocks entry (inode_of m2 spot.number).size) < uses_of (dir_blocks entry ((inode_of m2 spot.number).size + 1)))
         → (e ≡ Damaged Counts → 2 ^ 32 + uses_of (dir_blocks entry (inode_of m2 spot.number).size) ≤ counted false m2 + uses_of (dir_blocks entry ((inode_of m2 spot.number).size + 1)))
         → (e ≡ Damaged Kind → ¬ HasRoom lot (inode_of m2 spot.number)) → (e ≡ Damaged Pointer → Misleads lot m2 (inode_of m2 spot.number) (dir_blocks entry (inode_of m2 spot.number).size)) → (e ≡ Damaged Bitmap → ¬ Reserved lot m2) → IsBrokenBy entry lot m0 e
-    add-broken Disk h none full kind pointer unreserved = tt
-    add-broken NoSpace h none full kind pointer unreserved =
+    add-blamed Disk h none full kind pointer unreserved = tt
+    add-blamed NoSpace h none full kind pointer unreserved =
         let q = subst (λ x. free_count false lot m2 + uses_of (dir_blocks entry x) < uses_of (dir_blocks entry (x + 1))) same-size (none refl) in
         absurd (omega (arith, q, fits.blocks, free-same lot m0 m2 same-blocks))
-    add-broken (Damaged Counts) h none full kind pointer unreserved =
+    add-blamed (Damaged Counts) h none full kind pointer unreserved =
         let q = subst (λ x. 2 ^ 32 + uses_of (dir_blocks entry x) ≤ counted false m2 + uses_of (dir_blocks entry (x + 1))) same-size (full refl) in
         let small = fits.spot_is.dir.few in
         let is = fits.spot_is.entries in
         inl (record { inodes = false; many = omega (arith, few, q, same-count, dir-few entry (spot.entries + 1) e64 (omega (arith, few, small, is))) })
-    add-broken (Damaged Kind) h none full kind pointer unreserved =
+    add-blamed (Damaged Kind) h none full kind pointer unreserved =
         inr (record {
           number = spot.number;
           reached = fits.spot_is.reached;
           dir = fits.spot_is.dir;
-          full = full-directory entry lot m0 spot.number fits.spot_is.dir (subst (λ (x : Inode). ¬ HasRoom lot x) same-node (kind refl));
+          full = full-directory lot (inode_of m0 spot.number) fits.spot_is.dir (subst (λ (x : Inode). ¬ HasRoom lot x) same-node (kind refl));
         })
-    add-broken (Damaged Pointer) h none full kind pointer unreserved =
+    add-blamed (Damaged Pointer) h none full kind pointer unreserved =
         let x = inode_of m0 spot.number in
         let bad = misleads-same lot m0 m2 x (dir_blocks entry x.size) (λ d. same-data x.single d) (subst (λ (y : Inode). Misleads lot m2 y (dir_blocks entry y.size)) same-node (pointer refl)) in
-        record { number = spot.number; reached = fits.spot_is.reached; node = inr fits.spot_is.dir; bad = subst (Misleads lot m0 x) (sym (dir-map entry x fits.spot_is.dir.kind)) bad }
-    add-broken (Damaged Bitmap) h none full kind pointer unreserved = inl (λ reserved. unreserved refl (record { set = λ b l r. same-blocks b ∙ reserved.set b l r }))
-    add-broken _ h none full kind pointer unreserved = absurd h
+        bad-pointer entry lot m0 m0 spot.number (dir_blocks entry x.size) fits.spot_is.reached (inr fits.spot_is.dir) (map-dir entry x fits.spot_is.dir.kind) bad
+    add-blamed (Damaged Bitmap) h none full kind pointer unreserved = inl (λ reserved. unreserved refl (record { set = λ b l r. same-blocks b ∙ reserved.set b l r }))
+    add-blamed _ h none full kind pointer unreserved = absurd h

@@ -18,45 +18,9 @@ use Rattle.ice_file.proofs.OwnLaws.{length-uses}
 use Rattle.ice_dir.specs.Changes.{dir_blocks}
 use Rattle.ice_dir.specs.Faults.{IsTakeFault}
 use Rattle.ice_dir.specs.Rows.{IsDirectory}
-use Rattle.ice_tree.specs.Broken.{FewCounted, FreeBlock, BadPointer, IsBrokenIn, IsFaultBy}
+use Rattle.ice_tree.specs.Broken.{IsBrokenIn, IsFaultBy}
+use Rattle.ice_tree.proofs.MapDamage.{map-dir, few-counted, free-block, bad-pointer}
 use Rattle.ice_tree.specs.Places.{IsNode, IsReached}
-
--- what a failed call says of its fault
-pub err-by : {T E : Type 0} (r : Result T E) (F G : E → Type 0) → IfErr r F → ((e : E) → r ≡ Err e → F e → G e) → IfErr r G
-err-by (Ok x) F G h go = tt
-err-by (Err e) F G h go = go e refl h
-
--- a fault of which more holds
-pub fault-weaker : (P Q : Rule → Type 0) → ((r : Rule) → P r → Q r) → (e : OpFault) → IsFaultBy P e → IsFaultBy Q e
-fault-weaker P Q go Disk h = tt
-fault-weaker P Q go (Damaged r) h = go r h
-fault-weaker P Q go NoSpace h = h
-fault-weaker P Q go NoNodes h = h
-
--- how many blocks the map of a directory has, and that of a file
-pub map-dir : (entry : ℕ) (inode : Inode) → inode.kind ≡ 2 → map_length entry inode ≡ dir_blocks entry inode.size
-map-dir entry inode kind = ap (λ k. blocks_for (cond (k == 2) (entry * inode.size) inode.size)) kind
-
-pub map-file : (entry : ℕ) (inode : Inode) → inode.kind ≡ 1 → map_length entry inode ≡ blocks_for inode.size
-map-file entry inode kind = ap (λ k. blocks_for (cond (k == 2) (entry * inode.size) inode.size)) kind
-
--- one that failed at an inode, whose map has c blocks
-module _ (entry : ℕ) (lot : LotView) (o m : ℕ → List ℕ) (number c : ℕ) (reached : IsReached entry lot o number) (node : IsNode lot (inode_of m number)) (long : map_length entry (inode_of m number) ≡ c) where
-  pub few-counted : counted false m < uses_of c → FewCounted entry lot o m
-  few-counted h =
-      let l = length-uses m (inode_of m number) (map_length entry (inode_of m number)) in
-      let s = ap uses_of long in
-      record { number = number; reached = reached; node = node; few = omega arith }
-
-  pub free-block : UsesUnmarked m (inode_of m number) c → FreeBlock entry lot o m
-  free-block u = record { number = number; reached = reached; node = node; bad = subst (UsesUnmarked m (inode_of m number)) (sym long) u }
-
-  pub bad-pointer : Misleads lot m (inode_of m number) c → BadPointer entry lot o m
-  bad-pointer u = record { number = number; reached = reached; node = node; bad = subst (Misleads lot m (inode_of m number)) (sym long) u }
-
--- the count of operations lies beside that of blocks
-pub done-beside : (old new : List ℕ) → SameBeside (count_place false) 4 old new → long_at new 16 ≡ long_at old 16
-done-beside old new same = long-beside old new 24 4 16 same (inl (omega arith))
 
 -- an entry was to be taken from a directory
 pub take-blamed : (entry : ℕ) (lot : LotView) (m0 m1 : ℕ → List ℕ) (number : ℕ) → IsReached entry lot m0 number → IsDirectory lot (inode_of m0 number) → (e : OpFault) → IsTakeFault e

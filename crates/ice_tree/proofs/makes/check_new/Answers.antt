@@ -5,7 +5,7 @@ use Rattle.ice_reads.specs.Tables.{Map}
 use Rattle.ice_tree.specs.Broken.{IsBroken}
 use Rattle.ice_tree.specs.Grounds.{HasFree}
 use Rattle.ice_tree.proofs.CostLaws.{dir-cost}
-use Rattle.ice_tree.proofs.FaultLaws.{same-refusal}
+use Rattle.ice_tree.proofs.FaultLaws.{broke-too}
 use Rattle.tree_spec.specs.Costs.{form_of}
 use Rattle.tree_spec.specs.Answers.{next}
 use Rattle.tree_spec.specs.Replies.{refused_of}
@@ -89,4 +89,4 @@ returns-in-Ok-check_quota-clause-ready g c = λ s.
 pub returns-in-Err-check_quota-clause-damaged : goal.returns-in-Err-check_quota-clause-damaged
 returns-in-Err-check_quota-clause-damaged g c = λ n e s.
     let looked = c.find_ends.ensures.looked in
-    subst (λ (m : Map). (r : Rule) × (n ≡ rule_number r) × IsBroken g.F.Form.ENTRY c.args.lot.now m r) looked.map (c.in-Err-check_quota.ensures.damaged n (same-refusal c.in-Err-check_quota.refusal n e) (looked.shows s))
+    broke-too _ _ (λ r h. subst (λ (m : Map). IsBroken g.F.Form.ENTRY c.args.lot.now m r) looked.map h) c.in-Err-check_quota.refusal (λ n e. c.in-Err-check_quota.ensures.damaged n e (looked.shows s)) n e

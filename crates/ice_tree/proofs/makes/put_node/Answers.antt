@@ -10,7 +10,8 @@ use Rattle.ice_base.specs.Lots.{sub_address}
 use Rattle.ice_base.proofs.FieldLaws.{long-beside}
 use Rattle.ice_map.proofs.GrowLaws.{inode_not_sub}
 use Rattle.ice_steps.proofs.Keeps.{only-one}
-use Rattle.ice_tree.proofs.NewDamage.{take-broken, add-broken}
+use Rattle.ice_tree.proofs.FaultLaws.{done-beside}
+use Rattle.ice_tree.proofs.NewDamage.{take-blamed, add-blamed}
 use Rattle.ice_tree.proofs.MakeLaws.{NodePut, take_sound, spot_apart, spot_well, add_sound, node_recovers}
 use Rattle.ice_tree.proofs.makes.put_node.Goals as goal
 
@@ -76,7 +77,7 @@ returns-in_err-number-clause-broken g c = λ s fits.
     let x = err_from_is_err_and c.from_residual.result c.from_residual.ensures.1 in
     let e = c.in_err-number.ensures in
     rw (x.1, x.2)
-    (take-broken g.F.Form.ENTRY g.F.Form.is_one.1 c.args.lot.now (sited-few c.args.lot.now _ c.requires.sited) (g.K.View.map c.args.keep.now c.args.disk.now c.args.lot.now) c.args.spot.now fits
+    (take-blamed g.F.Form.ENTRY g.F.Form.is_one.1 c.args.lot.now (sited-few c.args.lot.now _ c.requires.sited) (g.K.View.map c.args.keep.now c.args.disk.now c.args.lot.now) c.args.spot.now fits
     _ e.faults (λ q. e.none (ap (λ y. Err y) q) s) (λ q. e.full (ap (λ y. Err y) q) s))
 
 pub returns-in_err-add-clause-broken : goal.returns-in_err-add-clause-broken
@@ -89,7 +90,7 @@ returns-in_err-add-clause-broken g c = λ s fits.
     let m1 = g.K.View.map c.take_inode.new.keep c.take_inode.new.disk c.args.lot.now in
     let m2 = g.K.View.map c.put_inode.new.keep c.put_inode.new.disk c.args.lot.now in
     rw (x.1, x.2)
-    (add-broken g.F.Form.ENTRY g.F.Form.is_one.1 c.args.lot.now (sited-few c.args.lot.now _ c.requires.sited) m0 c.args.spot.now fits m1 m2 c.in_ok-number.number c.args.dir
+    (add-blamed g.F.Form.ENTRY g.F.Form.is_one.1 c.args.lot.now (sited-few c.args.lot.now _ c.requires.sited) m0 c.args.spot.now fits m1 m2 c.in_ok-number.number c.args.dir
     (record {
       small = c.in_ok-number.ensures.number;
       took = c.in_ok-number.ensures.took s;
@@ -107,6 +108,6 @@ returns-clause-done g c = λ s.
     let m0 = g.K.View.map c.args.keep.now c.args.disk.now c.args.lot.now in
     let m1 = g.K.View.map c.take_inode.new.keep c.take_inode.new.disk c.args.lot.now in
     let m2 = g.K.View.map c.put_inode.new.keep c.put_inode.new.disk c.args.lot.now in
-    long-beside _ _ 24 4 16 (c.in_ok-add.ensures.sub s2) (inl (omega arith))
+    done-beside _ _ (c.in_ok-add.ensures.sub s2)
     ∙ ap (λ (b : List ℕ). long_at b 16) (only-one (inode_address c.in_ok-number.number) m1 m2 c.put_inode.ensures.puts.only sub_address (λ e. inode_not_sub c.in_ok-number.number (sym e)))
     ∙ long-beside _ _ 28 4 16 (c.in_ok-number.ensures.took s).counts.others (inl (omega arith))

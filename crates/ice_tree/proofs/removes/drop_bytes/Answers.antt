@@ -7,8 +7,8 @@ use Rattle.ice_base.specs.declared.fault.OpFault.TheVariants.{Disk as FaultDisk}
 use Rattle.ice_file.specs.Files.{IsCutToFault}
 use Rattle.tree_spec.specs.Costs.{form_of}
 use Rattle.ice_tree.proofs.RemoveLaws.{err-is, loose-made, nothing-dropped, bytes-dropped, can-drop}
-use Rattle.ice_tree.proofs.RemoveDamage.{drop-blamed}
-use Rattle.ice_tree.proofs.TakeDamage.{err-by, done-beside}
+use Rattle.ice_tree.proofs.FaultLaws.{err-by, done-beside}
+use Rattle.ice_tree.proofs.FileDamage.{cut-blamed}
 use Rattle.ice_tree.specs.Broken.{IsBrokenFrom, IsFaultBy}
 use Rattle.ice_tree.proofs.removes.drop_bytes.Goals as goal
 
@@ -43,7 +43,7 @@ returns-clause-broken g c = λ o s reached file.
     let x = c.cut_to.ensures in
     err-by c.cut_to.result IsCutToFault (IsFaultBy (IsBrokenFrom g.F.Form.ENTRY c.args.lot.now o m1)) x.faults
     (λ e is fault.
-    drop-blamed g.F.Form.ENTRY c.args.lot.now o m0 m1 c.args.number reached (file (omega arith)) e fault (λ q. x.kind (is ∙ ap (λ (y : OpFault). Err y) q) s) (λ q. x.zero (is ∙ ap (λ (y : OpFault). Err y) q) s)
+    cut-blamed g.F.Form.ENTRY c.args.lot.now o m0 m1 0 c.args.number reached (file (omega arith)) e fault (λ q. x.kind (is ∙ ap (λ (y : OpFault). Err y) q) s) (λ q. x.zero (is ∙ ap (λ (y : OpFault). Err y) q) s)
     (λ r q. x.kept r (is ∙ ap (λ (y : OpFault). Err y) q) s) (λ q. x.empty (is ∙ ap (λ (y : OpFault). Err y) q) s) (λ q. x.unmarked (is ∙ ap (λ (y : OpFault). Err y) q) s) (λ q. x.misled (is ∙ ap (λ (y : OpFault). Err y) q) s))
 
 pub returns-clause-done : goal.returns-clause-done

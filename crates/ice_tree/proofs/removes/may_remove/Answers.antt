@@ -7,7 +7,7 @@ use Rattle.ice_reads.specs.Tables.{Map, own_in}
 use Rattle.ice_tree.specs.Moves.{gone_refusal, IsGone}
 use Rattle.ice_tree.specs.Stages.{quota_refusal}
 use Rattle.ice_tree.specs.Broken.{IsBroken}
-use Rattle.ice_tree.proofs.RemoveDamage.{broke-too}
+use Rattle.ice_tree.proofs.FaultLaws.{broke-too}
 use Rattle.ice_tree.proofs.StageLaws.{refused-now, refused-later, none-both, recovers-same}
 use Rattle.ice_tree.proofs.removes.may_remove.Goals as goal
 

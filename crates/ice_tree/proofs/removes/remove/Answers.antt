@@ -10,7 +10,8 @@ use Rattle.ice_tree.specs.Outcomes.{RefusedAs}
 use Rattle.ice_tree.specs.Stages.{paths_refusal}
 use Rattle.ice_tree.proofs.FaultLaws.{fault-names}
 use Rattle.ice_tree.proofs.LookLaws.{fault_model}
-use Rattle.ice_tree.proofs.RemoveDamage.{broke-too, gone-after}
+use Rattle.ice_tree.proofs.FaultLaws.{broke-too}
+use Rattle.ice_tree.proofs.RemoveDamage.{gone-after}
 use Rattle.ice_tree.proofs.RemoveLaws.{loses-after, later_refusal, remove-stages}
 use Rattle.ice_tree.proofs.ReplyLaws.{fault-set, refused-model, accepted-model, accepted-recovers}
 use Rattle.ice_tree.proofs.StageLaws.{refused-now, refused-later, none-both}

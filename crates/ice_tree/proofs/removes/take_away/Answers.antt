@@ -8,7 +8,8 @@ use Rattle.tree_spec.specs.Answers.{next}
 use Rattle.tree_spec.specs.Operations.{Remove}
 use Rattle.ice_tree.proofs.RemoveLaws.{spot-made, spot-has, spot-takes, spot-left}
 use Rattle.ice_tree.proofs.RemoveDamage.{file-stays}
-use Rattle.ice_tree.proofs.TakeDamage.{fault-weaker, done-beside, take-blamed}
+use Rattle.ice_tree.proofs.FaultLaws.{fault-weaker, done-beside}
+use Rattle.ice_tree.proofs.TakeDamage.{take-blamed}
 use Rattle.ice_tree.specs.Broken.{IsBrokenFrom, IsBrokenIn, IsFaultBy}
 use Rattle.ice_tree.proofs.removes.take_away.Goals as goal
 

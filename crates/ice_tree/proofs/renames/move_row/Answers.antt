@@ -4,7 +4,8 @@ use Rattle.ice_base.proofs.LotLaws.{sited-few}
 use Rattle.ice_base.specs.Lots.{sub_address}
 use Rattle.tree_spec.specs.Costs.{form_of}
 use Rattle.ice_tree.proofs.RenameLawsRows.{from_well, take_sound, row_there, row_small, to_well, add_sound, row_recovers}
-use Rattle.ice_tree.proofs.TakeDamage.{done-beside, take-blamed}
+use Rattle.ice_tree.proofs.FaultLaws.{done-beside}
+use Rattle.ice_tree.proofs.TakeDamage.{take-blamed}
 use Rattle.ice_tree.proofs.MoveDamage.{add-blamed}
 use Rattle.ice_tree.proofs.renames.move_row.Goals as goal
 

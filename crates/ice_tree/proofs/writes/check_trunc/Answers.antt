@@ -8,7 +8,7 @@ use Rattle.ice_base.specs.declared.fault.Rule.{Rule}
 use Rattle.ice_reads.specs.Tables.{Map}
 use Rattle.ice_tree.specs.Broken.{IsBroken}
 use Rattle.ice_tree.specs.Outcomes.{RefusedAs, rule_number}
-use Rattle.ice_tree.proofs.FaultLaws.{same-refusal}
+use Rattle.ice_tree.proofs.FaultLaws.{broke-too}
 use Rattle.ice_tree.specs.Stages.{quota_refusal}
 use Rattle.ice_tree.proofs.FileLaws.{trunc-stages, reach-none, trunc-needs}
 use Rattle.ice_tree.proofs.StageLaws.{refused-now, refused-later, none-both, recovers-same}
@@ -54,4 +54,4 @@ returns-in-Err-check_quota-clause-file g c = λ mode k t s r.
 pub returns-in-Err-check_quota-clause-damaged : goal.returns-in-Err-check_quota-clause-damaged
 returns-in-Err-check_quota-clause-damaged g c = λ n e s.
     let looked = c.reach_file.ensures.looked in
-    subst (λ (m : Map). (r : Rule) × (n ≡ rule_number r) × IsBroken g.F.Form.ENTRY c.args.lot.now m r) looked.map (c.in-Err-check_quota.ensures.damaged n (same-refusal c.in-Err-check_quota.refusal n e) (looked.shows s))
+    broke-too _ _ (λ r h. subst (λ (m : Map). IsBroken g.F.Form.ENTRY c.args.lot.now m r) looked.map h) c.in-Err-check_quota.refusal (λ n e. c.in-Err-check_quota.ensures.damaged n e (looked.shows s)) n e

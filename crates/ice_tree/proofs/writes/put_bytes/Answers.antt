@@ -6,9 +6,8 @@ use Rattle.tree_spec.specs.Answers.{next}
 use Rattle.tree_spec.specs.Operations.{Write}
 use Rattle.ice_base.specs.Fields.{long_at}
 use Rattle.ice_base.specs.Lots.{sub_address}
-use Rattle.ice_base.proofs.FieldLaws.{long-beside}
-use Rattle.ice_tree.proofs.FaultLaws.{count-broken}
-use Rattle.ice_tree.proofs.FileDamage.{write-broken}
+use Rattle.ice_tree.proofs.FaultLaws.{count-broken, done-beside}
+use Rattle.ice_tree.proofs.FileDamage.{write-blamed}
 use Rattle.ice_tree.proofs.CountLaws.{counts_up, count_room}
 use Rattle.ice_tree.proofs.FileLaws.{write-made, write-recovers, write-sound}
 use Rattle.ice_tree.proofs.writes.put_bytes.Goals as goal
@@ -56,7 +55,7 @@ returns-in_err-write_at-clause-broken g c = λ s fits.
     let e = c.in_err-write_at.ensures in
     let m0 = g.K.View.map c.args.keep.now c.args.disk.now c.args.lot.now in
     rw (x.1, x.2)
-    (write-broken g.F.Form.ENTRY c.args.lot.now m0 (g.K.View.map c.write_at.new.keep c.write_at.new.disk c.args.lot.now) c.args.at (c.args.at + length c.args.bytes.now) c.args.number (sited-few c.args.lot.now _ c.requires.sited) c.requires.short fits _ e.faults
+    (write-blamed g.F.Form.ENTRY c.args.lot.now m0 (g.K.View.map c.write_at.new.keep c.write_at.new.disk c.args.lot.now) c.args.at (c.args.at + length c.args.bytes.now) c.args.number (sited-few c.args.lot.now _ c.requires.sited) c.requires.short fits _ e.faults
     (λ q. e.none (ap (λ y. Err y) q) s) (λ q. e.full (ap (λ y. Err y) q) s) (λ q. e.kind (ap (λ y. Err y) q) s) (λ q. e.unreserved (ap (λ y. Err y) q) s) (λ q. e.misled (ap (λ y. Err y) q) s) (λ q. e.kept _ (ap (λ y. Err y) q) s))
 
 pub returns-in_err-count_up-clause-broken : goal.returns-in_err-count_up-clause-broken
@@ -65,5 +64,5 @@ returns-in_err-count_up-clause-broken g c = λ s fits.
     let e = c.in_err-count_up.ensures in
     let m0 = g.K.View.map c.args.keep.now c.args.disk.now c.args.lot.now in
     let m1 = g.K.View.map c.write_at.new.keep c.write_at.new.disk c.args.lot.now in
-    let stays = long-beside (m0 sub_address) (m1 sub_address) 24 4 16 (c.in_ok-write_at.ensures.sub s) (inl (omega arith)) in
+    let stays = done-beside (m0 sub_address) (m1 sub_address) (c.in_ok-write_at.ensures.sub s) in
     rw (x.1, x.2) (count-broken _ (long_at (m1 sub_address) 16) _ e.faults (λ q. e.full (ap (λ y. Err y) q) (c.write_at.ensures.spent.shows s)) (omega (arith, stays, fits.done)))

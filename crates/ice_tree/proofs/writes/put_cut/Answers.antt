@@ -1,4 +1,4 @@
-use Rattle.std.proofs.Common.{◌+◌, ap, Err, length, refl, inl, arith}
+use Rattle.std.proofs.Common.{◌+◌, ap, Err, length, refl, inr, arith}
 use Rattle.std.proofs.lemmas.Result.{err_from_is_err_and}
 use Rattle.ice_base.proofs.LotLaws.{sited-few}
 use Rattle.tree_spec.specs.Costs.{form_of}
@@ -6,9 +6,8 @@ use Rattle.tree_spec.specs.Answers.{next}
 use Rattle.tree_spec.specs.Operations.{Trunc}
 use Rattle.ice_base.specs.Fields.{long_at}
 use Rattle.ice_base.specs.Lots.{sub_address}
-use Rattle.ice_base.proofs.FieldLaws.{long-beside}
-use Rattle.ice_tree.proofs.FaultLaws.{count-broken}
-use Rattle.ice_tree.proofs.FileDamage.{cut-broken}
+use Rattle.ice_tree.proofs.FaultLaws.{count-broken, done-beside, fault-weaker}
+use Rattle.ice_tree.proofs.FileDamage.{cut-blamed}
 use Rattle.ice_tree.proofs.CountLaws.{counts_up, count_room}
 use Rattle.ice_tree.proofs.FileLaws.{cut-made, cut-recovers, cut-sound}
 use Rattle.ice_tree.proofs.writes.put_cut.Goals as goal
@@ -56,8 +55,9 @@ returns-in_err-cut_to-clause-broken g c = λ s is room.
     let e = c.in_err-cut_to.ensures in
     let m0 = g.K.View.map c.args.keep.now c.args.disk.now c.args.lot.now in
     rw (x.1, x.2)
-    (cut-broken g.F.Form.ENTRY c.args.lot.now m0 (g.K.View.map c.cut_to.new.keep c.cut_to.new.disk c.args.lot.now) c.args.len c.args.number is _ e.faults
-    (λ q. e.zero (ap (λ y. Err y) q) s) (λ q. e.kind (ap (λ y. Err y) q) s) (λ q. e.misled (ap (λ y. Err y) q) s) (λ q. e.unmarked (ap (λ y. Err y) q) s) (λ q. e.kept _ (ap (λ y. Err y) q) s) (λ q. e.kept _ (ap (λ y. Err y) q) s))
+    (fault-weaker _ _ (λ r h. inr h) _
+    (cut-blamed g.F.Form.ENTRY c.args.lot.now m0 m0 (g.K.View.map c.cut_to.new.keep c.cut_to.new.disk c.args.lot.now) c.args.len c.args.number is.reached is.reaches _ e.faults (λ q. e.kind (ap (λ y. Err y) q) s) (λ q. e.zero (ap (λ y. Err y) q) s)
+    (λ r q. e.kept r (ap (λ y. Err y) q) s) (λ q. e.empty (ap (λ y. Err y) q) s) (λ q. e.unmarked (ap (λ y. Err y) q) s) (λ q. e.misled (ap (λ y. Err y) q) s)))
 
 pub returns-in_err-count_up-clause-broken : goal.returns-in_err-count_up-clause-broken
 returns-in_err-count_up-clause-broken g c = λ s is room.
@@ -65,5 +65,5 @@ returns-in_err-count_up-clause-broken g c = λ s is room.
     let e = c.in_err-count_up.ensures in
     let m0 = g.K.View.map c.args.keep.now c.args.disk.now c.args.lot.now in
     let m1 = g.K.View.map c.cut_to.new.keep c.cut_to.new.disk c.args.lot.now in
-    let stays = long-beside (m0 sub_address) (m1 sub_address) 24 4 16 (c.in_ok-cut_to.ensures.sub s) (inl (omega arith)) in
+    let stays = done-beside (m0 sub_address) (m1 sub_address) (c.in_ok-cut_to.ensures.sub s) in
     rw (x.1, x.2) (count-broken _ (long_at (m1 sub_address) 16) _ e.faults (λ q. e.full (ap (λ y. Err y) q) (c.cut_to.ensures.spent.shows s)) (omega (arith, stays, room)))
