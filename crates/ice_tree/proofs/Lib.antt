@@ -20,3 +20,5 @@ pub mod RemoveLaws
 pub mod ListLaws
 pub mod SpreadLaws
 pub mod FaultLaws
+pub mod CostLaws
+pub mod RenameDamage
