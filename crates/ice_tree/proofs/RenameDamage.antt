@@ -1,20 +1,16 @@
 -- Which rules a lot breaks where a rename ends in damage.
-use Rattle.std.proofs.Common.{◌≡◌, ◌≢◌, ◌≤◌, ◌<◌, ◌+◌, ◌-◌, ◌*◌, ℕ, true, false, Bool, List, length, Some, sym, refl, ap, ◌∙◌, subst, arith, inl, inr, ◌⊎◌}
+use Rattle.std.proofs.Common.{◌≡◌, ◌≢◌, ◌≤◌, ◌<◌, ◌+◌, ◌-◌, ◌*◌, ℕ, true, false, List, length, Some, sym, refl, subst, arith, inl, inr, ◌⊎◌}
 use Rattle.ice_base.specs.Lots.{LotView}
-use Rattle.ice_base.specs.Used.{free_count}
 use Rattle.ice_base.specs.declared.fault.OpFault.{OpFault}
 use Rattle.ice_base.specs.declared.fault.OpFault.TheVariants.{Damaged}
 use Rattle.ice_base.specs.declared.fault.Rule.TheVariants.{InodeTwice}
-use Rattle.ice_map.specs.Inodes.{inode_of}
 use Rattle.ice_dir.specs.Rows.{look_up, rows_of}
-use Rattle.ice_file.specs.Writes.{uses_of}
-use Rattle.ice_dir.specs.Changes.{dir_blocks}
 use Rattle.tree_spec.specs.Costs.{Form, form_one, map_cost}
 use Rattle.tree_spec.specs.Costs as tree
 use Rattle.ice_tree.specs.Broken.{IsBrokenBy, spread_at}
 use Rattle.ice_tree.specs.Changes.{EndsFit}
 use Rattle.ice_tree.specs.Grounds.{EndsAre, MoveIs, SpotIs, RowFits, HasFree}
-use Rattle.ice_tree.specs.Places.{IsReached, PlaceFits, PlaceIs, PlaceReached, PlaceNamed, is_place, is_dir_place}
+use Rattle.ice_tree.specs.Places.{PlaceFits, PlaceIs, PlaceReached, PlaceNamed, is_place, is_dir_place}
 use Rattle.ice_tree.specs.declared.ends.Ends.{Ends}
 use Rattle.ice_tree.specs.declared.ends.Spot.{Spot}
 use Rattle.ice_tree.specs.declared.place.Place.{Place}
@@ -39,27 +35,12 @@ dir-there (Dir number size) m b f = refl
 dir-there Missing m b f = absurd (m refl)
 dir-there Blocked m b f = absurd (b refl)
 
-false≢true : false ≡ true → ⊥
-false≢true h = cc
-
--- so it is none other
-pub no-dir : (p : Place) → is_dir_place p ≡ true → ((number size : ℕ) → p ≢ Dir number size) → ⊥
-no-dir (File number size) is h = false≢true is
-no-dir (Dir number size) is h = h number size refl
-no-dir Missing is h = false≢true is
-no-dir Blocked is h = false≢true is
-
--- what names something is a directory
-pub names-dir : (entry : ℕ) (m : ℕ → List ℕ) (name : List ℕ) (p q : Place) → PlaceNamed entry m p name q → is_place q ≡ true → ((number size : ℕ) → p ≢ Dir number size) → ⊥
-names-dir entry m name (Dir number size) q named is h = h number size refl
-names-dir entry m name p (File number size) named is h = named
-names-dir entry m name p (Dir number size) named is h = named
-names-dir entry m name p Missing named is h = false≢true is
-names-dir entry m name p Blocked named is h = false≢true is
+none : false ≡ true → ⊥
+none h = cc
 
 module _ (entry : ℕ) (lot : LotView) (m : ℕ → List ℕ) where
   -- a directory at a place
-  pub place-spot : (p : Place) (spot : Spot) → p ≡ Dir spot.number spot.entries → PlaceFits lot p → PlaceIs m p → PlaceReached entry lot m p → SpotIs entry lot m spot
+  place-spot : (p : Place) (spot : Spot) → p ≡ Dir spot.number spot.entries → PlaceFits lot p → PlaceIs m p → PlaceReached entry lot m p → SpotIs entry lot m spot
   place-spot p spot at fits is reached =
       let f = subst (PlaceFits lot) at fits in
       let i = subst (PlaceIs m) at is in
@@ -70,8 +51,8 @@ module _ (entry : ℕ) (lot : LotView) (m : ℕ → List ℕ) where
       → (number : ℕ) × (number < 64 * length lot.groups) × (look_up name (rows_of entry m dir) ≡ Some number)
   named-inode dir entries name (File number size) named is fits = (number, fits.0, named)
   named-inode dir entries name (Dir number size) named is fits = (number, fits.0, named)
-  named-inode dir entries name Missing named is fits = absurd (false≢true is)
-  named-inode dir entries name Blocked named is fits = absurd (false≢true is)
+  named-inode dir entries name Missing named is fits = absurd (none is)
+  named-inode dir entries name Blocked named is fits = absurd (none is)
 
   -- what is renamed
   pub move-is : (name : List ℕ) (from into : Ends) (step : Move) → EndsAre entry lot m from → EndsAre entry lot m into → EndsFit lot from → EndsFit lot into → PlaceNamed entry m from.parent name from.end → is_place from.end ≡ true
