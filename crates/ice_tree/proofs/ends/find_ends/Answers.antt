@@ -76,7 +76,7 @@ returns-clause-are g c = λ s.
       end = subst (λ (m : Map). PlaceIs m c.in_ok-end.end) looked.map (e.is (looked.shows s));
       parent_reached = c.in_ok-parent.ensures.reached s;
       end_reached = subst (λ (m : Map). PlaceReached g.F.Form.ENTRY c.args.lot.now m c.in_ok-end.end) looked.map
-      (e.reached (looked.shows s) (subst (λ (m : Map). PlaceReached g.F.Form.ENTRY c.args.lot.now m c.in_ok-parent.parent) (sym looked.map) (c.in_ok-parent.ensures.reached s)));
+          (e.reached (looked.shows s) (subst (λ (m : Map). PlaceReached g.F.Form.ENTRY c.args.lot.now m c.in_ok-parent.parent) (sym looked.map) (c.in_ok-parent.ensures.reached s)));
     }
 
 pub returns-clause-named : goal.returns-clause-named

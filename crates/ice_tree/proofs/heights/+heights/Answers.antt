@@ -202,8 +202,12 @@ has_higher-returns-in_err-higher-clause-broken g t c = λ s reached dir size.
 pub has_higher-returns-clause-pays : goal.has_higher-returns-clause-pays
 has_higher-returns-clause-pays g t c = λ s reached dir size e.
     let m = g.V.View.map c.args.view.now c.args.disk.now c.args.lot.now in
-    omega (arith, spread-dir g.F.Form.ENTRY m c.args.levels c.args.number dir.kind, c.loop-k.invariant.pays s reached dir size,
-    rows-whole g.F.Form.ENTRY m c.args.levels c.args.number c.loop-k.k (omega (arith, length-rows g.F.Form.ENTRY m c.args.number, size, c.loop-k-test.false)))
+    omega (
+      arith,
+      spread-dir g.F.Form.ENTRY m c.args.levels c.args.number dir.kind,
+      c.loop-k.invariant.pays s reached dir size,
+      rows-whole g.F.Form.ENTRY m c.args.levels c.args.number c.loop-k.k (omega (arith, length-rows g.F.Form.ENTRY m c.args.number, size, c.loop-k-test.false)),
+    )
 
 pub is_higher-returns-then-budget-eq0-clause-broken : goal.is_higher-returns-then-budget-eq0-clause-broken
 is_higher-returns-then-budget-eq0-clause-broken g t c = λ s is reached.

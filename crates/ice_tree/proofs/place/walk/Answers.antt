@@ -62,7 +62,7 @@ loop-k-preserved g c =
       fits = e.fits;
       is = λ s. subst (λ (m : ℕ → List ℕ). PlaceIs m c.in_ok-place-2.place) i.looked.map (e.is (i.looked.shows s));
       reached = λ s. subst (λ (m : ℕ → List ℕ). PlaceReached g.F.Form.ENTRY c.args.lot.now m c.in_ok-place-2.place) i.looked.map
-      (e.reached (i.looked.shows s) (subst (λ (m : ℕ → List ℕ). PlaceReached g.F.Form.ENTRY c.args.lot.now m c.loop-k.place) (sym i.looked.map) (i.reached s)));
+          (e.reached (i.looked.shows s) (subst (λ (m : ℕ → List ℕ). PlaceReached g.F.Form.ENTRY c.args.lot.now m c.loop-k.place) (sym i.looked.map) (i.reached s)));
       from = omega arith;
       place = λ mode done t s recovers.
           next-place f c.args.lot.now (own_in f (g.V.View.map c.args.view.now c.args.disk.now c.args.lot.now)) (take (c.loop-k.k - c.args.depth) (drop c.args.depth c.args.path.now)) c.name-name.result t c.loop-k.place c.in_ok-place-2.place
