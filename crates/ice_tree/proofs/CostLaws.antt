@@ -1,5 +1,5 @@
 -- What entries and bytes cost a map is what they cost a tree.
-use Rattle.std.proofs.Common.{◌≡◌, ◌≤◌, ◌+◌, ℕ, sym, ◌∙◌, ap}
+use Rattle.std.proofs.Common.{◌≡◌, ◌≤◌, ℕ, sym, ◌∙◌, ap}
 use Rattle.tree_spec.specs.Costs.{Form, form_one, map_cost, file_blocks}
 use Rattle.tree_spec.specs.Costs as tree
 use Rattle.ice_file.specs.Own.{blocks_for}

@@ -27,3 +27,4 @@ pub mod FileDamage
 pub mod TakeDamage
 pub mod RemoveDamage
 pub mod MoveDamage
+pub mod RenameDamage

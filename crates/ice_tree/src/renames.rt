@@ -23,7 +23,7 @@ ghost use Rattle.ice_tree.specs.Outcomes.{AsModel, RefusedAs, meant_plain, Shown
 ghost use Rattle.ice_tree.specs.Places.{PlaceFits, PlaceIs, PlaceReached, PlaceNamed, is_place, is_dir_place, place_at, place_by};
 ghost use Rattle.ice_tree.specs.Renames.{height_refusal, ends_refusal, move_refusal, IsMove, MoveFits, Renames};
 ghost use Rattle.ice_tree.specs.Stages.{or_else, paths_refusal, quota_refusal};
-ghost use Rattle.ice_tree.specs.declared.place.Place.TheVariants.{Dir};
+ghost use Rattle.ice_tree.specs.declared.place.Place.TheVariants.{File, Dir, Missing, Blocked};
 
 use crate::counts::count_up;
 use crate::ends::{Ends, Spot, find_ends};
@@ -94,7 +94,8 @@ fn has_root(here: usize, there: usize) -> bool
 
 /// Whether one of two walks ended at a directory without the next name: that of the path, and that to the directory of the new path.
 fn is_one_missing(end: Place, parent: Place) -> bool
-    ensures { (i j : ℕ) (v w : Walk) → end ≡ place_by i v → parent ≡ place_by j w → result ≡ (is_not_found v || is_not_found (needs_dir w)) }
+    ensures walks { (i j : ℕ) (v w : Walk) → end ≡ place_by i v → parent ≡ place_by j w → result ≡ (is_not_found v || is_not_found (needs_dir w)) }
+    ensures there { result ≡ false → (end ≢ Missing) × (parent ≢ Missing) }
 {
     match end {
         Place::Missing => true,
@@ -107,7 +108,8 @@ fn is_one_missing(end: Place, parent: Place) -> bool
 
 /// Whether one of them ended at a file with a name left, the second one with or without.
 fn is_one_blocked(end: Place, parent: Place) -> bool
-    ensures { (i j : ℕ) (v w : Walk) → end ≡ place_by i v → parent ≡ place_by j w → result ≡ (is_not_dir v || is_not_dir (needs_dir w)) }
+    ensures walks { (i j : ℕ) (v w : Walk) → end ≡ place_by i v → parent ≡ place_by j w → result ≡ (is_not_dir v || is_not_dir (needs_dir w)) }
+    ensures there { result ≡ false → (end ≢ Blocked) × (parent ≢ Blocked) × ((number size : ℕ) → parent ≢ File number size) }
 {
     match end {
         Place::Blocked => true,

@@ -7,6 +7,9 @@ use Rattle.ice_reads.proofs.Focus.{Reads-part}
 use Rattle.ice_tree.specs.Places.{place_by}
 use Rattle.ice_tree.proofs.LookLaws.{ends_dir, fault_as}
 use Rattle.ice_tree.proofs.RenameLaws.{fits-higher, high-more, low-more, nodes-few}
+use Rattle.ice_tree.specs.Broken.{IsBroken}
+use Rattle.ice_tree.proofs.FaultLaws.{fault-names}
+use Rattle.ice_tree.proofs.RenameDamage.{height-broken}
 use Rattle.ice_tree.proofs.renames.check_height.Goals as goal
 
 pub returns-then-there-here-clause-height : goal.returns-then-there-here-clause-height
@@ -43,3 +46,9 @@ returns-in-Ok-false-clause-height g c = λ mode k t p q s r at here there.
     let n = nodes-few f (ap form_of g.F.Form.is_one.0) mode c.args.lot.now m t k r p (Dir d.0) d.1 in
     low-more p q t (Dir d.0) c.args.there there c.requires.shallow d.1
     (sym (c.in-Ok-false.ensures.higher i (0 + length p) (Dir d.0) s (Reads-part f c.args.lot.now (own_in f m) p 0 0 t (Dir d.0) d.1 r.holds.reads) (at ∙ ap (λ w. place_by i w) d.1) (omega (arith, c.len.ensures.len))) ∙ c.in-Ok-false.field-0-test)
+
+pub returns-in-Err-clause-damaged : goal.returns-in-Err-clause-damaged
+returns-in-Err-clause-damaged g c = λ n e s is reached.
+    let m = g.V.View.map c.args.view.now c.args.disk.now c.args.lot.now in
+    fault-names (IsBroken g.F.Form.ENTRY c.args.lot.now m) c.in-Err.fault _ c.refusal_of.ensures
+    (height-broken g.F.Form.ENTRY c.args.lot.now m c.args.place c.in-Dir.number c.in-Dir.size _ _ c.in-Dir.is (omega (arith, c.len.ensures.len)) reached c.in-Err.fault (c.in-Err.ensures.broken s is reached)) n e

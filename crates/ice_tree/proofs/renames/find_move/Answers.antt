@@ -1,15 +1,25 @@
-use Rattle.std.proofs.Common.{◌≡◌, drop, sym, ◌∙◌, arith, subst}
+use Rattle.std.proofs.Common.{◌≡◌, Err, drop, sym, ap, ◌∙◌, arith, subst}
+use Rattle.ice_base.specs.declared.fault.Rule.{Rule}
 use Rattle.std.proofs.lemmas.List.{length-drop}
+use Rattle.std.proofs.lemmas.Result.{MatchResult-at_err}
+use Rattle.tree_spec.specs.Trees.{last_name}
 use Rattle.tree_spec.specs.Costs.{form_of}
 use Rattle.tree_spec.specs.Replies.{refused_of}
+use Rattle.tree_spec.specs.declared.reply.Refusal.TheVariants.{Damaged}
 use Rattle.ice_reads.specs.Tables.{Map, own_in}
+use Rattle.ice_tree.specs.Broken.{IsBroken}
 use Rattle.ice_tree.specs.Changes.{IsEnds}
-use Rattle.ice_tree.specs.Places.{place_at}
+use Rattle.ice_tree.specs.Grounds.{EndsAre, MoveIs}
+use Rattle.ice_tree.specs.Outcomes.{rule_number}
+use Rattle.ice_tree.specs.Places.{place_at, PlaceIs, PlaceReached}
 use Rattle.ice_tree.specs.Renames.{height_refusal, ends_refusal, IsMove}
 use Rattle.ice_tree.proofs.LookLaws.{fault_as}
 use Rattle.ice_tree.proofs.StageLaws.{refused-now, refused-later, none-both, recovers-same}
 use Rattle.ice_tree.proofs.RenameLaws.{found-move}
 use Rattle.ice_tree.proofs.renames.find_move.Goals as goal
+
+pub returns-in-Err-clause-found : goal.returns-in-Err-clause-found
+returns-in-Err-clause-found g c = λ mode k t s r. fault_as _ c.in-Err.fault _ c.refusal_of.ensures (c.in-Err.ensures.sound mode k t s r)
 
 pub returns-in-Err-find_ends-clause-found : goal.returns-in-Err-find_ends-clause-found
 returns-in-Err-find_ends-clause-found g c = λ mode k t s r.
@@ -69,3 +79,30 @@ returns-clause-found g c = λ mode k t s r.
     let ends = c.in_default-check_ends.ensures.ends f (own_in f m) p q t from into
     (c.has_root.ensures.root p q (omega (arith, c.len.ensures)) (omega (arith, c.len-2.ensures))) c.begins-inside.ensures c.is_one_path-same.ensures in
     found-move c.move_of.result _ (IsMove f (own_in f m) p q t) (none-both (height_refusal p q t) (ends_refusal p q t) high ends) (c.move_of.ensures.step f (own_in f m) p q t from into c.is_one_path-same.ensures ends)
+
+pub returns-in-Err-check_height-clause-damaged : goal.returns-in-Err-check_height-clause-damaged
+returns-in-Err-check_height-clause-damaged g c = λ n e s.
+    let entry = g.F.Form.ENTRY in
+    let lot = c.args.lot.now in
+    let one = c.find_ends.ensures.looked in
+    let two = c.find_ends-2.ensures.looked in
+    let from = c.in-Ok.ensures.are s in
+    let same : c.in-Err-check_height.refusal ≡ Damaged n = cc in
+    subst (λ (m : Map). (r : Rule) × (n ≡ rule_number r) × IsBroken entry lot m r) (two.map ∙ one.map)
+    (c.in-Err-check_height.ensures.damaged n (ap (λ x. Err x) same) (two.shows (one.shows s)) (subst (λ (m : Map). PlaceIs m c.in-Ok.ends.end) (sym (two.map ∙ one.map)) from.end)
+    (subst (λ (m : Map). PlaceReached entry lot m c.in-Ok.ends.end) (sym (two.map ∙ one.map)) from.end_reached))
+
+pub returns-clause-damaged : goal.returns-clause-damaged
+returns-clause-damaged g c = λ n e s.
+    let entry = g.F.Form.ENTRY in
+    let lot = c.args.lot.now in
+    let m : Map = g.V.View.map c.args.view.now c.args.disk.now lot in
+    let name = last_name (drop c.args.depth c.args.path.now) in
+    let looked = c.find_ends.ensures.looked in
+    let from = c.in-Ok.ensures in
+    let into = c.in-Ok-find_ends.ensures in
+    let ends = c.in_default-check_ends.ensures in
+    let below = c.has_root.ensures.below ends.rootless in
+    absurd (MatchResult-at_err (MoveIs entry lot m name) (λ r. ⊥) _ e
+    (c.move_of.ensures.is entry lot m name (from.are s) (subst (λ (x : Map). EndsAre entry lot x c.in-Ok-find_ends.ends) looked.map (into.are (looked.shows s))) from.fits into.fits
+    (from.named s (omega (arith, below.0, c.len.ensures))) ends.there.0 ends.there.1))

@@ -1,14 +1,20 @@
-use Rattle.std.proofs.Common.{sym, ◌∙◌, arith, subst, drop, length}
+use Rattle.std.proofs.Common.{◌≡◌, Err, sym, ap, ◌∙◌, arith, subst, drop, length}
+use Rattle.ice_base.specs.declared.fault.Rule.{Rule}
 use Rattle.ice_base.proofs.LotLaws.{sited-few}
 use Rattle.tree_spec.specs.Costs.{form_of}
 use Rattle.tree_spec.specs.Replies.{refused_of}
+use Rattle.tree_spec.specs.declared.reply.Refusal.TheVariants.{Damaged}
 use Rattle.tree_spec.specs.Operations.{Rename}
 use Rattle.tree_spec.specs.Answers.{next}
-use Rattle.ice_tree.specs.Outcomes.{RefusedAs}
+use Rattle.ice_tree.specs.Outcomes.{RefusedAs, rule_number}
 use Rattle.ice_tree.specs.Renames.{move_refusal}
 use Rattle.ice_tree.specs.Stages.{quota_refusal}
 use Rattle.ice_tree.proofs.StageLaws.{refused-now, refused-later, none-both, recovers-same}
 use Rattle.ice_tree.proofs.RenameLaws.{move-stages}
+use Rattle.ice_reads.specs.Tables.{Map}
+use Rattle.ice_tree.specs.Broken.{IsBroken}
+use Rattle.ice_tree.specs.Grounds.{HasFree}
+use Rattle.ice_tree.proofs.RenameDamage.{row-fits}
 use Rattle.ice_tree.proofs.renames.may_move.Goals as goal
 
 pub need_of-need-requires-clause-from : goal.need_of-need-requires-clause-from
@@ -55,3 +61,19 @@ returns-in-Ok-check_quota-clause-found g c = λ mode k t s r.
           (c.in-Ok-check_quota.ensures.quota mode k t (next (Rename p q) t) (looked.shows s) (recovers-same f mode c.args.lot.now _ _ t k looked.map r) needs),
       x.1,
     )
+
+pub returns-in-Ok-check_quota-clause-room : goal.returns-in-Ok-check_quota-clause-room
+returns-in-Ok-check_quota-clause-room g c = λ s.
+    let m : Map = g.K.View.map c.args.keep.now c.args.disk.now c.args.lot.now in
+    let looked = c.find_move.ensures.looked in
+    let few = sited-few c.args.lot.now _ c.requires.sited in
+    let fits = c.in-Ok.ensures.fits in
+    row-fits g.F.Form.ENTRY c.args.lot.now m (form_of g.F.Form.VERSION) (ap form_of g.F.Form.is_one.0) g.F.Form.is_one.1 c.in-Ok.step c.need_of-need.result (omega (arith, fits.from.count)) (omega (arith, fits.to.count)) c.need_of-need.ensures.apart
+    (subst (λ (x : Map). HasFree c.args.lot.now x c.need_of-need.result) looked.map (c.in-Ok-check_quota.ensures.enough (looked.shows s)))
+
+pub returns-in-Err-check_quota-clause-damaged : goal.returns-in-Err-check_quota-clause-damaged
+returns-in-Err-check_quota-clause-damaged g c = λ n e s.
+    let looked = c.find_move.ensures.looked in
+    let same : c.in-Err-check_quota.refusal ≡ Damaged n = cc in
+    subst (λ (m : Map). (r : Rule) × (n ≡ rule_number r) × IsBroken g.F.Form.ENTRY c.args.lot.now m r) looked.map
+    (c.in-Err-check_quota.ensures.damaged n (ap (λ x. Err x) same) (looked.shows s))

@@ -2,6 +2,7 @@ use Rattle.std.proofs.Common.{refl}
 use Rattle.ice_base.specs.declared.fault.Rule.TheVariants.{Kind}
 use Rattle.tree_spec.specs.Trees.{parent}
 use Rattle.ice_tree.proofs.RenameLaws.{ends-dirs, spot-is, spot-there}
+use Rattle.ice_tree.proofs.RenameDamage.{move-is}
 use Rattle.ice_tree.proofs.renames.move_of.Goals as goal
 
 pub returns-in-None-clause-set : goal.returns-in-None-clause-set
@@ -22,3 +23,6 @@ returns-in-Some-spot_at-clause-step c = λ f o p q t a b same none. record {
   to_is = spot-is f o (parent q) t _ _ b.at_parent c.in-Some-spot_at.ensures;
   same_is = same;
 }
+
+pub returns-in-Some-spot_at-clause-is : goal.returns-in-Some-spot_at-clause-is
+returns-in-Some-spot_at-clause-is c = λ entry lot m name a b f g named there dir. move-is entry lot m name c.args.from.now c.args.into.now _ a b f g named there c.in-Some.ensures c.in-Some-spot_at.ensures

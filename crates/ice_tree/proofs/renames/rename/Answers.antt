@@ -1,9 +1,10 @@
-use Rattle.std.proofs.Common.{◌+◌, ◌-◌, [], ◌∷◌, length, drop, take, get_or, ap, ◌∙◌, arith, subst}
+use Rattle.std.proofs.Common.{◌≡◌, ℕ, ◌+◌, ◌-◌, List, [], ◌∷◌, Err, length, drop, take, get_or, sym, ap, ◌∙◌, arith, subst, inl}
 use Rattle.tree_spec.specs.Costs.{form_of}
 use Rattle.tree_spec.specs.Operations.{Rename}
 use Rattle.tree_spec.specs.Answers.{next, refusal}
 use Rattle.tree_spec.specs.Replies.{refused_of}
 use Rattle.tree_spec.specs.Trees.{Tree}
+use Rattle.tree_spec.specs.declared.reply.Refusal.TheVariants.{Damaged}
 use Rattle.ice_reads.specs.Tables.{Map}
 use Rattle.ice_reads.specs.Recovers.{MapRecovers}
 use Rattle.ice_tree.specs.Renames.{move_refusal}
@@ -12,6 +13,10 @@ use Rattle.ice_tree.proofs.EndLaws.{names-last}
 use Rattle.ice_tree.proofs.LookLaws.{as_model, as_accepted, fault_model, first_stage}
 use Rattle.ice_tree.proofs.Names.{name-of}
 use Rattle.ice_tree.proofs.RenameLaws.{rename-stages, refusal-set, names-short, renames-are, answer-next}
+use Rattle.ice_tree.specs.Broken.{IsBrokenIn, IsFaultBy}
+use Rattle.ice_tree.specs.Grounds.{MoveIs, RowFits}
+use Rattle.ice_tree.proofs.FaultLaws.{fault-names}
+use Rattle.ice_tree.proofs.SpotLaws.{last-is}
 use Rattle.ice_tree.proofs.renames.rename.Goals as goal
 
 pub returns-in-Err-clause-answers : goal.returns-in-Err-clause-answers
@@ -76,3 +81,23 @@ returns-in-Ok-put_moved-clause-changed g c = λ mode k t s r.
     let q = drop c.args.depth c.args.to.now in
     subst (λ (u : Tree). MapRecovers f mode c.args.lot.now (g.K.View.map c.put_moved.new.keep c.put_moved.new.disk c.args.lot.now) u (k + 1)) (answer-next t k (length c.args.lot.now.groups) f (Rename p q) x.0)
     (c.in-Ok-put_moved.ensures.moved mode k t p q (c.may_move.ensures.looked.shows s) is)
+
+pub returns-in-Err-may_move-clause-damaged : goal.returns-in-Err-may_move-clause-damaged
+returns-in-Err-may_move-clause-damaged g c = λ n e s.
+    let same : c.in-Err-may_move.refusal ≡ Damaged n = cc in
+    let x = c.in-Err-may_move.ensures.damaged n (ap (λ y. Err y) same) s in
+    (x.0, x.1, inl x.2)
+
+pub returns-in-Err-put_moved-clause-damaged : goal.returns-in-Err-put_moved-clause-damaged
+returns-in-Err-put_moved-clause-damaged g c = λ n e s.
+    let entry = g.F.Form.ENTRY in
+    let lot = c.args.lot.now in
+    let m : Map = g.K.View.map c.args.keep.now c.args.disk.now lot in
+    let last : Map = g.K.View.map c.put_moved.new.keep c.put_moved.new.disk lot in
+    let step = c.in-Ok.step in
+    let looked = c.may_move.ensures.looked in
+    let below = c.in-Ok.ensures.below.0 in
+    let name = last-is c.args.path.now c.args.depth (c.len.result - 1) c.name-name.result (omega (arith, below, c.len.ensures)) (omega (arith, below, c.len.ensures)) (c.name-name.ensures []) in
+    let is = subst (λ (x : List ℕ). MoveIs entry lot m x step) (sym name) (c.in-Ok.ensures.is s) in
+    let broken = c.in-Err-put_moved.ensures.broken (looked.shows s) (subst (λ (x : Map). MoveIs entry lot x c.name-name.result step) (sym looked.map) is) (subst (λ (x : Map). RowFits entry lot x step) (sym looked.map) (c.in-Ok.ensures.room s)) in
+    fault-names (IsBrokenIn entry lot m last) c.in-Err-put_moved.fault _ c.refusal_of.ensures (subst (λ (x : Map). IsFaultBy (IsBrokenIn entry lot x last) c.in-Err-put_moved.fault) looked.map broken) n e
