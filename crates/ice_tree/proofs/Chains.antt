@@ -25,7 +25,12 @@ abbrev by_paths : Bool → Bool → Option Why
 by_paths long deep = if long then Some why.NameLong else (if deep then Some why.TooDeep else None)
 
 abbrev by_quota : Bool → Bool → Bool → Option Why
-by_quota few full spent = if few then Some why.NoNodes else (if full then Some why.NoSpace else (if spent then Some why.Spent else None))
+by_quota few full spent = or_else (if few then Some why.NoNodes else None) (or_else (if full then Some why.NoSpace else None) (if spent then Some why.Spent else None))
+
+quota_by : (few full spent : Bool) → (if few then Some why.NoNodes else (if full then Some why.NoSpace else (if spent then Some why.Spent else None))) ≡ by_quota few full spent
+quota_by true full spent = refl
+quota_by false true spent = refl
+quota_by false false spent = refl
 
 -- ---- over plain tests
 
@@ -63,7 +68,7 @@ new_by false false NotFound root taken few full spent = refl
 new_by false false NotDir root taken few full spent = refl
 new_by false false (Found t) true taken few full spent = refl
 new_by false false (Found t) false true few full spent = refl
-new_by false false (Found t) false false few full spent = refl
+new_by false false (Found t) false false few full spent = quota_by few full spent
 
 write_by : (long deep : Bool) (w : Walk) (beyond big few full spent : Bool)
     → lowest long (deep || false) (is_not_found w || false) ((is_not_dir w || false) || false) (is_dir_found w) false false false false beyond big few full spent
@@ -75,7 +80,7 @@ write_by false false NotDir beyond big few full spent = refl
 write_by false false (Found (Dir es)) beyond big few full spent = refl
 write_by false false (Found (File bytes)) true big few full spent = refl
 write_by false false (Found (File bytes)) false true few full spent = refl
-write_by false false (Found (File bytes)) false false few full spent = refl
+write_by false false (Found (File bytes)) false false few full spent = quota_by few full spent
 
 trunc_by : (long deep : Bool) (w : Walk) (beyond few full spent : Bool)
     → lowest long (deep || false) (is_not_found w || false) ((is_not_dir w || false) || false) (is_dir_found w) false false false false beyond false few full spent
@@ -86,7 +91,7 @@ trunc_by false false NotFound beyond few full spent = refl
 trunc_by false false NotDir beyond few full spent = refl
 trunc_by false false (Found (Dir es)) beyond few full spent = refl
 trunc_by false false (Found (File bytes)) true few full spent = refl
-trunc_by false false (Found (File bytes)) false few full spent = refl
+trunc_by false false (Found (File bytes)) false few full spent = quota_by few full spent
 
 remove_by : (long deep : Bool) (w : Walk) (root some few full spent : Bool)
     → lowest long (deep || false) (is_not_found w || false) ((is_not_dir w || false) || false) false root false some false false false few full spent
@@ -97,7 +102,7 @@ remove_by false false NotFound root some few full spent = refl
 remove_by false false NotDir root some few full spent = refl
 remove_by false false (Found t) true some few full spent = refl
 remove_by false false (Found t) false true few full spent = refl
-remove_by false false (Found t) false false few full spent = refl
+remove_by false false (Found t) false false few full spent = quota_by few full spent
 
 rename_by : (long deep below : Bool) (v w : Walk) (root taken into few full spent : Bool)
     → lowest long (deep || below) (is_not_found v || (is_not_found w || false)) ((is_not_dir v || (is_not_dir w || false)) || false) false root taken false into false false few full spent
@@ -116,7 +121,7 @@ rename_by false false false (Found t) NotDir root taken into few full spent = re
 rename_by false false false (Found t) (Found s) true taken into few full spent = refl
 rename_by false false false (Found t) (Found s) false true into few full spent = refl
 rename_by false false false (Found t) (Found s) false false true few full spent = refl
-rename_by false false false (Found t) (Found s) false false false few full spent = refl
+rename_by false false false (Found t) (Found s) false false false few full spent = quota_by few full spent
 
 -- ---- of each operation
 

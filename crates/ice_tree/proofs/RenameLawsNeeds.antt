@@ -28,10 +28,10 @@ use Rattle.ice_reads.proofs.Walks.{two_walks}
 use Rattle.ice_steps.proofs.Counts.{mark-small}
 use Rattle.ice_tree.specs.declared.quota.Need.{Need}
 use Rattle.ice_tree.specs.declared.renames.Move.{Move}
-use Rattle.ice_tree.specs.Changes.{Needs, done_refusal}
+use Rattle.ice_tree.specs.Changes.{Needs}
 use Rattle.ice_tree.specs.Renames.{move_refusal, IsMove}
-use Rattle.ice_tree.specs.Stages.{paths_refusal}
-use Rattle.ice_tree.proofs.StageLaws.{none-both, quota-stages}
+use Rattle.ice_tree.specs.Stages.{paths_refusal, done_refusal}
+use Rattle.ice_tree.proofs.StageLaws.{none-both}
 use Rattle.ice_tree.proofs.RenameLaws.{rename-stages}
 
 abbrev Names : Type 0
@@ -143,7 +143,7 @@ great-lot t f p q names ends =
     let n = nodes u + blocks f u in (
       n,
       rename-stages t 0 n f p q ∙ none-both _ _ names (none-both _ _ ends
-          (quota-stages n f 0 u ∙ none-both _ _ (ap (λ b. if b then Some why.NoNodes else None) (few-nodes (nodes u) (blocks f u)))
+          (none-both _ _ (ap (λ b. if b then Some why.NoNodes else None) (few-nodes (nodes u) (blocks f u)))
           (none-both _ _ (ap (λ b. if b then Some why.NoSpace else None) (few-blocks (nodes u) (blocks f u))) not-spent))),
     )
   where

@@ -10,9 +10,8 @@ use Rattle.tree_spec.specs.declared.reply.Refusal.{Refusal}
 use Rattle.ice_base.specs.Lots.{LotView}
 use Rattle.ice_reads.specs.Tables.{Map}
 use Rattle.ice_reads.specs.Recovers.{MapRecovers}
-use Rattle.ice_tree.specs.Changes.{nodes_refusal, blocks_refusal, done_refusal}
 use Rattle.ice_tree.specs.Outcomes.{RefusedAs}
-use Rattle.ice_tree.specs.Stages.{or_else, quota_refusal}
+use Rattle.ice_tree.specs.Stages.{or_else, quota_refusal, nodes_refusal, blocks_refusal, done_refusal}
 use Rattle.ice_tree.proofs.LookLaws.{later_stage}
 
 -- a stage that refuses decides
@@ -34,16 +33,6 @@ Finds result found = MatchResult result (λ u. found ≡ None) (λ r. RefusedAs 
 
 pub finds-later : {A : Type 0} (result : Result A Refusal) (a b : Option Why) → a ≡ None → Finds result b → Finds result (or_else a b)
 finds-later {A} result a b e h = subst (λ (o : Option Why). Finds result o) (sym (later_stage a b e)) h
-
-by_stages : (few full spent : Bool) → (if few then Some why.NoNodes else (if full then Some why.NoSpace else (if spent then Some why.Spent else None)))
-    ≡ or_else (if few then Some why.NoNodes else None) (or_else (if full then Some why.NoSpace else None) (if spent then Some why.Spent else None))
-by_stages true full spent = refl
-by_stages false true spent = refl
-by_stages false false spent = refl
-
--- the quota in its three stages
-pub quota-stages : (n : ℕ) (f : Form) (k : ℕ) (t : Tree) → quota_refusal n f k t ≡ or_else (nodes_refusal n t) (or_else (blocks_refusal n f t) (done_refusal k))
-quota-stages n f k t = by_stages (nat_lt (node_quota n) (nodes t)) (nat_lt (block_quota n) (blocks f t)) (nat_eq k most_done)
 
 -- an equal map recovers the same
 pub recovers-same : (f : Form) (mode : ℕ) (lot : LotView) (m m' : Map) (t : Tree) (k : ℕ) → m' ≡ m → MapRecovers f mode lot m t k → MapRecovers f mode lot m' t k

@@ -92,15 +92,3 @@ pub record TakesAt (f : Form) (mode : ℕ) (lot : LotView) (m : Map) (t : Tree) 
   pub recovers : MapRecovers f mode lot m t k
   pub number_is : number ≡ inode_on f (own_in f m) 0 p
   pub accepted : refusal t k (length lot.groups) f op ≡ None
-
--- the refusal by the number of nodes of the tree that would be made
-abbrev pub nodes_refusal : ℕ → Tree → Option Why
-nodes_refusal n t = if nat_lt (node_quota n) (nodes t) then Some why.NoNodes else None
-
--- by its blocks
-abbrev pub blocks_refusal : ℕ → Form → Tree → Option Why
-blocks_refusal n f t = if nat_lt (block_quota n) (blocks f t) then Some why.NoSpace else None
-
--- by the number of operations that were accepted
-abbrev pub done_refusal : ℕ → Option Why
-done_refusal done = if nat_eq done most_done then Some why.Spent else None

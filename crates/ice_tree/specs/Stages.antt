@@ -38,8 +38,18 @@ dir_refusal (Found (Dir es)) = None
 dir_refusal NotFound = Some why.NotFound
 dir_refusal NotDir = Some why.NotDir
 
+-- the refusal by the number of nodes of the tree that would be made
+abbrev pub nodes_refusal : ℕ → Tree → Option Why
+nodes_refusal n t = if nat_lt (node_quota n) (nodes t) then Some why.NoNodes else None
+
+-- by its blocks
+abbrev pub blocks_refusal : ℕ → Form → Tree → Option Why
+blocks_refusal n f t = if nat_lt (block_quota n) (blocks f t) then Some why.NoSpace else None
+
+-- by the number of operations that were accepted
+abbrev pub done_refusal : ℕ → Option Why
+done_refusal done = if nat_eq done most_done then Some why.Spent else None
+
 -- the refusal that a lot of n groups has for a tree of one operation more, after so many
 abbrev pub quota_refusal : ℕ → Form → ℕ → Tree → Option Why
-quota_refusal n f done t =
-    if nat_lt (node_quota n) (nodes t) then Some why.NoNodes
-    else (if nat_lt (block_quota n) (blocks f t) then Some why.NoSpace else (if nat_eq done most_done then Some why.Spent else None))
+quota_refusal n f done t = or_else (nodes_refusal n t) (or_else (blocks_refusal n f t) (done_refusal done))

@@ -16,19 +16,10 @@ ghost use Rattle.ice_tree.specs.Grounds.{IsEntry};
 ghost use Rattle.ice_tree.specs.Moves.{IsChild, IsHeightFault};
 ghost use Rattle.ice_tree.specs.Places.{IsReached, PlaceFits, PlaceIs, PlaceReached, place_by};
 
+use crate::blank::blank_name;
 use crate::place::{Place, enter};
 use ice_base::{Disk, Form, Lot, OpFault, Rule, View};
 use ice_dir::entry;
-use tree_spec::Name;
-
-/// A name to read others into.
-#[tactic(auto, unfolding(tree_spec::specs::Names::is_name))]
-fn any_name() -> Name {
-    match Name::new(b"-") {
-        Some(name) => name,
-        None => unreachable!(),
-    }
-}
 
 /// The place of the inode that entry `k` of a directory names.
 fn entry_place<D: Disk, V: View<D>, F: Form>(
@@ -52,7 +43,7 @@ fn entry_place<D: Disk, V: View<D>, F: Form>(
     ensures faults { IfErr result IsHeightFault }
     ensures failed { IsErrOf result FaultDisk → Rose (D.state disk.old).faults (D.state disk.new).faults }
 {
-    let mut name = any_name();
+    let mut name = blank_name();
     let inode = entry::<D, V, F>(view, disk, lot, number, k, &mut name)?;
     enter::<D, V, F>(view, disk, lot, inode)
 }

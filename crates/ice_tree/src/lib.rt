@@ -1,6 +1,7 @@
 //! The commands of one tree, over any view, keep, pool and form.
 #![tactic(auto)]
 
+mod blank;
 mod counts;
 mod ends;
 mod fault;

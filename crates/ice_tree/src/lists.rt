@@ -27,16 +27,12 @@ ghost use Rattle.ice_tree.specs.Stages.{paths_refusal};
 
 use crate::fault::refusal_of;
 use crate::looks::dir_at;
+use crate::blank::blank_name;
 use crate::paths::check_path;
 use crate::place::{Place, enter};
 use ice_base::{Disk, Form, Lot, OpFault, View};
 use ice_dir::entry;
-use tree_spec::{Entry, Name, Path, Refusal, Reply, Room, Value};
-
-/// A name to be overwritten.
-fn some_name() -> Name {
-    Name::new(b"-").unwrap()
-}
+use tree_spec::{Entry, Path, Refusal, Reply, Room, Value};
 
 /// Adds entry `k` of a directory to the room. After an `Err` the room is as before.
 fn add_entry<D: Disk, V: View<D>, F: Form>(
@@ -63,7 +59,7 @@ fn add_entry<D: Disk, V: View<D>, F: Form>(
     ensures faults { IfErr result IsListFault }
     ensures failed { IsErrOf result FaultDisk → Rose (D.state disk.old).faults (D.state disk.new).faults }
 {
-    let mut name = some_name();
+    let mut name = blank_name();
     let next = entry::<D, V, F>(view, disk, lot, number, k, &mut name)?;
     let place = enter::<D, V, F>(view, disk, lot, next)?;
     let dir = matches!(place, Place::Dir { .. });

@@ -12,7 +12,7 @@ use ice_base::Form;
 use tree_spec::{Path, Refusal};
 
 /// The most names of a path below the root.
-const DEEPEST: usize = 24;
+pub(crate) const DEEPEST: usize = 24;
 
 /// Whether one of the names from `depth` on is longer than the form's longest name.
 pub(crate) fn has_long_name<F: Form>(path: &Path, depth: usize) -> bool

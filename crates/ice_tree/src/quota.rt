@@ -12,10 +12,10 @@ ghost use Rattle.tree_spec.specs.declared.reply.Refusal.TheVariants.{Fault, Dama
 ghost use Rattle.ice_file.specs.Files.{longest_file};
 ghost use Rattle.ice_reads.specs.Recovers.{MapRecovers};
 ghost use Rattle.ice_tree.specs.Broken.{IsBroken};
-ghost use Rattle.ice_tree.specs.Changes.{Needs, nodes_refusal, blocks_refusal, done_refusal};
+ghost use Rattle.ice_tree.specs.Changes.{Needs};
 ghost use Rattle.ice_tree.specs.Grounds.{CanCount, HasFree};
 ghost use Rattle.ice_tree.specs.Outcomes.{RefusedAs, IsTreeRefusal, rule_number};
-ghost use Rattle.ice_tree.specs.Stages.{quota_refusal};
+ghost use Rattle.ice_tree.specs.Stages.{quota_refusal, nodes_refusal, blocks_refusal, done_refusal};
 
 use crate::counts::{MOST_DONE, done_of};
 use crate::fault::refusal_of;

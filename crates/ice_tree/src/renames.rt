@@ -29,15 +29,12 @@ use crate::counts::count_up;
 use crate::ends::{Ends, Spot, find_ends};
 use crate::fault::refusal_of;
 use crate::heights::is_higher;
-use crate::paths::check_paths;
+use crate::paths::{DEEPEST, check_paths};
 use crate::place::Place;
 use crate::quota::{Need, check_quota, dir_cost};
 use ice_base::{Disk, Form, Keep, Lot, OpFault, Pool, Rule, View};
 use ice_dir::{add, take};
 use tree_spec::{Name, Path, Refusal};
-
-/// The most names of a path below the root.
-const DEEPEST: usize = 24;
 
 /// A rename: the directory that loses an entry, the one that gains it, and whether both paths are one, so that nothing moves.
 #[derive(Clone, Copy, Drop)]
