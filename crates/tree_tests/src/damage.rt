@@ -57,7 +57,12 @@ fn sound(rt: &impl Abort, alloc: Global) -> Result<MemHost, Fail> {
 }
 
 /// The lot with these bytes in place of its own.
-fn damaged(rt: &impl Abort, alloc: Global, base: &MemHost, bytes: &[Byte]) -> Result<MemHost, Fail> {
+fn damaged(
+    rt: &impl Abort,
+    alloc: Global,
+    base: &MemHost,
+    bytes: &[Byte],
+) -> Result<MemHost, Fail> {
     let mut host = base.crashed(alloc, base.calls(), 1)?;
     for (at, place, value) in bytes {
         assert!(rt; *at < host.blocks() && host.calls() == 0 && *place < 1024);
@@ -83,7 +88,11 @@ fn names(
         let mut keep = ThroughKeep::new();
         assert!(rt; host.blocks() == BLOCKS);
         let got = reply(rt, &mut keep, &mut host, &one_group(), command, &mut room);
-        assert_eq!(rt; got, Err(Refusal::Damaged(rule)), "of command {i} for rule {rule}");
+        assert_eq!(rt;
+            got,
+            Err(Refusal::Damaged(rule)),
+            "of command {i} for rule {rule}"
+        );
     }
     Ok(())
 }
@@ -110,13 +119,44 @@ fn a_damaged_sub_super_block_stops_each_change(rt: HostRuntime) -> Result<(), Fa
     names(&rt, alloc, &base, &[(SUB, 9, 7)], 4, &changes())?;
     names(&rt, alloc, &base, &[(SUB, 23, 0x80)], 5, &changes())?;
     let none = [(SUB, 24, 0)];
-    names(&rt, alloc, &base, &none, 6, &[cuts(b"/a/f", 0), removes(b"/a/f")])?;
+    names(
+        &rt,
+        alloc,
+        &base,
+        &none,
+        6,
+        &[cuts(b"/a/f", 0), removes(b"/a/f")],
+    )?;
     let none = [(SUB, 28, 0)];
     names(&rt, alloc, &base, &none, 6, &[removes(b"/a/d")])?;
-    let most = [(SUB, 24, 0xff), (SUB, 25, 0xff), (SUB, 26, 0xff), (SUB, 27, 0xff)];
-    names(&rt, alloc, &base, &most, 6, &[mkdirs(b"/a/d/z"), makes(b"/a/d/z")])?;
-    let most = [(SUB, 28, 0xff), (SUB, 29, 0xff), (SUB, 30, 0xff), (SUB, 31, 0xff)];
-    names(&rt, alloc, &base, &most, 6, &[mkdirs(b"/a/z"), makes(b"/a/z")])
+    let most = [
+        (SUB, 24, 0xff),
+        (SUB, 25, 0xff),
+        (SUB, 26, 0xff),
+        (SUB, 27, 0xff),
+    ];
+    names(
+        &rt,
+        alloc,
+        &base,
+        &most,
+        6,
+        &[mkdirs(b"/a/d/z"), makes(b"/a/d/z")],
+    )?;
+    let most = [
+        (SUB, 28, 0xff),
+        (SUB, 29, 0xff),
+        (SUB, 30, 0xff),
+        (SUB, 31, 0xff),
+    ];
+    names(
+        &rt,
+        alloc,
+        &base,
+        &most,
+        6,
+        &[mkdirs(b"/a/z"), makes(b"/a/z")],
+    )
 }
 
 #[test]
@@ -135,7 +175,12 @@ fn damaged_inodes_and_entries_stop_what_meets_them(rt: HostRuntime) -> Result<()
     names(&rt, alloc, &base, &[(INODES, 256, 3)], 7, &met)?;
     names(&rt, alloc, &base, &[(INODES, 8, 5)], 8, &met)?;
     names(&rt, alloc, &base, &[(INODES, 8, 5)], 8, &changes())?;
-    let bytes = [reads(b"/a/f", 0, 1), writes(b"/a/f", 0, b"y"), cuts(b"/a/f", 0), removes(b"/a/f")];
+    let bytes = [
+        reads(b"/a/f", 0, 1),
+        writes(b"/a/f", 0, b"y"),
+        cuts(b"/a/f", 0),
+        removes(b"/a/f"),
+    ];
     names(&rt, alloc, &base, &[(INODES, 264, 5)], 8, &bytes)?;
     names(&rt, alloc, &base, &[(ROOT, 64, 64)], 10, &met)?;
     names(&rt, alloc, &base, &[(ROOT, 5, b'/')], 11, &[lists(b"/a")])?;
@@ -160,9 +205,23 @@ fn a_damaged_bitmap_stops_what_takes_and_gives(rt: HostRuntime) -> Result<(), Fa
     names(&rt, alloc, &base, &[(BITMAP, 0, 0xfe)], 13, &new)?;
     let back = [cuts(b"/a/f", 0), removes(b"/a/f")];
     names(&rt, alloc, &base, &[(BITMAP, 1, 0xfb)], 13, &back)?;
-    names(&rt, alloc, &base, &[(BITMAP, 32, 0xfb)], 13, &[removes(b"/a/f")])?;
+    names(
+        &rt,
+        alloc,
+        &base,
+        &[(BITMAP, 32, 0xfb)],
+        13,
+        &[removes(b"/a/f")],
+    )?;
     names(&rt, alloc, &base, &[(BITMAP, 32, 0xfd)], 13, &new)?;
-    names(&rt, alloc, &base, &[(BITMAP, 32, 0xfd)], 13, &[removes(b"/a/d")])
+    names(
+        &rt,
+        alloc,
+        &base,
+        &[(BITMAP, 32, 0xfd)],
+        13,
+        &[removes(b"/a/d")],
+    )
 }
 
 #[test]
@@ -175,7 +234,14 @@ fn a_directory_that_is_marked_free_is_not_overwritten(rt: HostRuntime) -> Result
     assert!(&rt; host.blocks() == BLOCKS);
     let inodes = *host.block(INODES);
     let mut keep = ThroughKeep::new();
-    let got = reply(&rt, &mut keep, &mut host, &one_group(), &mkdirs(b"/a/e/z"), &mut room);
+    let got = reply(
+        &rt,
+        &mut keep,
+        &mut host,
+        &one_group(),
+        &mkdirs(b"/a/e/z"),
+        &mut room,
+    );
     assert_eq!(&rt; got, Err(Refusal::Damaged(13)));
     assert!(&rt; host.blocks() == BLOCKS);
     assert!(&rt; *host.block(INODES) == inodes);
