@@ -1,5 +1,5 @@
 -- Which rule a refusal names, and that the lot breaks it.
-use Rattle.std.proofs.Common.{◌≡◌, ◌≤◌, ◌<◌, ◌+◌, ℕ, subst, arith, inl, Bool, true, false, List, Some, None, Option, Result, Ok, Err, IsErrOf, refl, ap, sym, ◌∙◌}
+use Rattle.std.proofs.Common.{◌≡◌, ◌≤◌, ◌<◌, ◌+◌, ℕ, subst, arith, inl, Bool, true, false, List, Some, None, Result, Ok, Err, IsErrOf, refl, ap, sym, ◌∙◌}
 use Rattle.std.specs.Prelude.{◌==◌, not, ◌^◌, nat_lt, slice_index, if◌then◌else◌, IfErr, ⊤}
 use Rattle.ice_base.specs.Fields.{word_at, long_at, SameBeside}
 use Rattle.ice_base.specs.Used.{count_place}
@@ -13,7 +13,7 @@ use Rattle.ice_layout.specs.Subs.{sub_rule, sub_magic}
 use Rattle.tree_spec.specs.declared.reply.Refusal.{Refusal}
 use Rattle.tree_spec.specs.declared.reply.Refusal.TheVariants as code
 use Rattle.ice_reads.proofs.Focus.{same_Some, None≢Some}
-use Rattle.ice_tree.specs.Broken.{IsBroken, IsBrokenIn, IsBrokenBy, IsFaultBy}
+use Rattle.ice_tree.specs.Broken.{IsBroken, IsBrokenBy, IsFaultBy}
 use Rattle.ice_tree.specs.Outcomes.{rule_number, refusal_by, IsSubFault, IsCountFault}
 
 -- a fault as a refusal names the fault's rule

@@ -1,8 +1,7 @@
 -- What stands at a path that is removed, and what its removal needs.
-use Rattle.std.proofs.Common.{◌≡◌, ◌≢◌, ◌≤◌, ◌<◌, ◌+◌, ◌-◌, ◌*◌, ℕ, Bool, true, false, cond, T, List, [], ◌∷◌, ◌++◌, length, drop, Option, None, Some, Result, Ok, Err, MatchResult, refl, sym, ap, ◌∙◌, subst, arith, if◌then◌else◌}
+use Rattle.std.proofs.Common.{◌≡◌, ◌≢◌, ◌≤◌, ◌<◌, ◌+◌, ◌-◌, ℕ, Bool, true, false, T, List, [], ◌∷◌, length, drop, Option, None, Some, Result, MatchResult, refl, sym, ap, ◌∙◌, subst, arith, if◌then◌else◌}
 use Rattle.std.proofs.lemmas.List.{length-drop}
 use Rattle.std.proofs.lemmas.Result.{MatchResult-weaker}
-use Rattle.std.specs.FinMap.{find}
 use Rattle.ice_base.specs.Lots.{LotView}
 use Rattle.tree_spec.specs.Why.{Why}
 use Rattle.tree_spec.specs.Why as why

@@ -6,7 +6,7 @@ use Rattle.std.specs.Prelude.{IfSome}
 use Rattle.ice_map.specs.declared.codec.Inode.{Inode}
 use Rattle.ice_map.specs.Inodes.{inode_of}
 use Rattle.ice_map.specs.Maps.{leads}
-use Rattle.ice_dir.specs.Rows.{HasEntry, IsDirectory, rows_of, per_block}
+use Rattle.ice_dir.specs.Rows.{HasEntry, rows_of, per_block}
 use Rattle.ice_dir.proofs.DirLaws.{per-sixteen}
 use Rattle.tree_spec.specs.Names.{is_name}
 use Rattle.tree_spec.specs.Costs.{form_one}
@@ -14,10 +14,10 @@ use Rattle.ice_reads.specs.Tables.{Map, own_in, IsNameOf}
 use Rattle.ice_reads.proofs.Losses.{length-rows_in}
 use Rattle.ice_tree.specs.declared.place.Place.{Place}
 use Rattle.ice_tree.specs.Moves.{IsChild}
-use Rattle.ice_tree.proofs.PlaceLaws.{dir-leads, dir-is}
+use Rattle.ice_tree.proofs.PlaceLaws.{dir-leads}
 use Rattle.ice_tree.specs.Places.{place_by}
 use Rattle.ice_tree.specs.declared.place.Place.TheVariants as at
-use Rattle.std.proofs.Common.{◌≡◌, ℕ, suc, ◌+◌, ◌*◌, ◌/◌, ◌<◌, ◌≤◌, Bool, true, false, cond, T, List, [], ◌∷◌, map, length, take, drop, get_or, slice_get, Some, None, Option, sym, refl, ap, ◌∙◌, subst, arith}
+use Rattle.std.proofs.Common.{◌≡◌, ℕ, ◌+◌, ◌*◌, ◌/◌, ◌<◌, ◌≤◌, Bool, true, false, cond, T, List, [], ◌∷◌, map, length, take, drop, get_or, slice_get, Some, None, Option, sym, refl, ap, ◌∙◌, subst, arith}
 use Rattle.std.specs.Prelude.{◌&&◌, is_some, nat_lt, All, Contains, unwrap_or}
 use Rattle.std.specs.List.{IsDistinct, AllByRecursion, sum_by}
 use Rattle.std.specs.Ordering.{eq_by_cmp}
@@ -36,16 +36,15 @@ use Rattle.ice_base.specs.declared.fault.OpFault.{OpFault}
 use Rattle.ice_base.specs.declared.fault.OpFault.TheVariants.{Disk, Damaged}
 use Rattle.ice_base.specs.declared.fault.Rule.TheVariants.{Kind, Pointer, Name}
 use Rattle.ice_dir.specs.Faults.{IsEntryFault}
-use Rattle.ice_dir.specs.Rows.{Row, look_up}
+use Rattle.ice_dir.specs.Rows.{Row}
 use Rattle.tree_spec.specs.Trees.{Tree, Entries, Nil, Entry, rows, by_bytes, child, found_or_not, Walk, Found, NotFound, without, height, height_in, total_in}
 use Rattle.tree_spec.specs.Trees as tree
 use Rattle.tree_spec.specs.Costs.{Form, nodes}
-use Rattle.tree_spec.specs.Routes.{is_same_name}
 use Rattle.tree_spec.proofs.Trees.{same_name, is_same_name-refl, is_same_name-sym, find-without}
 use Rattle.tree_spec.proofs.Sums.{no_later, height-child}
-use Rattle.ice_reads.specs.Tables.{Table, rows_in, inode_named}
+use Rattle.ice_reads.specs.Tables.{Table, rows_in}
 use Rattle.ice_reads.specs.Reads.{Reads}
-use Rattle.ice_reads.proofs.Focus.{same_Some, None≢Some, Found≢NotFound}
+use Rattle.ice_reads.proofs.Focus.{None≢Some, Found≢NotFound}
 use Rattle.ice_reads.proofs.LookUps.{look_up-find, child-found}
 
 -- the height of what stands under a name, from the directory down, and its nodes

@@ -1,5 +1,5 @@
 -- What the map of a file or a directory says where it is damaged.
-use Rattle.std.proofs.Common.{◌≡◌, ℕ, ◌+◌, ◌*◌, ◌/◌, ◌<◌, ◌≤◌, Bool, true, false, cond, length, refl, sym, ap, ◌∙◌, subst, arith}
+use Rattle.std.proofs.Common.{◌≡◌, ℕ, ◌+◌, ◌*◌, ◌<◌, ◌≤◌, Bool, true, false, cond, length, refl, sym, ap, ◌∙◌, subst, arith}
 use Rattle.std.proofs.lemmas.Bool.Decides.{nat_tests}
 use Rattle.std.proofs.lemmas.Nat.{div-add-mod', mod_below}
 use Rattle.std.specs.Prelude.{◌==◌, nat_lt}
@@ -7,7 +7,7 @@ use Rattle.ice_base.specs.Lots.{LotView}
 use Rattle.ice_base.specs.Used.{is_data, counted}
 use Rattle.ice_map.specs.declared.codec.Inode.{Inode}
 use Rattle.ice_map.specs.Inodes.{inode_of}
-use Rattle.ice_map.specs.Maps.{uses, leads, Misleads, UsesUnmarked}
+use Rattle.ice_map.specs.Maps.{leads, Misleads, UsesUnmarked}
 use Rattle.ice_map.proofs.MapLaws.{leads-direct, leads-single, leads-lost}
 use Rattle.ice_file.specs.Files.{longest_file}
 use Rattle.ice_file.specs.Own.{map_length, blocks_for}

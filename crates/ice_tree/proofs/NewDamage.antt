@@ -1,8 +1,6 @@
 -- Which rule a lot breaks where a new file or directory can't be made after all.
-use Rattle.std.proofs.Common.{◌≡◌, ◌≢◌, ◌≤◌, ◌<◌, ◌+◌, ◌-◌, ◌*◌, ◌%◌, ◌^◌, ℕ, Bool, true, false, not, List, [], ◌∷◌, length, refl, sym, ap, ◌∙◌, subst, arith, inl, inr}
-use Rattle.std.specs.Prelude.{nat_lt}
-use Rattle.std.proofs.lemmas.Bool.Decides.{nat_tests}
-use Rattle.ice_base.specs.Fields.{word_at, long_at}
+use Rattle.std.proofs.Common.{◌≡◌, ◌≢◌, ◌≤◌, ◌<◌, ◌+◌, ◌-◌, ◌*◌, ◌^◌, ℕ, Bool, true, false, not, List, length, refl, sym, ap, ◌∙◌, subst, arith, inl, inr}
+use Rattle.ice_base.specs.Fields.{word_at}
 use Rattle.ice_base.specs.Inodes.{inode_address, inode_index}
 use Rattle.ice_base.specs.Lots.{LotView, sub_address}
 use Rattle.ice_base.specs.Faults.{IsTakeInodeFault}
@@ -10,23 +8,20 @@ use Rattle.ice_base.specs.Used.{used, used_block, bitmap_of, is_data, counted, f
 use Rattle.ice_base.specs.declared.fault.OpFault.{OpFault}
 use Rattle.ice_base.specs.declared.fault.OpFault.TheVariants.{Disk, Damaged, NoSpace, NoNodes}
 use Rattle.ice_base.specs.declared.fault.Rule.TheVariants.{Counts, Kind, Pointer, Bitmap}
-use Rattle.ice_base.proofs.FieldLaws.{long-beside}
 use Rattle.ice_map.specs.declared.codec.Inode.{Inode}
 use Rattle.ice_map.specs.Inodes.{inode_of, inode_at}
 use Rattle.ice_map.specs.Maps.{Misleads}
 use Rattle.ice_map.proofs.GrowLaws.{inode_not_bitmap, inode_not_data, inode_not_sub}
 use Rattle.ice_map.proofs.ListLaws.{count_none}
 use Rattle.ice_map.proofs.MarkLaws.{used-same, free-same, data_not_bitmap, data_not_sub}
-use Rattle.ice_file.specs.Own.{map_length}
 use Rattle.ice_file.specs.Writes.{uses_of}
 use Rattle.ice_dir.specs.Changes.{HasRoom, dir_blocks}
 use Rattle.ice_dir.specs.Faults.{IsAddFault}
-use Rattle.ice_dir.specs.Rows.{IsDirectory}
 use Rattle.ice_reads.specs.Tables.{Map}
 use Rattle.ice_steps.proofs.Keeps.{only-one, only-two}
 use Rattle.ice_steps.proofs.SubLaws.{counted-other}
 use Rattle.ice_tree.specs.declared.ends.Spot.{Spot}
-use Rattle.ice_tree.specs.Broken.{IsBroken, IsBrokenBy, FullDirectory}
+use Rattle.ice_tree.specs.Broken.{IsBrokenBy}
 use Rattle.ice_tree.specs.Grounds.{NewFits}
 use Rattle.ice_tree.proofs.MakeLaws.{NodePut}
 use Rattle.ice_tree.proofs.MapDamage.{map-dir, dir-few, misleads-same, bad-pointer, full-directory}

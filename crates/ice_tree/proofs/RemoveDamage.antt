@@ -1,29 +1,15 @@
 -- What a removal that fails says of the lot.
-use Rattle.std.proofs.Common.{◌≡◌, ◌<◌, ℕ, false, List, ◌≢◌, refl, sym, ap, ◌∙◌, subst, arith, inl, inr, Err, IsErrOf}
+use Rattle.std.proofs.Common.{◌≡◌, ◌<◌, ℕ, List, ◌≢◌, sym, ap, ◌∙◌, subst, arith, inl}
 use Rattle.ice_base.specs.Fields.{long_at}
 use Rattle.ice_base.specs.Inodes.{inode_address}
 use Rattle.ice_base.specs.Lots.{LotView, sub_address}
 use Rattle.ice_base.specs.Pools.{GaveInode}
-use Rattle.ice_base.specs.Used.{counted}
-use Rattle.ice_base.specs.declared.fault.OpFault.{OpFault}
-use Rattle.ice_base.specs.declared.fault.OpFault.TheVariants.{Disk, Damaged}
-use Rattle.ice_base.specs.declared.fault.Rule.{Rule}
-use Rattle.ice_base.specs.declared.fault.Rule.TheVariants.{Counts, Kind, Pointer, Bitmap}
 use Rattle.ice_base.proofs.FieldLaws.{long-beside}
-use Rattle.ice_map.specs.declared.codec.Inode.{Inode}
 use Rattle.ice_map.specs.Inodes.{inode_of}
-use Rattle.ice_map.specs.Maps.{Misleads, UsesUnmarked}
 use Rattle.ice_map.proofs.GrowLaws.{inode_not_sub}
-use Rattle.ice_file.specs.Own.{blocks_for}
-use Rattle.ice_file.specs.Files.{ReachesTo, IsCutToFault}
-use Rattle.ice_file.specs.Writes.{uses_of}
+use Rattle.ice_file.specs.Files.{ReachesTo}
 use Rattle.ice_dir.specs.Changes.{EntryGone}
-use Rattle.tree_spec.specs.declared.reply.Refusal.{Refusal}
-use Rattle.tree_spec.specs.declared.reply.Refusal.TheVariants as code
-use Rattle.ice_tree.specs.Broken.{IsBrokenFrom, IsFaultBy}
-use Rattle.ice_tree.specs.Outcomes.{rule_number}
 use Rattle.ice_tree.specs.Grounds.{GoneIs}
-use Rattle.ice_tree.specs.Places.{IsReached}
 use Rattle.ice_tree.specs.declared.removes.Gone.{Gone}
 
 -- what was found holds after a look too

@@ -1,12 +1,12 @@
 -- What a removal does to the blocks of a lot.
-use Rattle.std.proofs.Common.{◌≡◌, ◌≢◌, ◌≤◌, ◌<◌, ◌+◌, ◌-◌, ◌*◌, ◌^◌, ℕ, Bool, true, false, cond, T, List, [], ◌∷◌, ◌++◌, length, take, drop, Option, None, Some, Result, Ok, Err, MatchResult, if◌then◌else◌, refl, sym, ap, ◌∙◌, subst, arith}
-use Rattle.std.specs.Prelude.{is_some, unwrap_or, IsSome, IsNone, IfErr}
+use Rattle.std.proofs.Common.{◌≡◌, ◌≢◌, ◌≤◌, ◌<◌, ◌+◌, ◌-◌, ℕ, true, false, T, List, [], ◌∷◌, ◌++◌, length, take, Option, None, Some, Result, Ok, Err, if◌then◌else◌, refl, sym, ap, ◌∙◌, subst, arith}
+use Rattle.std.specs.Prelude.{is_some, unwrap_or, IfErr}
 use Rattle.std.specs.FinMap.{find}
 use Rattle.ice_base.specs.Inodes.{inode_address}
 use Rattle.ice_base.specs.Lots.{LotView, sub_address}
 use Rattle.ice_base.specs.Faults.{IsGiveFault}
 use Rattle.ice_base.specs.Pools.{GaveInode}
-use Rattle.ice_base.specs.Used.{bitmap_of, counted, used_inode, used}
+use Rattle.ice_base.specs.Used.{bitmap_of, counted, used}
 use Rattle.ice_base.specs.declared.fault.OpFault.{OpFault}
 use Rattle.ice_base.specs.declared.fault.OpFault.TheVariants.{Disk, Damaged}
 use Rattle.ice_base.specs.declared.fault.Rule.TheVariants.{Counts, Kind, Pointer, Bitmap}
@@ -17,8 +17,8 @@ use Rattle.ice_file.specs.Files.{FileSet, ReachesTo, IsCutToFault}
 use Rattle.ice_file.specs.Writes.{uses_of}
 use Rattle.ice_dir.specs.Changes.{DirSet, dir_blocks}
 use Rattle.ice_dir.specs.Faults.{IsTakeFault}
-use Rattle.ice_dir.specs.Rows.{Row, rows_of, look_up, without, IsDirectory}
-use Rattle.tree_spec.specs.Trees.{Tree, File, Dir, Entries, Nil, Entry, rows, by_bytes, Found, walk, parent, last_name, at, without_entry}
+use Rattle.ice_dir.specs.Rows.{rows_of, look_up, without, IsDirectory}
+use Rattle.tree_spec.specs.Trees.{Tree, File, Dir, Nil, Entry, by_bytes, Found, walk, parent, last_name}
 use Rattle.tree_spec.specs.Costs.{Form, form_one}
 use Rattle.tree_spec.specs.Operations.{Remove}
 use Rattle.tree_spec.specs.Answers.{next, refusal, is_full_found, bytes_of, bytes_found, is_root}
@@ -26,7 +26,7 @@ use Rattle.tree_spec.specs.Why.{Why}
 use Rattle.tree_spec.specs.Why as why
 use Rattle.tree_spec.proofs.Accepted.{HasEntry, entry_walk, Removes, accepted-remove}
 use Rattle.tree_spec.proofs.Trees.{parent-last}
-use Rattle.ice_reads.specs.Tables.{Map, own_in, rows_in, inode_named}
+use Rattle.ice_reads.specs.Tables.{Map, own_in, inode_named}
 use Rattle.ice_reads.specs.Reads.{Reads, used_blocks, used_inodes, inode_on}
 use Rattle.ice_reads.specs.Recovers.{MapRecovers}
 use Rattle.ice_reads.proofs.LookUps.{look_up-find}
@@ -39,7 +39,7 @@ use Rattle.ice_steps.proofs.Losses.{loses_row}
 use Rattle.ice_steps.proofs.Needs.{reaches_to}
 use Rattle.ice_steps.proofs.Recovers.{beside_recovers, recovers_beside}
 use Rattle.ice_steps.proofs.Takes.{gave_inode}
-use Rattle.ice_steps.proofs.Walks.{FileAt, file_at, dir_at, loose_made, loose_used, loose_counted, walk_made, walk_dir, walk_part}
+use Rattle.ice_steps.proofs.Walks.{file_at, loose_made, loose_used, loose_counted, walk_made, walk_dir, walk_part}
 use Rattle.ice_tree.specs.declared.removes.Gone.{Gone}
 use Rattle.ice_tree.specs.Moves.{gone_refusal, IsGone, Loses, StandsLoose}
 use Rattle.ice_tree.specs.Stages.{or_else, paths_refusal, walk_refusal, quota_refusal}

@@ -1,17 +1,15 @@
 -- One stage of refusals after another.
-use Rattle.std.proofs.Common.{◌≡◌, Bool, true, false, Option, None, Some, Result, MatchResult, refl, ap, ◌∙◌, sym, subst, ℕ, nat_lt, nat_eq, if◌then◌else◌}
+use Rattle.std.proofs.Common.{◌≡◌, Option, None, Result, MatchResult, ap, ◌∙◌, sym, subst, ℕ}
 use Rattle.tree_spec.specs.Why.{Why}
-use Rattle.tree_spec.specs.Why as why
 use Rattle.tree_spec.specs.Trees.{Tree}
-use Rattle.tree_spec.specs.Costs.{Form, nodes, blocks, node_quota, block_quota}
-use Rattle.tree_spec.specs.Answers.{most_done}
+use Rattle.tree_spec.specs.Costs.{Form}
 use Rattle.tree_spec.specs.Replies.{Refused, Because, Fault, Memory, refused_of}
 use Rattle.tree_spec.specs.declared.reply.Refusal.{Refusal}
 use Rattle.ice_base.specs.Lots.{LotView}
 use Rattle.ice_reads.specs.Tables.{Map}
 use Rattle.ice_reads.specs.Recovers.{MapRecovers}
 use Rattle.ice_tree.specs.Outcomes.{RefusedAs}
-use Rattle.ice_tree.specs.Stages.{or_else, quota_refusal, nodes_refusal, blocks_refusal, done_refusal}
+use Rattle.ice_tree.specs.Stages.{or_else}
 use Rattle.ice_tree.proofs.LookLaws.{later_stage}
 
 -- a stage that refuses decides

@@ -1,26 +1,20 @@
 -- What a take of an entry that fails says of the lot.
-use Rattle.std.proofs.Common.{◌≡◌, ◌<◌, ◌+◌, ◌-◌, ◌*◌, ℕ, false, cond, List, Result, Ok, Err, refl, sym, ap, subst, arith, inl, inr}
-use Rattle.std.specs.Prelude.{◌==◌, IfErr}
-use Rattle.ice_base.specs.Fields.{SameBeside, long_at}
+use Rattle.std.proofs.Common.{◌≡◌, ◌<◌, ◌+◌, ◌-◌, ℕ, false, List, refl, sym, subst, arith, inl, inr}
 use Rattle.ice_base.specs.Lots.{LotView}
-use Rattle.ice_base.specs.Used.{counted, count_place}
+use Rattle.ice_base.specs.Used.{counted}
 use Rattle.ice_base.specs.declared.fault.OpFault.{OpFault}
-use Rattle.ice_base.specs.declared.fault.OpFault.TheVariants.{Disk, Damaged, NoSpace, NoNodes}
+use Rattle.ice_base.specs.declared.fault.OpFault.TheVariants.{Disk, Damaged}
 use Rattle.ice_base.specs.declared.fault.Rule.{Rule}
 use Rattle.ice_base.specs.declared.fault.Rule.TheVariants.{Counts, Kind, Pointer, Bitmap}
-use Rattle.ice_base.proofs.FieldLaws.{long-beside}
-use Rattle.ice_map.specs.declared.codec.Inode.{Inode}
 use Rattle.ice_map.specs.Inodes.{inode_of}
 use Rattle.ice_map.specs.Maps.{Misleads, UsesUnmarked}
-use Rattle.ice_file.specs.Own.{map_length, blocks_for}
 use Rattle.ice_file.specs.Writes.{uses_of}
-use Rattle.ice_file.proofs.OwnLaws.{length-uses}
 use Rattle.ice_dir.specs.Changes.{dir_blocks}
 use Rattle.ice_dir.specs.Faults.{IsTakeFault}
 use Rattle.ice_dir.specs.Rows.{IsDirectory}
 use Rattle.ice_tree.specs.Broken.{IsBrokenIn, IsFaultBy}
 use Rattle.ice_tree.proofs.MapDamage.{map-dir, few-counted, free-block, bad-pointer}
-use Rattle.ice_tree.specs.Places.{IsNode, IsReached}
+use Rattle.ice_tree.specs.Places.{IsReached}
 
 -- an entry was to be taken from a directory
 pub take-blamed : (entry : ℕ) (lot : LotView) (m0 m1 : ℕ → List ℕ) (number : ℕ) → IsReached entry lot m0 number → IsDirectory lot (inode_of m0 number) → (e : OpFault) → IsTakeFault e

@@ -1,14 +1,14 @@
 -- What the changing commands find before they change anything.
-use Rattle.std.specs.Prelude.{◌≡◌, ◌≤◌, ◌<◌, ◌+◌, ◌*◌, ℕ, Bool, true, false, List, [], ◌∷◌, length, replicate, nat_lt, nat_eq, Option, Some, None, if◌then◌else◌}
+use Rattle.std.specs.Prelude.{◌≡◌, ◌≤◌, ◌<◌, ◌+◌, ◌*◌, ℕ, Bool, true, false, List, [], ◌∷◌, length, replicate, nat_lt, Option, Some, None, if◌then◌else◌}
 use Rattle.ice_base.specs.Lots.{LotView}
 use Rattle.tree_spec.specs.Why.{Why}
 use Rattle.tree_spec.specs.Why as why
 use Rattle.tree_spec.specs.Trees.{Tree, Entries, Found, walk, parent, last_name, parent_walk, rows}
 use Rattle.tree_spec.specs.Trees as tree
-use Rattle.tree_spec.specs.Costs.{Form, nodes, blocks, node_quota, block_quota}
+use Rattle.tree_spec.specs.Costs.{Form, nodes, blocks}
 use Rattle.tree_spec.specs.Names.{is_name}
 use Rattle.tree_spec.specs.Operations.{Operation, Mkdir, Make}
-use Rattle.tree_spec.specs.Answers.{most_done, is_root, is_found, bytes_found, refusal}
+use Rattle.tree_spec.specs.Answers.{is_root, is_found, bytes_found, refusal}
 use Rattle.ice_file.specs.Files.{longest_file}
 use Rattle.ice_map.specs.declared.codec.Inode.{Inode}
 use Rattle.ice_reads.specs.Tables.{Map, Table, own_in}

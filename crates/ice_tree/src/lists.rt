@@ -25,9 +25,9 @@ ghost use Rattle.ice_tree.specs.Outcomes.{AsModel, ShownBy, IsTreeRefusal, IsLoo
 ghost use Rattle.ice_tree.specs.Places.{IsReached};
 ghost use Rattle.ice_tree.specs.Stages.{paths_refusal};
 
+use crate::blank::blank_name;
 use crate::fault::refusal_of;
 use crate::looks::dir_at;
-use crate::blank::blank_name;
 use crate::paths::check_path;
 use crate::place::{Place, enter};
 use ice_base::{Disk, Form, Lot, OpFault, View};

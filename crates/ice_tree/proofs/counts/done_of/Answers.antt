@@ -1,4 +1,4 @@
-use Rattle.std.proofs.Common.{◌≡◌, ap, arith}
+use Rattle.std.proofs.Common.{ap, arith}
 use Rattle.ice_reads.proofs.Recovering.{sub_small}
 use Rattle.ice_tree.proofs.counts.done_of.Goals as goal
 

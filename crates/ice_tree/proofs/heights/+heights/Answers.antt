@@ -1,8 +1,7 @@
-use Rattle.std.proofs.Common.{◌≡◌, ◌∙◌, ◌+◌, ◌<◌, ◌≤◌, ◌⊎◌, ℕ, List, length, rules, Err, ap, sym, refl, subst, arith, inl, inr}
+use Rattle.std.proofs.Common.{◌≡◌, ◌∙◌, ◌+◌, ◌<◌, ◌≤◌, ◌⊎◌, length, rules, sym, refl, subst, arith, inl, inr}
 use Rattle.std.proofs.lemmas.Result.{err_from_is_err_and}
-use Rattle.ice_base.specs.Lots.{LotView}
 use Rattle.tree_spec.specs.Costs.{form_of}
-use Rattle.tree_spec.specs.Trees.{Tree, Entries, Dir, rows}
+use Rattle.tree_spec.specs.Trees.{Dir, rows}
 use Rattle.ice_reads.specs.Tables.{Map, own_in}
 use Rattle.ice_reads.specs.Reads.{Reads}
 use Rattle.ice_base.specs.declared.fault.OpFault.TheVariants.{Damaged}

@@ -1,13 +1,12 @@
-use Rattle.std.proofs.Common.{IfOk, IfErr, Err, ℕ, List, ◌+◌, ◌≡◌, ap, sym, ◌∙◌, subst}
+use Rattle.std.proofs.Common.{IfOk, IfErr, Err, ℕ, List, ◌+◌, ◌≡◌, ap, sym, subst}
 use Rattle.std.proofs.lemmas.Result.{err_from_is_err_and, IfOk-weaker}
 use Rattle.tree_spec.specs.Costs.{form_of}
-use Rattle.tree_spec.specs.Trees.{Tree, Found}
+use Rattle.tree_spec.specs.Trees.{Found}
 use Rattle.ice_reads.specs.Tables.{own_in}
 use Rattle.ice_reads.specs.Reads.{Reads}
 use Rattle.ice_tree.specs.Moves.{IsChild}
 use Rattle.ice_tree.specs.Broken.{BadEntry, IsBrokenBy}
 use Rattle.ice_tree.specs.Places.{place_by, Reached, PlaceIs, PlaceReached}
-use Rattle.ice_tree.specs.declared.place.Place.{Place}
 use Rattle.ice_tree.proofs.BrokenLaws.{entry-broken, row-broken, row-reached, entry-is}
 use Rattle.ice_tree.proofs.HeightLaws.{entry-fails, entry-child, entry-row}
 use Rattle.ice_tree.proofs.heights.entry_place.Goals as goal

@@ -1,6 +1,5 @@
-use Rattle.std.proofs.Common.{◌≡◌, ◌+◌, ◌∙◌, length, drop, sym, ap, subst, [], ◌∷◌, arith}
+use Rattle.std.proofs.Common.{◌+◌, ◌∙◌, length, drop, sym, ap, subst, [], ◌∷◌, arith}
 use Rattle.ice_base.proofs.LotLaws.{sited-few}
-use Rattle.ice_base.specs.declared.fault.Rule.{Rule}
 use Rattle.ice_reads.specs.Tables.{Map}
 use Rattle.ice_tree.specs.Broken.{IsBroken}
 use Rattle.ice_tree.specs.Grounds.{HasFree}
@@ -11,7 +10,7 @@ use Rattle.tree_spec.specs.Answers.{next}
 use Rattle.tree_spec.specs.Replies.{refused_of}
 use Rattle.ice_reads.specs.Tables.{own_in}
 use Rattle.ice_tree.specs.Changes.{new_operation, new_refusal}
-use Rattle.ice_tree.specs.Outcomes.{RefusedAs, rule_number}
+use Rattle.ice_tree.specs.Outcomes.{RefusedAs}
 use Rattle.ice_tree.specs.Stages.{or_else, paths_refusal, quota_refusal}
 use Rattle.ice_tree.proofs.SpotLaws.{new-stages, new-needs, root-is}
 use Rattle.ice_tree.proofs.StageLaws.{refused-now, refused-later, none-both, recovers-same}
@@ -81,8 +80,14 @@ returns-in-Ok-check_quota-clause-ready g c = λ s.
     record {
       spot_is = spot;
       node = omega (arith, enough.nodes);
-      blocks = omega (arith, enough.blocks, c.dir_cost.ensures, c.dir_cost-2.ensures,
-      dir-cost f one g.F.Form.ENTRY g.F.Form.is_one.1 (c.in-Ok-new_spot.spot.entries + 1) (omega (arith, few, small.count)), dir-cost f one g.F.Form.ENTRY g.F.Form.is_one.1 c.in-Ok-new_spot.spot.entries (omega (arith, few, small.count)));
+      blocks = omega (
+        arith,
+        enough.blocks,
+        c.dir_cost.ensures,
+        c.dir_cost-2.ensures,
+        dir-cost f one g.F.Form.ENTRY g.F.Form.is_one.1 (c.in-Ok-new_spot.spot.entries + 1) (omega (arith, few, small.count)),
+        dir-cost f one g.F.Form.ENTRY g.F.Form.is_one.1 c.in-Ok-new_spot.spot.entries (omega (arith, few, small.count)),
+      );
       done = enough.done;
     }
 

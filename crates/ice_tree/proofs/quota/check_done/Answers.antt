@@ -1,4 +1,4 @@
-use Rattle.std.proofs.Common.{◌≡◌, Err, ap}
+use Rattle.std.proofs.Common.{Err, ap}
 use Rattle.ice_tree.specs.Broken.{IsBroken}
 use Rattle.ice_tree.proofs.FaultLaws.{fault-names, sub-fault}
 use Rattle.ice_tree.proofs.quota.check_done.Goals as goal

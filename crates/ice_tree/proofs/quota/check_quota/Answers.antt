@@ -1,11 +1,9 @@
 -- The stages of a quota, one after another.
-use Rattle.std.proofs.Common.{sym, subst, Option, length}
+use Rattle.std.proofs.Common.{length}
 use Rattle.tree_spec.specs.Costs.{form_of}
 use Rattle.tree_spec.specs.Replies.{refused_of}
-use Rattle.tree_spec.specs.Why.{Why}
 use Rattle.ice_tree.specs.Stages.{nodes_refusal, blocks_refusal}
-use Rattle.ice_tree.specs.Outcomes.{RefusedAs}
-use Rattle.ice_tree.proofs.StageLaws.{Finds, refused-now, refused-later, finds-later, recovers-same}
+use Rattle.ice_tree.proofs.StageLaws.{refused-now, refused-later, finds-later, recovers-same}
 use Rattle.ice_tree.proofs.quota.check_quota.Goals as goal
 
 pub returns-in-Err-clause-quota : goal.returns-in-Err-clause-quota

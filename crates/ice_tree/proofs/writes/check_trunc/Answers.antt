@@ -1,13 +1,12 @@
-use Rattle.std.proofs.Common.{◌≡◌, ◌∙◌, drop, length, sym, subst}
+use Rattle.std.proofs.Common.{◌∙◌, drop, length, sym, subst}
 use Rattle.tree_spec.specs.Costs.{form_of}
 use Rattle.tree_spec.specs.Answers.{next}
 use Rattle.tree_spec.specs.Operations.{Trunc}
 use Rattle.tree_spec.specs.Replies.{refused_of}
 use Rattle.ice_tree.specs.Changes.{reach_refusal}
-use Rattle.ice_base.specs.declared.fault.Rule.{Rule}
 use Rattle.ice_reads.specs.Tables.{Map}
 use Rattle.ice_tree.specs.Broken.{IsBroken}
-use Rattle.ice_tree.specs.Outcomes.{RefusedAs, rule_number}
+use Rattle.ice_tree.specs.Outcomes.{RefusedAs}
 use Rattle.ice_tree.proofs.FaultLaws.{broke-too}
 use Rattle.ice_tree.specs.Stages.{quota_refusal}
 use Rattle.ice_tree.proofs.FileLaws.{trunc-stages, reach-none, trunc-needs}

@@ -1,4 +1,4 @@
-use Rattle.std.proofs.Common.{◌+◌, ap, Err, length, refl, inr, arith}
+use Rattle.std.proofs.Common.{ap, Err, length, refl, inr, arith}
 use Rattle.std.proofs.lemmas.Result.{err_from_is_err_and}
 use Rattle.ice_base.proofs.LotLaws.{sited-few}
 use Rattle.tree_spec.specs.Costs.{form_of}
