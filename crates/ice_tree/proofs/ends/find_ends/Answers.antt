@@ -85,3 +85,8 @@ returns-clause-named g c = λ s below.
     subst (λ (name : List ℕ). PlaceNamed g.F.Form.ENTRY (g.V.View.map c.args.view.now c.args.disk.now c.args.lot.now) c.in_ok-parent.parent name c.in_ok-end.end)
     (last-is c.args.path.now c.args.depth (c.len-last.result - 1) c.name-name.result (omega arith) (omega arith) (c.name-name.ensures []))
     (subst (λ (m : Map). PlaceNamed g.F.Form.ENTRY m c.in_ok-parent.parent c.name-name.result c.in_ok-end.end) looked.map (c.in_ok-end.ensures.named (looked.shows s)))
+
+pub returns-in_err-root-clause-sound : goal.returns-in_err-root-clause-sound
+returns-in_err-root-clause-sound g c = λ mode k t s r.
+    let p = err_from_is_err_and c.from_residual.result c.from_residual.ensures.1 in
+    rw (p.1, p.2) (c.in_err-root.ensures.sound mode k t s r)

@@ -14,6 +14,7 @@ use Rattle.ice_tree.specs.Outcomes.{RefusedAs}
 use Rattle.ice_tree.specs.Stages.{or_else, paths_refusal, quota_refusal}
 use Rattle.ice_tree.proofs.SpotLaws.{new-stages, new-needs, root-is}
 use Rattle.ice_tree.proofs.StageLaws.{refused-now, refused-later, none-both, recovers-same}
+use Rattle.ice_tree.proofs.LookLaws.{fault_as}
 use Rattle.ice_tree.proofs.makes.check_new.Goals as goal
 
 pub returns-in-Err-clause-spot : goal.returns-in-Err-clause-spot
@@ -95,3 +96,6 @@ pub returns-in-Err-check_quota-clause-damaged : goal.returns-in-Err-check_quota-
 returns-in-Err-check_quota-clause-damaged g c = λ n e s.
     let looked = c.find_ends.ensures.looked in
     broke-too _ _ (λ r h. subst (λ (m : Map). IsBroken g.F.Form.ENTRY c.args.lot.now m r) looked.map h) c.in-Err-check_quota.refusal (λ n e. c.in-Err-check_quota.ensures.damaged n e (looked.shows s)) n e
+
+pub returns-in-Err-find_ends-clause-spot : goal.returns-in-Err-find_ends-clause-spot
+returns-in-Err-find_ends-clause-spot g c = λ dir mode k t s r. fault_as _ c.in-Err-find_ends.fault _ c.refusal_of.ensures (c.in-Err-find_ends.ensures.sound mode k t s r)

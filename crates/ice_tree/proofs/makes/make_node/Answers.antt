@@ -1,4 +1,4 @@
-use Rattle.std.proofs.Common.{drop, length}
+use Rattle.std.proofs.Common.{drop, length, sym, subst}
 use Rattle.tree_spec.specs.Costs.{form_of}
 use Rattle.tree_spec.specs.Answers.{answer}
 use Rattle.tree_spec.specs.Replies.{refused_of}
@@ -7,6 +7,10 @@ use Rattle.ice_tree.proofs.LookLaws.{fault_model}
 use Rattle.ice_tree.proofs.MakeLaws.{new-changes}
 use Rattle.ice_tree.proofs.ReplyLaws.{fault-set, refused-model, accepted-model, accepted-recovers}
 use Rattle.ice_tree.proofs.SpotLaws.{takes-after}
+use Rattle.ice_reads.specs.Tables.{Map}
+use Rattle.ice_tree.specs.Broken.{IsBroken, IsBrokenBy}
+use Rattle.ice_tree.specs.Grounds.{NewFits}
+use Rattle.ice_tree.proofs.FaultLaws.{fault-names}
 use Rattle.ice_tree.proofs.makes.make_node.Goals as goal
 
 pub returns-in-Err-clause-answers : goal.returns-in-Err-clause-answers
@@ -40,3 +44,12 @@ returns-in-Err-put_new-clause-answers g c = λ mode k t s r.
 
 pub returns-in-Err-put_new-clause-set : goal.returns-in-Err-put_new-clause-set
 returns-in-Err-put_new-clause-set g c = fault-set c.refusal_of.result c.in-Err-put_new.fault c.refusal_of.ensures
+
+pub returns-in-Err-put_new-clause-damaged : goal.returns-in-Err-put_new-clause-damaged
+returns-in-Err-put_new-clause-damaged g c = λ n named s.
+    let lot = c.args.lot.now in
+    let m0 = g.K.View.map c.args.keep.now c.args.disk.now lot in
+    let looked = c.check_new.ensures.looked in
+    let fits = subst (λ (m : Map). NewFits g.F.Form.ENTRY lot m c.in-Ok.spot) (sym looked.map) (c.in-Ok.ensures.ready s) in
+    fault-names (IsBroken g.F.Form.ENTRY lot m0) c.in-Err-put_new.fault c.refusal_of.result c.refusal_of.ensures
+    (subst (λ (m : Map). IsBrokenBy g.F.Form.ENTRY lot m c.in-Err-put_new.fault) looked.map (c.in-Err-put_new.ensures.broken (looked.shows s) fits)) n named

@@ -8,6 +8,9 @@ use Rattle.ice_tree.specs.Outcomes.{RefusedAs}
 use Rattle.ice_tree.specs.Stages.{or_else, quota_refusal}
 use Rattle.ice_tree.proofs.FileLaws.{big, is-big, not-big, write-stages, reach-none, write-needs}
 use Rattle.ice_tree.proofs.StageLaws.{refused-now, refused-later, none-both, recovers-same}
+use Rattle.ice_reads.specs.Tables.{Map}
+use Rattle.ice_tree.specs.Broken.{IsBroken}
+use Rattle.ice_tree.proofs.FaultLaws.{broke-too}
 use Rattle.ice_tree.proofs.writes.check_write.Goals as goal
 
 pub returns-in-Err-clause-file : goal.returns-in-Err-clause-file
@@ -56,3 +59,8 @@ returns-in-Err-check_quota-clause-file g c = λ mode k t s r.
     subst (RefusedAs x) (sym (write-stages t k n f p c.args.at c.args.bytes.now))
     (refused-later x (reach_refusal f p c.args.at t) (or_else (big f c.args.at c.args.bytes.now) (quota_refusal n f k (next (Write p c.args.at c.args.bytes.now) t))) (reach-none f p c.args.at t names file.bytes file.there file.reaches)
     (refused-later x (big f c.args.at c.args.bytes.now) (quota_refusal n f k (next (Write p c.args.at c.args.bytes.now) t)) (not-big f c.args.at (c.args.at + length c.args.bytes.now) 274432 c.args.bytes.now (ap form_of g.F.Form.is_one.0) refl refl c.if-end-gt-LONGEST_FILE.false) (c.in-Err-check_quota.ensures.quota mode k t (next (Write p c.args.at c.args.bytes.now) t) (c.reach_file.ensures.looked.shows s) later needs)))
+
+pub returns-in-Err-check_quota-clause-damaged : goal.returns-in-Err-check_quota-clause-damaged
+returns-in-Err-check_quota-clause-damaged g c = λ n e s.
+    let looked = c.reach_file.ensures.looked in
+    broke-too _ _ (λ r h. subst (λ (m : Map). IsBroken g.F.Form.ENTRY c.args.lot.now m r) looked.map h) c.in-Err-check_quota.refusal (λ n e. c.in-Err-check_quota.ensures.damaged n e (looked.shows s)) n e

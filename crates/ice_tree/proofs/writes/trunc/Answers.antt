@@ -1,4 +1,4 @@
-use Rattle.std.proofs.Common.{drop, length, refl}
+use Rattle.std.proofs.Common.{drop, length, refl, sym, subst, inl}
 use Rattle.tree_spec.specs.Costs.{form_of}
 use Rattle.tree_spec.specs.Answers.{answer}
 use Rattle.tree_spec.specs.Operations.{Trunc}
@@ -6,6 +6,10 @@ use Rattle.tree_spec.specs.Replies.{refused_of}
 use Rattle.ice_tree.proofs.FileLaws.{takes_at-after}
 use Rattle.ice_tree.proofs.LookLaws.{fault_model}
 use Rattle.ice_tree.proofs.ReplyLaws.{fault-set, refused-model, accepted-model, accepted-recovers}
+use Rattle.ice_reads.specs.Tables.{Map}
+use Rattle.ice_tree.specs.Broken.{IsBrokenIn, IsFaultBy}
+use Rattle.ice_tree.specs.Grounds.{FileIs, CanCount}
+use Rattle.ice_tree.proofs.FaultLaws.{broke-too, fault-names}
 use Rattle.ice_tree.proofs.writes.trunc.Goals as goal
 
 pub returns-in-Err-clause-answers : goal.returns-in-Err-clause-answers
@@ -38,3 +42,16 @@ returns-in-Err-put_cut-clause-answers g c = λ mode k t s r.
 
 pub returns-in-Err-put_cut-clause-set : goal.returns-in-Err-put_cut-clause-set
 returns-in-Err-put_cut-clause-set g c = fault-set c.refusal_of.result c.in-Err-put_cut.fault c.refusal_of.ensures
+
+pub returns-in-Err-clause-damaged : goal.returns-in-Err-clause-damaged
+returns-in-Err-clause-damaged g c = λ n named s. broke-too _ _ (λ r h. inl h) c.in-Err.refusal (λ i is. c.in-Err.ensures.damaged i is s) n named
+
+pub returns-in-Err-put_cut-clause-damaged : goal.returns-in-Err-put_cut-clause-damaged
+returns-in-Err-put_cut-clause-damaged g c = λ n named s.
+    let lot = c.args.lot.now in
+    let m0 = g.K.View.map c.args.keep.now c.args.disk.now lot in
+    let m2 = g.K.View.map c.put_cut.new.keep c.put_cut.new.disk lot in
+    let looked = c.check_trunc.ensures.looked in
+    let broken = c.in-Err-put_cut.ensures.broken (looked.shows s) (subst (λ (m : Map). FileIs g.F.Form.ENTRY lot m c.args.len c.in-Ok.number) (sym looked.map) (c.in-Ok.ensures.ready s)) (subst (λ (m : Map). CanCount m) (sym looked.map) (c.in-Ok.ensures.room s)) in
+    fault-names (IsBrokenIn g.F.Form.ENTRY lot m0 m2) c.in-Err-put_cut.fault c.refusal_of.result c.refusal_of.ensures
+    (subst (λ (m : Map). IsFaultBy (IsBrokenIn g.F.Form.ENTRY lot m m2) c.in-Err-put_cut.fault) looked.map broken) n named
