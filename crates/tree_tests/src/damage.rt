@@ -117,7 +117,13 @@ fn a_damaged_sub_super_block_stops_each_change(rt: HostRuntime) -> Result<(), Fa
     names(&rt, alloc, &base, &[(SUB, 4, 9)], 2, &changes())?;
     names(&rt, alloc, &base, &[(SUB, 8, 1)], 3, &changes())?;
     names(&rt, alloc, &base, &[(SUB, 9, 7)], 4, &changes())?;
-    names(&rt, alloc, &base, &[(SUB, 23, 0x80)], 5, &changes())?;
+    names(&rt, alloc, &base, &[(SUB, 23, 0x80)], 5, &changes())
+}
+
+#[test]
+fn a_wrong_count_stops_what_needs_it(rt: HostRuntime) -> Result<(), Fail> {
+    let alloc = rt.alloc();
+    let base = sound(&rt, alloc)?;
     let none = [(SUB, 24, 0)];
     names(
         &rt,
