@@ -1,11 +1,11 @@
 //! The commands of a tree beside a plain slow tree: 6,000 generated commands, boundary sizes among them.
 ghost use Rattle.std.specs.Prelude.{◌≡◌, ◌≤◌, ◌<◌, ◌+◌, true, length};
 
-use crate::cube::{BLOCKS, fresh, one_group, path, reply};
+use crate::cube::{BLOCKS, fresh, one_group, reply};
 use disk_mem::MemHost;
 use ice_base::Disk;
 use ice_keep::ThroughKeep;
-use plain_tree::{PlainReply, PlainTree, answer, form_one};
+use plain_tree::{PlainReply, PlainTree, answer, form_one, makes, path, writes};
 use std::alloc::Global;
 use std::process::Abort;
 use std::test::Fail;
@@ -146,17 +146,9 @@ fn number(reply: &Reply) -> usize {
 fn fill_up(i: u32) -> Command<'static> {
     let (tens, ones) = (b'A' + (i / 8 % 8) as u8, b'a' + (i % 8) as u8);
     match i {
-        0 => Command::Make {
-            path: path(b"/a/z"),
-        },
-        1..=14 => Command::Write {
-            path: path(b"/a/z"),
-            at: 16384 * (i - 1),
-            bytes: &BYTES,
-        },
-        _ => Command::Make {
-            path: path(&[b'/', b'a', b'/', tens, ones]),
-        },
+        0 => makes(b"/a/z"),
+        1..=14 => writes(b"/a/z", 16384 * (i - 1), &BYTES),
+        _ => makes(&[b'/', b'a', b'/', tens, ones]),
     }
 }
 

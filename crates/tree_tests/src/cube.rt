@@ -8,7 +8,7 @@ use ice_pool::BitPool;
 use ice_tree::{list, make, mkdir, read, remove, rename, stat, trunc, write};
 use std::alloc::{AllocError, Global};
 use std::process::Abort;
-use tree_spec::{Command, Name, Path, Refusal, Reply, Room, Value};
+use tree_spec::{Command, Refusal, Reply, Room, Value};
 
 /// The blocks of an image of one slot and two groups.
 pub(crate) const BLOCKS: u32 = 800;
@@ -61,20 +61,6 @@ pub(crate) fn fresh(rt: &impl Abort, alloc: Global) -> Result<MemHost, AllocErro
 fn set(rt: &impl Abort, host: &mut MemHost, at: u32, block: &Block) {
     assert!(rt; at < host.blocks() && host.calls() == 0);
     host.set_block(at, block);
-}
-
-/// The path of a text, whose empty parts stand for no names.
-pub(crate) fn path(text: &[u8]) -> Path {
-    let mut path = Path::root();
-    for part in text.split(|b| *b == b'/') {
-        match Name::new(part) {
-            Some(name) => {
-                path.push(&name);
-            }
-            None => {}
-        }
-    }
-    path
 }
 
 fn plain(answer: Result<(), Refusal>) -> Reply {

@@ -1,11 +1,10 @@
 //! Which rule each command names in a damaged lot.
 use crate::cube::{BLOCKS, fresh, one_group, reply};
-use crate::rows::{
-    PLAIN, cuts, lists, makes, mkdirs, reads, removes, renames, replies, stats, writes,
-};
+use crate::rows::{PLAIN, replies};
 use disk_mem::MemHost;
 use ice_base::Disk;
 use ice_keep::ThroughKeep;
+use plain_tree::{cuts, lists, makes, mkdirs, reads, removes, renames, stats, writes};
 use std::alloc::Global;
 use std::process::Abort;
 use std::test::Fail;

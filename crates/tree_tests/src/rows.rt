@@ -2,65 +2,16 @@
 ghost use Rattle.std.specs.Prelude.{◌≡◌, ◌≤◌, true, length};
 ghost use Rattle.ice_base.specs.Lots.{is_sited};
 
-use crate::cube::{BLOCKS, fresh, one_group, path, reply, two_groups};
+use crate::cube::{BLOCKS, fresh, one_group, reply, two_groups};
 use disk_mem::{MemHost, MuteHost};
 use ice_base::{Disk, Lot, read_u32, read_u64};
 use ice_keep::{ListKeep, ThroughKeep};
+use plain_tree::{cuts, lists, makes, mkdirs, path, reads, removes, renames, stats, writes};
 use std::process::Abort;
 use std::test::Fail;
 use tree_spec::{Command, Entry, Refusal, Reply, Room, Value};
 
 const PIECE: [u8; 16384] = [7; 16384];
-
-pub(crate) fn makes(text: &[u8]) -> Command<'static> {
-    Command::Make { path: path(text) }
-}
-
-pub(crate) fn mkdirs(text: &[u8]) -> Command<'static> {
-    Command::Mkdir { path: path(text) }
-}
-
-pub(crate) fn removes(text: &[u8]) -> Command<'static> {
-    Command::Remove { path: path(text) }
-}
-
-pub(crate) fn stats(text: &[u8]) -> Command<'static> {
-    Command::Stat { path: path(text) }
-}
-
-pub(crate) fn lists(text: &[u8]) -> Command<'static> {
-    Command::List { path: path(text) }
-}
-
-pub(crate) fn reads(text: &[u8], at: u32, len: u32) -> Command<'static> {
-    Command::Read {
-        path: path(text),
-        at,
-        len,
-    }
-}
-
-pub(crate) fn writes<'a>(text: &[u8], at: u32, bytes: &'a [u8]) -> Command<'a> {
-    Command::Write {
-        path: path(text),
-        at,
-        bytes,
-    }
-}
-
-pub(crate) fn cuts(text: &[u8], len: u32) -> Command<'static> {
-    Command::Trunc {
-        path: path(text),
-        len,
-    }
-}
-
-pub(crate) fn renames(text: &[u8], to: &[u8]) -> Command<'static> {
-    Command::Rename {
-        path: path(text),
-        to: path(to),
-    }
-}
 
 /// One command after another through `ThroughKeep`, each with the reply that is wanted.
 pub(crate) fn replies<D: Disk>(
