@@ -109,7 +109,13 @@ module _ (entry : ℕ) (e64 : entry ≡ 64) (lot : LotView) (few : length lot.gr
       inl (inl (record { inodes = false; many = omega arith }))
   add-blamed m2 (Damaged Kind) f none most kind unreserved misled dir unmoved =
       let x = full (kind refl) in
-      inl (inr (record { number = to; reached = is.to_is.reached; dir = is.to_is.dir; full = x.1 }))
+      inl (inr (record {
+        number = to;
+        reached = is.to_is.reached;
+        dir = is.to_is.dir;
+        full = x.1;
+        more = inr (record { other = from; apart = λ q. x.0 (sym q); reached = is.from_is.reached; dir = is.from_is.dir; some = omega (arith, gone.size) });
+      }))
   add-blamed m2 (Damaged Bitmap) f none most kind unreserved misled dir unmoved = inl (inl (λ r. unreserved refl (reserved-after r)))
   add-blamed m2 (Damaged Pointer) f none most kind unreserved misled dir unmoved =
       let d = dir Pointer refl (λ e. absurd cc) in

@@ -80,6 +80,7 @@ module _ (entry : ℕ) (e64 : entry ≡ 64) (lot : LotView) (few : length lot.gr
           reached = fits.spot_is.reached;
           dir = fits.spot_is.dir;
           full = full-directory lot (inode_of m0 spot.number) fits.spot_is.dir (subst (λ (x : Inode). ¬ HasRoom lot x) same-node (kind refl));
+          more = inl fits.node;
         })
     add-blamed (Damaged Pointer) h none full kind pointer unreserved =
         let x = inode_of m0 spot.number in

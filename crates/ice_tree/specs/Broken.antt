@@ -1,9 +1,9 @@
 -- The rules that a lot breaks.
 -- Which inodes matter is said by one map of its blocks, and what they say by another: a change reaches its inodes before it puts anything.
-use Rattle.std.specs.Prelude.{◌≡◌, ◌≤◌, ◌<◌, ◌⊎◌, ℕ, zero, suc, ◌+◌, ◌*◌, ◌==◌, Bool, false, true, cond, List, length, Contains, Some, ⊤}
+use Rattle.std.specs.Prelude.{◌≡◌, ◌≢◌, ◌≤◌, ◌<◌, ◌⊎◌, ℕ, zero, suc, ◌+◌, ◌*◌, ◌==◌, Bool, false, true, cond, List, length, Contains, Some, ⊤}
 use Rattle.std.specs.List.{sum_by}
 use Rattle.ice_base.specs.Lots.{LotView, sub_address}
-use Rattle.ice_base.specs.Used.{bits_of, used_inode, Reserved, counted}
+use Rattle.ice_base.specs.Used.{bits_of, used_inode, Reserved, counted, free_count}
 use Rattle.ice_base.specs.declared.fault.OpFault.{OpFault}
 use Rattle.ice_base.specs.declared.fault.OpFault.TheVariants.{Disk, Damaged}
 use Rattle.ice_base.specs.declared.fault.Rule.{Rule}
@@ -36,12 +36,21 @@ pub record BadInode (entry : ℕ) (lot : LotView) (o m : ℕ → List ℕ) : Typ
   pub reached : IsReached entry lot o number
   pub bad : ¬ IsNode lot (inode_of m number)
 
--- some directory, to which an entry was to be added, has as many as it can have
+-- a directory beside this one has an entry
+pub record OtherEntry (entry : ℕ) (lot : LotView) (o m : ℕ → List ℕ) (number : ℕ) : Type 0 where
+  pub other : ℕ
+  pub apart : other ≢ number
+  pub reached : IsReached entry lot o other
+  pub dir : IsDirectory lot (inode_of m other)
+  pub some : 0 < (inode_of m other).size
+
+-- some directory has as many entries as it can have, one for each inode but the root, and yet an inode is free, or another directory has an entry
 pub record FullDirectory (entry : ℕ) (lot : LotView) (o m : ℕ → List ℕ) : Type 0 where
   pub number : ℕ
   pub reached : IsReached entry lot o number
   pub dir : IsDirectory lot (inode_of m number)
   pub full : 64 * length lot.groups ≤ (inode_of m number).size + 1
+  pub more : (1 ≤ free_count true lot m) ⊎ OtherEntry entry lot o m number
 
 -- some file or directory has in its map a block that is no data place, or one that stands in an indirect block that is none
 pub record BadPointer (entry : ℕ) (lot : LotView) (o m : ℕ → List ℕ) : Type 0 where
