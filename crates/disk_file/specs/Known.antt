@@ -1,5 +1,5 @@
 -- What is known of a host over a file.
-use Rattle.std.specs.Prelude.{ℕ, ◌<◌, ◌^◌, Bool, false, List, []}
+use Rattle.std.specs.Prelude.{◌≡◌, ℕ, ◌<◌, ◌^◌, Bool, false, List, []}
 use Rattle.ice_base.specs.Disk.{Image, DiskState}
 
 -- The number of whole blocks, and how often each kind of call failed; the bytes given that are held back, and whether sending
@@ -12,6 +12,19 @@ pub record Known : Type 0 where
   pub sink_faults : ℕ
   pub held : List ℕ
   pub lost : Bool
+
+-- the same but for the count of disk faults
+pub record SameBut (old new : Known) : Type 0 where
+  pub blocks : new.blocks ≡ old.blocks
+  pub source_faults : new.source_faults ≡ old.source_faults
+  pub sink_faults : new.sink_faults ≡ old.sink_faults
+  pub held : new.held ≡ old.held
+  pub lost : new.lost ≡ old.lost
+
+-- and that count too
+pub record Same (old new : Known) : Type 0 where
+  pub rest : SameBut old new
+  pub disk_faults : new.disk_faults ≡ old.disk_faults
 
 -- a disk that tells nothing of its content
 abbrev pub silent_state : Known → DiskState

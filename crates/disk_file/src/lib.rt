@@ -5,16 +5,17 @@ mod sink;
 mod streams;
 mod whole;
 
-ghost use Rattle.std.specs.Prelude.{◌≡◌, ◌≤◌, ◌<◌, ◌^◌, ◌↔◌, [], true, false, length, is_ok, IfOk, IsErr, OnErr, OnOk};
+ghost use Rattle.std.specs.Prelude.{◌≡◌, ◌≢◌, ◌≤◌, ◌<◌, ◌^◌, ◌↔◌, [], true, false, length, is_ok, IfOk, IfSome, IsErr, OnErr, OnOk};
+ghost use Rattle.std.specs.IoError.{error_kind};
 ghost use Rattle.ice_base.specs.Disk.{block, Rose, Nowhere, HasCause, WriteCounts, BarrierCounts};
 ghost use Rattle.ice_base.specs.Frames.{Within};
 ghost use Rattle.ice_base.specs.Host.{SameDisk, GaveOnly, Leaves, Takes, Gives, FirstOf, moved};
-ghost use Rattle.disk_file.specs.Known.{silent_state, silent_left};
+ghost use Rattle.disk_file.specs.Known.{Same, SameBut, silent_state, silent_left};
 
 use crate::sink::Sink;
 use crate::streams::take_piece;
 use crate::whole::{BLOCK_BYTES, read_whole, write_whole};
-use ice_base::{Block, Disk, DiskFault, Host, SinkFault, SourceFault};
+use ice_base::{Block, Disk, DiskFault, Host, SinkFault, SourceFault, Status};
 use std::fs::{File, OpenOptions};
 use std::io::{self, ErrorKind, Stdin, Stdout};
 use std::marker::Model;
@@ -62,7 +63,10 @@ impl Model for FileHost {
     ghost view = { λ h. record { blocks = h.blocks; fits = h.fits; disk_faults = h.disk_faults; source_faults = h.source_faults; sink_faults = h.sink_faults; held = writer_buffer h.output.output; lost = h.output.lost } };
 }
 
-fn open_fault(error: io::Error) -> OpenFault {
+fn open_fault(error: io::Error) -> OpenFault
+    ensures memory { error_kind error ≡ ErrorKind.OutOfMemory → result ≡ OpenFault.Memory }
+    ensures failed { error_kind error ≢ ErrorKind.OutOfMemory → result ≡ OpenFault.Failed }
+{
     match error.kind() {
         ErrorKind::OutOfMemory => OpenFault::Memory,
         _ => OpenFault::Failed,
@@ -140,6 +144,7 @@ impl FileHost {
     /// Sends what is held back, at the end of a run. Err: that failed, now or before, so that not all that was given was sent.
     pub fn finish(&mut self) -> Result<(), SinkFault>
         ensures sent { OnOk result (self.new.held ≡ []) }
+        ensures calm { OnOk result (self.new.sink_faults ≡ self.old.sink_faults) }
         ensures cause { OnErr result (Rose self.old.sink_faults self.new.sink_faults) }
         ensures lost { IsErr result ↔ self.new.lost ≡ true }
         ensures before { self.old.lost ≡ true → self.new.lost ≡ true }
@@ -151,6 +156,61 @@ impl FileHost {
             return Err(self.count_sink_fault());
         }
         Ok(())
+    }
+
+    /// The status of a run once all replies that were held back are sent. Where that fails the run ended by it: whatever else it
+    /// met came after those replies.
+    pub fn ended(&mut self, status: Status) -> Status
+        ensures sent { self.new.lost ≡ false → (result ≡ status) × (self.new.held ≡ []) }
+        ensures lost { self.new.lost ≡ true → result ≡ Status.Sink }
+    {
+        match self.finish() {
+            Ok(()) => status,
+            Err(_) => Status::Sink,
+        }
+    }
+
+    /// Writes a block of the file, with nothing held back. Says whether that was done.
+    fn write_file(&mut self, at: u32, from: &Block) -> bool
+        requires sent { self.old.held ≡ [] }
+        requires kept { self.old.lost ≡ false }
+        ensures same { Same self.old self.new }
+    {
+        match &mut self.file {
+            Some(file) => write_whole(file, at, from).is_ok(),
+            None => false,
+        }
+    }
+
+    /// Syncs the file, with nothing held back. Says whether that was done.
+    fn sync_file(&mut self) -> bool
+        requires sent { self.old.held ≡ [] }
+        requires kept { self.old.lost ≡ false }
+        ensures same { Same self.old self.new }
+    {
+        match &self.file {
+            Some(file) => file.sync_all().is_ok(),
+            None => true,
+        }
+    }
+
+    /// Takes a piece of the input, with nothing held back that can still be sent.
+    fn take_input(&mut self, into: &mut [u8]) -> Option<usize>
+        requires room { 0 < length into.old }
+        requires sent { self.old.lost ≡ false → self.old.held ≡ [] }
+        ensures same { Same self.old self.new }
+        ensures count { IfSome result (λ n. n ≤ length into.new) }
+    {
+        take_piece(&mut self.input, into)
+    }
+
+    fn count_disk_fault(&mut self) -> DiskFault
+        ensures rose { Rose self.old.disk_faults self.new.disk_faults }
+        ensures grows { self.old.disk_faults ≤ self.new.disk_faults }
+        ensures rest { SameBut self.old self.new }
+    {
+        self.disk_faults = self.disk_faults.saturating_add(1);
+        DiskFault::Failed
     }
 
     fn count_sink_fault(&mut self) -> SinkFault
@@ -182,21 +242,21 @@ impl Disk for FileHost {
     }
 
     fn read(&mut self, at: u32, into: &mut Block) -> Result<(), DiskFault> {
-        let done = match &self.file {
+        let done = match &mut self.file {
             Some(file) => read_whole(file, at, into).is_ok(),
             None => false,
         };
         if done {
             return Ok(());
         }
-        self.disk_faults = self.disk_faults.saturating_add(1);
-        Err(DiskFault::Failed)
+        Err(self.count_disk_fault())
     }
 
     fn write(&mut self, at: u32, from: &Block) -> Result<(), DiskFault>
         requires { at < (silent_state self.old).size }
         ensures within { Within silent_state silent_left (λ k. k ≡ at) self.old self.new }
         ensures cause { HasCause (silent_state self.old) (silent_state self.new) result }
+        ensures calm { OnOk result ((silent_state self.new).faults ≡ (silent_state self.old).faults) }
         ensures bytes { (silent_state self.old).tells ≡ true → OnOk result (block (silent_state self.new).now at ≡ from.now) }
         ensures counts { (silent_state self.old).tells ≡ true → WriteCounts at (is_ok result) (silent_state self.old) (silent_state self.new) }
         ensures sent { self.new.lost ≡ false → self.new.held ≡ [] }
@@ -204,36 +264,32 @@ impl Disk for FileHost {
         ensures before { self.old.lost ≡ true → self.new.lost ≡ true }
     {
         self.output.send();
-        let done = match &self.file {
-            Some(file) if !self.output.lost => write_whole(file, at, from).is_ok(),
-            _ => false,
-        };
-        if done {
+        if self.output.lost {
+            return Err(self.count_disk_fault());
+        }
+        if self.write_file(at, from) {
             return Ok(());
         }
-        self.disk_faults = self.disk_faults.saturating_add(1);
-        Err(DiskFault::Failed)
+        Err(self.count_disk_fault())
     }
 
     fn barrier(&mut self) -> Result<(), DiskFault>
         ensures within { Within silent_state silent_left Nowhere self.old self.new }
         ensures cause { HasCause (silent_state self.old) (silent_state self.new) result }
+        ensures calm { OnOk result ((silent_state self.new).faults ≡ (silent_state self.old).faults) }
         ensures counts { (silent_state self.old).tells ≡ true → BarrierCounts (is_ok result) (silent_state self.old) (silent_state self.new) }
         ensures sent { self.new.lost ≡ false → self.new.held ≡ [] }
         ensures lost { OnOk result (self.new.lost ≡ false) }
         ensures before { self.old.lost ≡ true → self.new.lost ≡ true }
     {
         self.output.send();
-        let done = match &self.file {
-            _ if self.output.lost => false,
-            Some(file) => file.sync_all().is_ok(),
-            None => true,
-        };
-        if done {
+        if self.output.lost {
+            return Err(self.count_disk_fault());
+        }
+        if self.sync_file() {
             return Ok(());
         }
-        self.disk_faults = self.disk_faults.saturating_add(1);
-        Err(DiskFault::Failed)
+        Err(self.count_disk_fault())
     }
 }
 
@@ -244,11 +300,12 @@ impl Host for FileHost {
         ensures ticks { (silent_state self.old).tells ≡ true → Rose (silent_state self.old).clock (silent_state self.new).clock }
         ensures leaves { Leaves silent_state silent_left (λ out. out ≡ (silent_state self.old).streams.aside) self.old self.new }
         ensures takes { Takes (silent_state self.old).tells (silent_state self.old).streams (silent_state self.new).streams into.new result }
+        ensures calm { OnOk result ((silent_state self.new).streams.source_faults ≡ (silent_state self.old).streams.source_faults) }
         ensures sent { self.new.lost ≡ false → self.new.held ≡ [] }
         ensures before { self.old.lost ≡ true → self.new.lost ≡ true }
     {
         self.output.send();
-        match take_piece(&mut self.input, into) {
+        match self.take_input(into) {
             Some(count) => Ok(count),
             None => {
                 self.source_faults = self.source_faults.saturating_add(1);
@@ -263,6 +320,7 @@ impl Host for FileHost {
         ensures ticks { (silent_state self.old).tells ≡ true → Rose (silent_state self.old).clock (silent_state self.new).clock }
         ensures leaves { Leaves silent_state silent_left (FirstOf (silent_state self.old).streams.aside bytes.now (moved result)) self.old self.new }
         ensures gives { Gives (silent_state self.old).tells (silent_state self.old).streams (silent_state self.new).streams bytes.now result }
+        ensures calm { OnOk result ((silent_state self.new).streams.sink_faults ≡ (silent_state self.old).streams.sink_faults) }
         ensures lost { IsErr result ↔ self.new.lost ≡ true }
         ensures before { self.old.lost ≡ true → self.new.lost ≡ true }
     {

@@ -1,15 +1,19 @@
 //! One piece of the standard streams, again where a signal interrupts the call.
-ghost use Rattle.std.specs.Prelude.{◌≤◌, ◌<◌, length, take, IfSome, MatchOption};
-ghost use Rattle.std.specs.Io.KnownBytes.{Keeps, Appends};
+ghost use Rattle.std.specs.Prelude.{◌≡◌, ◌≤◌, ◌<◌, length, take, IfSome, MatchOption};
+ghost use Rattle.std.specs.Io.KnownBytes.{Keeps, Appends, Consumes, IsAtEnd};
 
-use std::io::{ErrorKind, Read, Stdin, Write};
+use std::io::{ErrorKind, Read, Write};
 
 /// How often an interrupted call is made again before it counts as failed.
 const TRIES: u32 = 1000;
 
 /// How many bytes came, 0 at the end of the input; none where reading failed.
-pub(crate) fn take_piece(input: &mut Stdin, into: &mut [u8]) -> Option<usize>
-    ensures { IfSome result (λ n. n ≤ length into.new) }
+#[tactic(auto, using(crate::proofs::Bytes::bytes_laws))]
+pub(crate) fn take_piece<R: Read>(input: &mut R, into: &mut [u8]) -> Option<usize>
+    requires { 0 < length into.old }
+    ensures count { IfSome result (λ n. n ≤ length into.new) }
+    ensures order { MatchOption result (Keeps (R.remaining input.old) (R.remaining input.new)) (λ n. Consumes (R.remaining input.old) (R.remaining input.new) (take n into.new)) }
+    ensures end { IfSome result (λ n. n ≡ 0 → IsAtEnd (R.remaining input.new)) }
 {
     for _ in 0..TRIES {
         match input.read(into) {

@@ -1,5 +1,5 @@
 -- The image that a crash leaves, by its fill.
-use Rattle.std.proofs.Common.{◌≡◌, ◌≤◌, ◌<◌, ℕ, Bool, true, false, List, length, slice_index_or, take, inl, inr, refl, sym, ◌∙◌, ap, subst, arith}
+use Rattle.std.proofs.Common.{◌≡◌, ◌+◌, ◌≤◌, ◌<◌, ℕ, Bool, true, false, List, length, slice_index_or, take, inl, inr, refl, sym, ◌∙◌, ap, subst, arith}
 use Rattle.std.proofs.lemmas.Bool.{cases_lt}
 use Rattle.std.proofs.lemmas.Grind.{common_steps}
 use Rattle.ice_base.specs.Disk.{Image, block}
@@ -28,5 +28,5 @@ module _ (fill : ℕ) (m : Moment) (blocks settled filled : Image) (flags : List
         (loose k (sym (shows.loose k (subst (λ (x : Image). k < length x) shows.now less)) ∙ is)));
   }
 
-pub filled_left : (fill : ℕ) (m : Moment) (image : Image) (output : List ℕ) → LeavesFilled fill m image → IsLeft output m image (take m.given output)
-filled_left fill m image output is = record { count = is.count; same = is.settled; given = refl }
+pub filled_left : (fill : ℕ) (m next : Moment) (image : Image) (output : List ℕ) → LeavesFilled fill m image → IsLeft output m next image (take m.given output)
+filled_left fill m next image output is = record { count = is.count; same = is.settled; more = 0; few = omega arith; given = let e : m.given ≡ m.given + 0 = omega arith in ap (λ n. take n output) e }

@@ -1,10 +1,12 @@
 -- How the past of a host in memory grows.
-use Rattle.std.proofs.Common.{◌≡◌, ◌⊎◌, ◌+◌, ◌-◌, ◌≤◌, ◌<◌, ◌^◌, ℕ, min, Bool, true, false, if◌then◌else◌, nat_lt, List, [], ◌∷◌, ◌++◌, length, length-append, slice_set, slice_index_or, take, inl, inr, ⊎_elim, refl, sym, ◌∙◌, ap, subst, arith}
+use Rattle.std.proofs.Common.{◌≡◌, ◌⊎◌, ◌+◌, ◌-◌, ◌≤◌, ◌<◌, ◌^◌, ℕ, zero, suc, min, Bool, true, false, if◌then◌else◌, nat_lt, List, [], ◌∷◌, ◌++◌, length, length-append, slice_set, slice_index_or, take, inl, inr, ⊎_elim, refl, sym, ◌∙◌, ap, subst, arith}
 use Rattle.std.proofs.lemmas.Bool.{false≢true, cases_eq, cases_lt}
 use Rattle.std.proofs.lemmas.Bool.Decides.{nat_tests}
-use Rattle.std.proofs.lemmas.List.{length-set, get_or-set_same, get_or-set_other, take-append-le, take_more, get_or_default}
+use Rattle.std.proofs.lemmas.List.{length-set, get_or-set_same, get_or-set_other, take-append-le, take_more, get_or_default, length-take-le}
+use Rattle.std.proofs.Math.Seq.{take-append-add}
 use Rattle.ice_base.specs.Disk.{Image, block}
-use Rattle.disk_mem.specs.Memory.{Moment, number_of, applied, loosened, after, past_of, fresh, IsLeft, LeftSince, Linked, agrees, settled_flag, take_whole}
+use Rattle.ice_base.specs.Host.{FirstOf}
+use Rattle.disk_mem.specs.Memory.{Moment, number_of, applied, loosened, after, past_of, fresh, IsLeft, LeftSince, Linked, agrees, all_given, settled_flag}
 use Rattle.disk_mem.specs.Record.{FailedNoted}
 use Rattle.disk_mem.specs.declared.step.Step.{Step}
 use Rattle.disk_mem.specs.declared.step.Step.TheVariants.{Write, Failed, Barrier, Give}
@@ -16,6 +18,25 @@ after_push t m (x ∷ steps) s = after_push t (if nat_lt (number_of x) t then ap
 pub after_more : (t : ℕ) (m : Moment) (steps : List Step) (i : ℕ) (d : Step) → i < length steps
     → after t m (take (i + 1) steps) ≡ (if nat_lt (number_of (slice_index_or steps i d)) t then applied (after t m (take i steps)) (slice_index_or steps i d) else after t m (take i steps))
 after_more t m steps i d less = ap (λ (x : List Step). after t m x) (take_more steps i d less) ∙ after_push t m (take i steps) (slice_index_or steps i d)
+
+-- the first bytes of two parts, past the first part
+take_past : (xs ys : List ℕ) (n : ℕ) → length xs ≤ n → take n (xs ++ ys) ≡ xs ++ take (n - length xs) ys
+take_past xs ys n le = let e : n ≡ length xs + (n - length xs) = omega arith in ap (λ k. take k (xs ++ ys)) e ∙ take-append-add xs ys (n - length xs)
+
+take_fewer : (xs : List ℕ) (m n : ℕ) → m ≤ n → take m (take n xs) ≡ take m xs
+take_fewer [] zero zero le = refl
+take_fewer [] zero (suc n) le = refl
+take_fewer [] (suc m) (suc n) le = refl
+take_fewer [] (suc m) zero le = absurd (omega arith)
+take_fewer (x ∷ xs) zero n le = refl
+take_fewer (x ∷ xs) (suc m) zero le = absurd (omega arith)
+take_fewer (x ∷ xs) (suc m) (suc n) le = ap (λ t. x ∷ t) (take_fewer xs m n (omega arith))
+
+-- some first bytes of a piece are some first bytes of all
+pub some_first : (aside bytes : List ℕ) (n : ℕ) (out : List ℕ) → n ≤ length bytes → FirstOf aside (take n bytes) (length (take n bytes)) out → FirstOf aside bytes n out
+some_first aside bytes n out le f =
+    let few : f.0 ≤ n = omega (arith, f.1, length-take-le n bytes le) in
+    (f.0, few, f.2 ∙ ap (λ (x : List ℕ). aside ++ x) (take_fewer bytes f.0 n few))
 
 -- a step that one of the first t calls made
 pub made : (t n : ℕ) (m m' : Moment) → n < t → (if nat_lt n t then m' else m) ≡ m'
@@ -74,32 +95,58 @@ marked_only flags loose at k was set = elim (cases_eq k at) as (λ _. loosened l
   | inr other ↦ let before = was (sym (flag_other flags at k other) ∙ set) in grind (arith, nat_tests)
 ]
 
--- what a crash leaves after a call: as before it, or as the call leaves it
-pub left_grown : (past later : ℕ → Moment) (calls d : ℕ) (output output' : List ℕ) (Q : Image → List ℕ → Type 0) → ((u : ℕ) → u ≤ calls → later u ≡ past u)
-    → ((u : ℕ) → take (past u).given output' ≡ take (past u).given output) → ((u : ℕ) → calls < u → (i : Image) (o : List ℕ) → IsLeft output' (later u) i o → Q i o)
-    → (t : ℕ) (i : Image) (o : List ℕ) → LeftSince later d output' t i o → LeftSince past calls output t i o ⊎ Q i o
-left_grown past later calls d output output' Q old taken new t i o left = elim (cases_lt calls left.moment) [
-  | inl less ↦ inr (new left.moment less i o left.is)
-  | inr ge ↦
-      let is = subst (λ (m : Moment). IsLeft output' m i o) (old left.moment ge) left.is in
-      inl (record { moment = left.moment; from = left.from; until = ge; is = record { count = is.count; same = is.same; given = is.given ∙ taken left.moment } })
-]
-
-pub left_kept : (past later : ℕ → Moment) (calls d : ℕ) (output output' : List ℕ) → calls ≤ d → ((u : ℕ) → u ≤ calls → later u ≡ past u)
-    → ((u : ℕ) → take (past u).given output' ≡ take (past u).given output)
-    → (t : ℕ) (i : Image) (o : List ℕ) → LeftSince past calls output t i o → LeftSince later d output' t i o
-left_kept past later calls d output output' le old taken t i o left =
-    let is = left.is in record {
-      moment = left.moment;
-      from = left.from;
-      until = omega (arith, left.until);
-      is = subst (λ (m : Moment). IsLeft output' m i o) (sym (old left.moment left.until)) (record { count = is.count; same = is.same; given = is.given ∙ sym (taken left.moment) });
-    }
-
 module _ (past : ℕ → Moment) (calls remembered : ℕ) (blocks : Image) (flags : List Bool) (output : List ℕ) (linked : Linked past calls remembered blocks flags output) where
   -- what a crash shows of the present
   abbrev Now : Image → List ℕ → Type 0
   Now i o = (length i ≡ length blocks) × ((k : ℕ) → slice_index_or flags k false ≡ false → block i k ≡ block blocks k) × (o ≡ output)
+
+  -- what a crash leaves after a call: as before it, or as the call leaves it
+  pub left_grown : (later : ℕ → Moment) (d : ℕ) (output' : List ℕ) (Q : Image → List ℕ → Type 0) → ((u : ℕ) → u ≤ calls → later u ≡ past u)
+      → ((n : ℕ) → n ≤ length output → take n output' ≡ take n output) → ((u : ℕ) → calls ≤ u → (i : Image) (o : List ℕ) → IsLeft output' (later u) (later (u + 1)) i o → Q i o)
+      → (t : ℕ) (i : Image) (o : List ℕ) → LeftSince later d output' t i o → LeftSince past calls output t i o ⊎ Q i o
+  left_grown later d output' Q old taken new t i o left = elim (cases_lt left.moment calls) [
+    | inl less ↦
+        let at = subst (λ (m : Moment). IsLeft output' m (later (left.moment + 1)) i o) (old left.moment (omega arith)) left.is in
+        let is = subst (λ (m : Moment). IsLeft output' (past left.moment) m i o) (old (left.moment + 1) (omega arith)) at in
+        let most : (past left.moment).given + is.more ≤ length output = omega (arith, is.few, linked.reach left.moment, linked.reach (left.moment + 1)) in
+        inl (record { moment = left.moment; from = left.from; until = omega arith; is = record { count = is.count; same = is.same; more = is.more; few = is.few; given = is.given ∙ taken _ most } })
+    | inr ge ↦ inr (new left.moment ge i o left.is)
+  ]
+
+  pub left_kept : (later : ℕ → Moment) (d : ℕ) (output' : List ℕ) → calls ≤ d → ((u : ℕ) → u ≤ calls → later u ≡ past u)
+      → ((n : ℕ) → n ≤ length output → take n output' ≡ take n output)
+      → (t : ℕ) (i : Image) (o : List ℕ) → LeftSince past calls output t i o → LeftSince later d output' t i o
+  left_kept later d output' le old taken t i o left =
+      let is = left.is in
+      let most : (past left.moment).given + is.more ≤ length output = omega (arith, is.few, linked.reach left.moment, linked.reach (left.moment + 1)) in
+      let few : is.more ≤ (later (left.moment + 1)).given - (past left.moment).given = elim (cases_lt left.moment calls) [
+        | inl less ↦ subst (λ (m : Moment). is.more ≤ m.given - (past left.moment).given) (sym (old (left.moment + 1) (omega arith))) is.few
+        | inr ge ↦ omega (arith, is.few, linked.given left.moment ge, linked.given (left.moment + 1) (omega arith))
+      ] in record {
+        moment = left.moment;
+        from = left.from;
+        until = omega (arith, left.until);
+        is = subst (λ (m : Moment). IsLeft output' m (later (left.moment + 1)) i o) (sym (old left.moment left.until)) (record { count = is.count; same = is.same; more = is.more; few = few; given = is.given ∙ sym (taken _ most) });
+      }
+
+  -- how many bytes had been given at each moment from now on, where the call gave none
+  none_given : (s : Step) (later : ℕ → Moment) → Grows calls s past later → ((m : Moment) → (applied m s).given ≡ m.given) → (u : ℕ) → calls ≤ u → (later u).given ≡ length output
+  none_given s later grown none u ge = elim (cases_lt calls u) [
+    | inl less ↦ ap (λ (m : Moment). m.given) (grown.new u less) ∙ none (past u) ∙ linked.given u ge
+    | inr le ↦ ap (λ (m : Moment). m.given) (grown.old u le) ∙ linked.given u ge
+  ]
+
+  -- at the moment of the call the image is one of the present
+  image_now : (m : Moment) (i : Image) → m ≡ past calls → length i ≡ length m.now → ((k : ℕ) → m.loose k ≡ false → block i k ≡ block m.now k)
+      → (length i ≡ length blocks) × ((k : ℕ) → slice_index_or flags k false ≡ false → block i k ≡ block blocks k)
+  image_now m i e count same =
+      let now : m.now ≡ blocks = ap (λ (x : Moment). x.now) e ∙ linked.now calls (omega arith) in (
+        count ∙ ap (λ (x : Image). length x) now,
+        λ k flag. same k (ap (λ (x : Moment). x.loose k) e ∙ settled_flag flags (past calls).loose k (linked.loose calls k (omega arith)) flag) ∙ ap (λ (x : Image). block x k) now,
+      )
+
+  at_call : (later : ℕ → Moment) (u : ℕ) → ((u : ℕ) → u ≤ calls → later u ≡ past u) → u ≤ calls → calls ≤ u → later u ≡ past calls
+  at_call later u old le ge = let e : u ≡ calls = omega arith in old u le ∙ ap past e
 
   -- a call of which nothing is recorded
   pub linked_pass : (d : ℕ) → calls ≤ d → Linked past d remembered blocks flags output
@@ -115,11 +162,11 @@ module _ (past : ℕ → Moment) (calls remembered : ℕ) (blocks : Image) (flag
   }
 
   pub pass_left : (d t : ℕ) (i : Image) (o : List ℕ) → LeftSince past d output t i o → LeftSince past calls output t i o ⊎ Now i o
-  pass_left d t i o left = left_grown past past calls d output output Now (λ u le. refl) (λ u. refl)
-      (λ u less i o is. agrees past calls remembered blocks flags output linked u (omega arith) i o is) t i o left
+  pass_left d t i o left = left_grown past d output Now (λ u le. refl) (λ n le. refl)
+      (λ u ge i o is. agrees past calls remembered blocks flags output linked u ge i o is) t i o left
 
   pub pass_kept : (d t : ℕ) (i : Image) (o : List ℕ) → calls ≤ d → LeftSince past calls output t i o → LeftSince past d output t i o
-  pass_kept d t i o le left = left_kept past past calls d output output le (λ u less. refl) (λ u. refl) t i o left
+  pass_kept d t i o le left = left_kept past d output le (λ u less. refl) (λ n less. refl) t i o left
 
   -- a good write
   pub linked_write : (later : ℕ → Moment) (d at : ℕ) (bytes : List ℕ) → Grows calls (Write calls at bytes) past later → calls < d → at < length blocks
@@ -150,14 +197,20 @@ module _ (past : ℕ → Moment) (calls remembered : ℕ) (blocks : Image) (flag
 
   pub write_left : (later : ℕ → Moment) (d at : ℕ) (bytes : List ℕ) → Grows calls (Write calls at bytes) past later
       → (t : ℕ) (i : Image) (o : List ℕ) → LeftSince later d output t i o → LeftSince past calls output t i o ⊎ But at i o
-  write_left later d at bytes grown t i o left = left_grown past later calls d output output (But at) grown.old (λ u. refl) go t i o left
+  write_left later d at bytes grown t i o left = left_grown later d output (But at) grown.old (λ n le. refl) go t i o left
     where
-      go : (u : ℕ) → calls < u → (i : Image) (o : List ℕ) → IsLeft output (later u) i o → But at i o
-      go u less i o is = let l = subst (λ (m : Moment). IsLeft output m i o) (grown.new u less) is in (
-        l.count ∙ length-set (past u).now at bytes ∙ linked.count u,
-        λ k other flag. l.same k (still u at k (omega arith) other flag) ∙ block_set_other (past u).now at bytes k other ∙ ap (λ (x : Image). block x k) (linked.now u (omega arith)),
-        l.given ∙ take_whole output _ (linked.given u (omega arith)),
-      )
+      given : (u : ℕ) → calls ≤ u → (later u).given ≡ length output
+      given = none_given (Write calls at bytes) later grown (λ m. refl)
+
+      go : (u : ℕ) → calls ≤ u → (i : Image) (o : List ℕ) → IsLeft output (later u) (later (u + 1)) i o → But at i o
+      go u ge i o is = let out = all_given output (later u) (later (u + 1)) i o (given u ge) (given (u + 1) (omega arith)) is in elim (cases_lt calls u) [
+        | inl less ↦ let l = subst (λ (m : Moment). IsLeft output m (later (u + 1)) i o) (grown.new u less) is in (
+          l.count ∙ length-set (past u).now at bytes ∙ linked.count u,
+          λ k other flag. l.same k (still u at k ge other flag) ∙ block_set_other (past u).now at bytes k other ∙ ap (λ (x : Image). block x k) (linked.now u ge),
+          out,
+        )
+        | inr le ↦ let now = image_now (later u) i (at_call later u grown.old le ge) is.count is.same in (now.0, λ k other flag. now.1 k flag, out)
+      ]
 
   -- a failed write that is remembered
   pub linked_mark : (later : ℕ → Moment) (d at : ℕ) → Grows calls (Failed calls at) past later → d ≡ min (calls + 1) (2 ^ 64 - 1) → calls ≤ 2 ^ 64 - 1 → at < length blocks
@@ -202,14 +255,20 @@ module _ (past : ℕ → Moment) (calls remembered : ℕ) (blocks : Image) (flag
 
   pub mark_left : (later : ℕ → Moment) (d at : ℕ) → Grows calls (Failed calls at) past later
       → (t : ℕ) (i : Image) (o : List ℕ) → LeftSince later d output t i o → LeftSince past calls output t i o ⊎ But at i o
-  mark_left later d at grown t i o left = left_grown past later calls d output output (But at) grown.old (λ u. refl) go t i o left
+  mark_left later d at grown t i o left = left_grown later d output (But at) grown.old (λ n le. refl) go t i o left
     where
-      go : (u : ℕ) → calls < u → (i : Image) (o : List ℕ) → IsLeft output (later u) i o → But at i o
-      go u less i o is = let l = subst (λ (m : Moment). IsLeft output m i o) (grown.new u less) is in (
-        l.count ∙ linked.count u,
-        λ k other flag. l.same k (still u at k (omega arith) other flag) ∙ ap (λ (x : Image). block x k) (linked.now u (omega arith)),
-        l.given ∙ take_whole output _ (linked.given u (omega arith)),
-      )
+      given : (u : ℕ) → calls ≤ u → (later u).given ≡ length output
+      given = none_given (Failed calls at) later grown (λ m. refl)
+
+      go : (u : ℕ) → calls ≤ u → (i : Image) (o : List ℕ) → IsLeft output (later u) (later (u + 1)) i o → But at i o
+      go u ge i o is = let out = all_given output (later u) (later (u + 1)) i o (given u ge) (given (u + 1) (omega arith)) is in elim (cases_lt calls u) [
+        | inl less ↦ let l = subst (λ (m : Moment). IsLeft output m (later (u + 1)) i o) (grown.new u less) is in (
+          l.count ∙ linked.count u,
+          λ k other flag. l.same k (still u at k ge other flag) ∙ ap (λ (x : Image). block x k) (linked.now u ge),
+          out,
+        )
+        | inr le ↦ let now = image_now (later u) i (at_call later u grown.old le ge) is.count is.same in (now.0, λ k other flag. now.1 k flag, out)
+      ]
 
   -- a failed write that is not
   pub linked_lost : (d at remembered' : ℕ) → remembered' ≡ min calls remembered → d ≡ min (calls + 1) (2 ^ 64 - 1) → calls ≤ 2 ^ 64 - 1 → at < length blocks
@@ -253,14 +312,20 @@ module _ (past : ℕ → Moment) (calls remembered : ℕ) (blocks : Image) (flag
 
   pub barrier_left : (later : ℕ → Moment) (d : ℕ) → Grows calls (Barrier calls) past later
       → (t : ℕ) (i : Image) (o : List ℕ) → LeftSince later d output t i o → LeftSince past calls output t i o ⊎ Now i o
-  barrier_left later d grown t i o left = left_grown past later calls d output output Now grown.old (λ u. refl) go t i o left
+  barrier_left later d grown t i o left = left_grown later d output Now grown.old (λ n le. refl) go t i o left
     where
-      go : (u : ℕ) → calls < u → (i : Image) (o : List ℕ) → IsLeft output (later u) i o → Now i o
-      go u less i o is = let l = subst (λ (m : Moment). IsLeft output m i o) (grown.new u less) is in (
-        l.count ∙ linked.count u,
-        λ k flag. l.same k refl ∙ ap (λ (x : Image). block x k) (linked.now u (omega arith)),
-        l.given ∙ take_whole output _ (linked.given u (omega arith)),
-      )
+      given : (u : ℕ) → calls ≤ u → (later u).given ≡ length output
+      given = none_given (Barrier calls) later grown (λ m. refl)
+
+      go : (u : ℕ) → calls ≤ u → (i : Image) (o : List ℕ) → IsLeft output (later u) (later (u + 1)) i o → Now i o
+      go u ge i o is = let out = all_given output (later u) (later (u + 1)) i o (given u ge) (given (u + 1) (omega arith)) is in elim (cases_lt calls u) [
+        | inl less ↦ let l = subst (λ (m : Moment). IsLeft output m (later (u + 1)) i o) (grown.new u less) is in (
+          l.count ∙ linked.count u,
+          λ k flag. l.same k refl ∙ ap (λ (x : Image). block x k) (linked.now u ge),
+          out,
+        )
+        | inr le ↦ let now = image_now (later u) i (at_call later u grown.old le ge) is.count is.same in (now.0, now.1, out)
+      ]
 
   -- a good give
   pub linked_give : (later : ℕ → Moment) (d : ℕ) (more longer : List ℕ) → Grows calls (Give calls (length output + length more)) past later → longer ≡ output ++ more → calls < d
@@ -282,31 +347,44 @@ module _ (past : ℕ → Moment) (calls remembered : ℕ) (blocks : Image) (flag
     marks = linked.marks;
   })
 
-  grown_take : (more longer : List ℕ) → longer ≡ output ++ more → (u : ℕ) → take (past u).given longer ≡ take (past u).given output
-  grown_take more longer is u = ap (λ (x : List ℕ). take (past u).given x) is ∙ take-append-le (past u).given output more (linked.reach u)
+  grown_take : (more longer : List ℕ) → longer ≡ output ++ more → (n : ℕ) → n ≤ length output → take n longer ≡ take n output
+  grown_take more longer is n le = ap (λ (x : List ℕ). take n x) is ∙ take-append-le n output more le
 
-  -- what a crash shows of the present, with more given
+  -- what a crash shows of the present, with some more given
   abbrev Given : List ℕ → Image → List ℕ → Type 0
-  Given more i o = (length i ≡ length blocks) × ((k : ℕ) → slice_index_or flags k false ≡ false → block i k ≡ block blocks k) × (o ≡ output ++ more)
+  Given more i o = (length i ≡ length blocks) × ((k : ℕ) → slice_index_or flags k false ≡ false → block i k ≡ block blocks k) × FirstOf output more (length more) o
+
+  -- the first bytes of what is longer
+  front_given : (more longer o : List ℕ) (n : ℕ) → longer ≡ output ++ more → length output ≤ n → n ≤ length output + length more → o ≡ take n longer → FirstOf output more (length more) o
+  front_given more longer o n is low high e = (n - length output, omega arith, e ∙ ap (λ (x : List ℕ). take n x) is ∙ take_past output more n low)
 
   pub give_left : (later : ℕ → Moment) (d : ℕ) (more longer : List ℕ) → Grows calls (Give calls (length output + length more)) past later → longer ≡ output ++ more
       → (t : ℕ) (i : Image) (o : List ℕ) → LeftSince later d longer t i o
       → LeftSince past calls output t i o ⊎ Given more i o
-  give_left later d more longer grown is t i o left = left_grown past later calls d output longer (Given more) grown.old (grown_take more longer is) go t i o left
+  give_left later d more longer grown is t i o left = left_grown later d longer (Given more) grown.old (grown_take more longer is) go t i o left
     where
-      go : (u : ℕ) → calls < u → (i : Image) (o : List ℕ) → IsLeft longer (later u) i o → Given more i o
-      go u less i o left = let l = subst (λ (m : Moment). IsLeft longer m i o) (grown.new u less) left in (
-        l.count ∙ linked.count u,
-        λ k flag. l.same k (settled_flag flags (past u).loose k (linked.loose u k (omega arith)) flag) ∙ ap (λ (x : Image). block x k) (linked.now u (omega arith)),
-        l.given ∙ take_whole longer _ (sym (length-append output more) ∙ ap length (sym is)) ∙ is,
-      )
+      given : (u : ℕ) → calls < u → (later u).given ≡ length output + length more
+      given u less = ap (λ (m : Moment). m.given) (grown.new u less)
+
+      go : (u : ℕ) → calls ≤ u → (i : Image) (o : List ℕ) → IsLeft longer (later u) (later (u + 1)) i o → Given more i o
+      go u ge i o left = elim (cases_lt calls u) [
+        | inl less ↦ let l = subst (λ (m : Moment). IsLeft longer m (later (u + 1)) i o) (grown.new u less) left in (
+          l.count ∙ linked.count u,
+          λ k flag. l.same k (settled_flag flags (past u).loose k (linked.loose u k ge) flag) ∙ ap (λ (x : Image). block x k) (linked.now u ge),
+          front_given more longer o ((later u).given + left.more) is (omega (arith, given u less)) (omega (arith, left.few, given u less, given (u + 1) (omega arith))) left.given,
+        )
+        | inr le ↦
+            let now = image_now (later u) i (at_call later u grown.old le ge) left.count left.same in
+            let at : (later u).given ≡ length output = ap (λ (m : Moment). m.given) (grown.old u le) ∙ linked.given u ge in
+            (now.0, now.1, front_given more longer o ((later u).given + left.more) is (omega arith) (omega (arith, left.few, given (u + 1) (omega arith))) left.given)
+      ]
 
   pub give_kept : (later : ℕ → Moment) (d : ℕ) (more longer : List ℕ) → Grows calls (Give calls (length output + length more)) past later → longer ≡ output ++ more → calls ≤ d
       → (t : ℕ) (i : Image) (o : List ℕ) → LeftSince past calls output t i o → LeftSince later d longer t i o
-  give_kept later d more longer grown is le t i o left = left_kept past later calls d output longer le grown.old (grown_take more longer is) t i o left
+  give_kept later d more longer grown is le t i o left = left_kept later d longer le grown.old (grown_take more longer is) t i o left
 
   pub grown_kept : (s : Step) (later : ℕ → Moment) (d : ℕ) → Grows calls s past later → calls ≤ d → (t : ℕ) (i : Image) (o : List ℕ) → LeftSince past calls output t i o → LeftSince later d output t i o
-  grown_kept s later d grown le t i o left = left_kept past later calls d output output le grown.old (λ u. refl) t i o left
+  grown_kept s later d grown le t i o left = left_kept later d output le grown.old (λ n le. refl) t i o left
 
   -- a good write settles nothing
   pub write_settled : (later : ℕ → Moment) (d at : ℕ) (bytes : List ℕ) → Grows calls (Write calls at bytes) past later → calls < d → (later d).settled ≡ (past calls).settled

@@ -80,18 +80,21 @@ told m = record {
   writes = m.writes;
 }
 
--- an image and an output that a crash at this moment may leave
-pub record IsLeft (output : List ℕ) (m : Moment) (image : Image) (out : List ℕ) : Type 0 where
+-- An image and an output that a crash at this moment, or in the call that leads to the next one, may leave: some of the bytes
+-- that the call gives may have been given.
+pub record IsLeft (output : List ℕ) (m next : Moment) (image : Image) (out : List ℕ) : Type 0 where
   pub count : length image ≡ length m.now
   pub same : (k : ℕ) → m.loose k ≡ false → block image k ≡ block m.now k
-  pub given : out ≡ take m.given output
+  pub more : ℕ
+  pub few : more ≤ next.given - m.given
+  pub given : out ≡ take (m.given + more) output
 
--- a crash at one of the moments from t up to now may leave them
+-- a crash at one of the moments from t up to now, or in a call between them, may leave them
 pub record LeftSince (past : ℕ → Moment) (calls : ℕ) (output : List ℕ) (t : ℕ) (image : Image) (out : List ℕ) : Type 0 where
   pub moment : ℕ
   pub from : t ≤ moment
   pub until : moment ≤ calls
-  pub is : IsLeft output (past moment) image out
+  pub is : IsLeft output (past moment) (past (moment + 1)) image out
 
 -- a crash at a moment not before t may leave them
 abbrev pub Left : Memory → ℕ → Image → List ℕ → Type 0
@@ -176,14 +179,18 @@ settled_flag flags loose k tells is = elim (cases_Bool (loose k)) [
   | inr clear ↦ clear
 ]
 
+-- where no call gave more, all that was given is left
+pub all_given : (output : List ℕ) (m next : Moment) (image : Image) (out : List ℕ) → m.given ≡ length output → next.given ≡ length output → IsLeft output m next image out → out ≡ output
+all_given output m next image out a b is = is.given ∙ take_whole output _ (omega (arith, is.few, a, b))
+
 -- what a crash leaves of a moment that is not over agrees with the present
 pub agrees : (past : ℕ → Moment) (calls remembered : ℕ) (blocks : Image) (flags : List Bool) (output : List ℕ) → Linked past calls remembered blocks flags output
-    → (u : ℕ) → calls ≤ u → (image : Image) (out : List ℕ) → IsLeft output (past u) image out
+    → (u : ℕ) → calls ≤ u → (image : Image) (out : List ℕ) → IsLeft output (past u) (past (u + 1)) image out
     → (length image ≡ length blocks) × ((k : ℕ) → slice_index_or flags k false ≡ false → block image k ≡ block blocks k) × (out ≡ output)
 agrees past calls remembered blocks flags output linked u le image out is = (
   is.count ∙ linked.count u,
   λ k flag. is.same k (settled_flag flags (past u).loose k (linked.loose u k le) flag) ∙ ap (λ (x : Image). block x k) (linked.now u le),
-  is.given ∙ take_whole output _ (linked.given u le),
+  all_given output (past u) (past (u + 1)) image out (linked.given u le) (linked.given (u + 1) (omega arith)) is,
 )
 
 pub holds_now : (past : ℕ → Moment) (calls remembered : ℕ) (blocks : Image) (flags : List Bool) (output : List ℕ) → Linked past calls remembered blocks flags output
@@ -200,6 +207,8 @@ may_leave_now past calls remembered blocks flags output linked t le = record {
   is = record {
     count = sym (linked.count calls);
     same = λ k is. ap (λ (x : Image). block x k) (sym (linked.now calls (omega arith)));
-    given = sym (take_whole output _ (linked.given calls (omega arith)));
+    more = 0;
+    few = omega arith;
+    given = sym (take_whole output _ (omega (arith, linked.given calls (omega arith))));
   };
 }

@@ -262,6 +262,7 @@ impl Disk for MemHost {
         requires { at < (told_by self.old).size }
         ensures within { Within told_by left_by Nowhere self.old self.new }
         ensures cause { HasCause (told_by self.old) (told_by self.new) result }
+        ensures calm { OnOk result ((told_by self.new).faults ≡ (told_by self.old).faults) }
         ensures bytes { (told_by self.old).tells ≡ true → OnOk result (into.new ≡ block (told_by self.old).now at) }
         ensures counts { (told_by self.old).tells ≡ true → ReadCounts (told_by self.old) (told_by self.new) }
         // A read needs no record.
@@ -289,6 +290,7 @@ impl Disk for MemHost {
         requires { at < (told_by self.old).size }
         ensures within { Within told_by left_by (λ k. k ≡ at) self.old self.new }
         ensures cause { HasCause (told_by self.old) (told_by self.new) result }
+        ensures calm { OnOk result ((told_by self.new).faults ≡ (told_by self.old).faults) }
         ensures bytes { (told_by self.old).tells ≡ true → OnOk result (block (told_by self.new).now at ≡ from.now) }
         ensures counts { (told_by self.old).tells ≡ true → WriteCounts at (is_ok result) (told_by self.old) (told_by self.new) }
         ensures fails { Obeys (Planned (memory self.old)) (0 < (memory self.old).room) result }
@@ -346,6 +348,7 @@ impl Disk for MemHost {
     fn barrier(&mut self) -> Result<(), DiskFault>
         ensures within { Within told_by left_by Nowhere self.old self.new }
         ensures cause { HasCause (told_by self.old) (told_by self.new) result }
+        ensures calm { OnOk result ((told_by self.new).faults ≡ (told_by self.old).faults) }
         ensures counts { (told_by self.old).tells ≡ true → BarrierCounts (is_ok result) (told_by self.old) (told_by self.new) }
         ensures fails { Obeys (Planned (memory self.old)) (0 < (memory self.old).room) result }
         ensures faults { (memory self.new).disk_faults ≡ (if is_ok result then (memory self.old).disk_faults else next (memory self.old).disk_faults) }
@@ -391,6 +394,7 @@ impl Host for MemHost {
         ensures ticks { (told_by self.old).tells ≡ true → Rose (told_by self.old).clock (told_by self.new).clock }
         ensures leaves { Leaves told_by left_by (λ out. out ≡ (told_by self.old).streams.aside) self.old self.new }
         ensures takes { Takes (told_by self.old).tells (told_by self.old).streams (told_by self.new).streams into.new result }
+        ensures calm { OnOk result ((told_by self.new).streams.source_faults ≡ (told_by self.old).streams.source_faults) }
         // A take needs no record.
         ensures fails { IsErr result ↔ Planned (memory self.old) }
         ensures moves { IfOk result (λ n. n ≡ min (min (length into.old) (memory self.old).piece) (length (memory self.old).intake)) }
@@ -422,6 +426,7 @@ impl Host for MemHost {
         ensures ticks { (told_by self.old).tells ≡ true → Rose (told_by self.old).clock (told_by self.new).clock }
         ensures leaves { Leaves told_by left_by (FirstOf (told_by self.old).streams.aside bytes.now (moved result)) self.old self.new }
         ensures gives { Gives (told_by self.old).tells (told_by self.old).streams (told_by self.new).streams bytes.now result }
+        ensures calm { OnOk result ((told_by self.new).streams.sink_faults ≡ (told_by self.old).streams.sink_faults) }
         ensures fails { Obeys (Planned (memory self.old)) ((0 < (memory self.old).room) × (min (length bytes.now) (memory self.old).piece ≤ (memory self.old).room_bytes)) result }
         ensures moves { IfOk result (λ n. n ≡ min (length bytes.now) (memory self.old).piece) }
         ensures faults { (memory self.new).sink_faults ≡ (if is_ok result then (memory self.old).sink_faults else next (memory self.old).sink_faults) }

@@ -38,6 +38,7 @@ impl Disk for MuteHost {
         requires { at < (mute self.old).size }
         ensures within { Within mute mute_left Nowhere self.old self.new }
         ensures cause { HasCause (mute self.old) (mute self.new) result }
+        ensures calm { OnOk result ((mute self.new).faults ≡ (mute self.old).faults) }
         ensures bytes_of { OnOk result (into.new ≡ block (memory self.old.host).blocks at) }
         ensures host { Within told_by left_by Nowhere self.old.host self.new.host }
         ensures fails { IsErr result ↔ Planned (memory self.old.host) }
@@ -49,6 +50,7 @@ impl Disk for MuteHost {
         requires { at < (mute self.old).size }
         ensures within { Within mute mute_left (λ k. k ≡ at) self.old self.new }
         ensures cause { HasCause (mute self.old) (mute self.new) result }
+        ensures calm { OnOk result ((mute self.new).faults ≡ (mute self.old).faults) }
         ensures bytes_of { OnOk result (block (memory self.new.host).blocks at ≡ from.now) }
         ensures host { Within told_by left_by (λ k. k ≡ at) self.old.host self.new.host }
         ensures fails { Obeys (Planned (memory self.old.host)) (0 < (memory self.old.host).room) result }
@@ -59,6 +61,7 @@ impl Disk for MuteHost {
     fn barrier(&mut self) -> Result<(), DiskFault>
         ensures within { Within mute mute_left Nowhere self.old self.new }
         ensures cause { HasCause (mute self.old) (mute self.new) result }
+        ensures calm { OnOk result ((mute self.new).faults ≡ (mute self.old).faults) }
         ensures host { Within told_by left_by Nowhere self.old.host self.new.host }
         ensures settles { BarrierCounts (is_ok result) (told_by self.old.host) (told_by self.new.host) }
         ensures fails { Obeys (Planned (memory self.old.host)) (0 < (memory self.old.host).room) result }
@@ -78,6 +81,7 @@ impl Host for MuteHost {
         ensures disk { SameDisk (mute self.old) (mute self.new) }
         ensures leaves { Leaves mute mute_left (λ out. out ≡ (mute self.old).streams.aside) self.old self.new }
         ensures takes { Takes false (mute self.old).streams (mute self.new).streams into.new result }
+        ensures calm { OnOk result ((mute self.new).streams.source_faults ≡ (mute self.old).streams.source_faults) }
         ensures host { Takes true (told_by self.old.host).streams (told_by self.new.host).streams into.new result }
         ensures fails { IsErr result ↔ Planned (memory self.old.host) }
     {
@@ -89,6 +93,7 @@ impl Host for MuteHost {
         ensures disk { SameDisk (mute self.old) (mute self.new) }
         ensures leaves { Leaves mute mute_left (FirstOf (mute self.old).streams.aside bytes.now (moved result)) self.old self.new }
         ensures gives { Gives false (mute self.old).streams (mute self.new).streams bytes.now result }
+        ensures calm { OnOk result ((mute self.new).streams.sink_faults ≡ (mute self.old).streams.sink_faults) }
         ensures host { Gives true (told_by self.old.host).streams (told_by self.new.host).streams bytes.now result }
         ensures fails { Obeys (Planned (memory self.old.host)) ((0 < (memory self.old.host).room) × (min (length bytes.now) (memory self.old.host).piece ≤ (memory self.old.host).room_bytes)) result }
     {

@@ -9,3 +9,5 @@ pub mod SpareLaws
 pub mod UsedLaws
 pub mod CountLaws
 pub mod PutsLaws
+pub mod HomeLaws
+pub mod MadeLaws

@@ -16,12 +16,24 @@ IsTakeBlockFault (Damaged Bitmap) = Unit {0}
 IsTakeBlockFault NoSpace = Unit {0}
 IsTakeBlockFault _ = ⊥
 
+-- those of a take where no block is free
+abbrev pub IsSpaceFault : OpFault → Type 0
+IsSpaceFault Disk = Unit {0}
+IsSpaceFault NoSpace = Unit {0}
+IsSpaceFault _ = ⊥
+
 -- those of a take of an inode
 abbrev pub IsTakeInodeFault : OpFault → Type 0
 IsTakeInodeFault Disk = Unit {0}
 IsTakeInodeFault (Damaged Counts) = Unit {0}
 IsTakeInodeFault NoNodes = Unit {0}
 IsTakeInodeFault _ = ⊥
+
+-- those of a take where no inode is free
+abbrev pub IsNodesFault : OpFault → Type 0
+IsNodesFault Disk = Unit {0}
+IsNodesFault NoNodes = Unit {0}
+IsNodesFault _ = ⊥
 
 -- those of a give
 abbrev pub IsGiveFault : OpFault → Type 0

@@ -14,3 +14,4 @@ pub mod Inodes
 pub mod Pools
 pub mod Faults
 pub mod Still
+pub mod Counts

@@ -1,5 +1,5 @@
 -- The blocks that one cube owns, and the addresses by which it names them.
-use Rattle.std.specs.Prelude.{◌≡◌, ◌≢◌, ℕ, ◌+◌, ◌*◌, ◌/◌, ◌%◌, ◌<◌, ◌≤◌, Bool, true, false, cond, ◌&&◌, nat_lt, nat_le, ◌==◌, List, [], length, slice_index, refl}
+use Rattle.std.specs.Prelude.{◌≡◌, ◌≢◌, ◌⊎◌, ℕ, ◌+◌, ◌*◌, ◌/◌, ◌%◌, ◌<◌, ◌≤◌, Bool, true, false, cond, ◌&&◌, nat_lt, nat_le, ◌==◌, List, [], length, slice_index, refl}
 use Rattle.std.specs.List.{list_all, list_any}
 use Rattle.ice_base.specs.Disk.{Image, block}
 
@@ -75,6 +75,22 @@ inside lot m a = cond (is_address lot a) (m a) []
 pub inside_out : (lot : LotView) (m : ℕ → List ℕ) (a : ℕ) → is_address lot a ≡ false → inside lot m a ≡ []
 unfolding inside
 inside_out lot m a h = rw h refl
+
+-- a block is the home of this address of the lot
+abbrev pub IsHomeOf : LotView → ℕ → ℕ → Type 0
+IsHomeOf lot a k = (is_address lot a ≡ true) × (k ≡ place lot a)
+
+-- a block is the home of an address of the lot
+abbrev pub IsHome : LotView → ℕ → Type 0
+IsHome lot k = (a : ℕ) × IsHomeOf lot a k
+
+-- a block is the home of one of these addresses
+abbrev pub IsTarget : LotView → List ℕ → ℕ → Type 0
+IsTarget lot targets k = (j : ℕ) × (j < length targets) × IsHomeOf lot (slice_index targets j) k
+
+-- a block is the journal's gate, its header or one of its first n bodies
+abbrev pub IsJournal : LotView → ℕ → ℕ → Type 0
+IsJournal lot n k = (k ≡ gate_place lot) ⊎ (k ≡ header_place lot) ⊎ ((i : ℕ) × (i < n) × (k ≡ body_place lot i))
 
 -- what the blocks of the lot's addresses hold in an image
 abbrev pub homes : LotView → Image → ℕ → List ℕ

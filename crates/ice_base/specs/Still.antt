@@ -1,9 +1,10 @@
--- A disk that is left as it was.
+-- A disk that is left as it was, or but for one home.
 use Rattle.std.specs.Prelude.{◌≡◌, ℕ, true, List, refl}
 use Rattle.std.proofs.Common.{◌∙◌}
 use Rattle.ice_base.specs.Disk.{Image, DiskState, Nowhere}
 use Rattle.ice_base.specs.Frames.{Within}
 use Rattle.ice_base.specs.FrameLaws.{within_refl, within_then}
+use Rattle.ice_base.specs.Lots.{LotView, IsHomeOf}
 
 -- The disk is as it was, but for its counts of faults and its clock, and each crash since leaves it so.
 pub record Still {D : Type 0} (state : D → DiskState) (left : D → ℕ → Image → List ℕ → Type 0) (old new : D) : Type 0 where
@@ -11,6 +12,11 @@ pub record Still {D : Type 0} (state : D → DiskState) (left : D → ℕ → Im
   pub barriers : (state old).tells ≡ true → (state new).barriers ≡ (state old).barriers
   pub writes : (state old).tells ≡ true → (state new).writes ≡ (state old).writes
   pub loose : (state old).tells ≡ true → (k : ℕ) → (state new).loose k ≡ (state old).loose k
+
+-- Only the home of this address was changed or made loose, and no barrier was made.
+pub record PutsHome {D : Type 0} (state : D → DiskState) (left : D → ℕ → Image → List ℕ → Type 0) (lot : LotView) (a : ℕ) (old new : D) : Type 0 where
+  pub within : Within state left (IsHomeOf lot a) old new
+  pub barriers : (state old).tells ≡ true → (state new).barriers ≡ (state old).barriers
 
 module _ {D : Type 0} (state : D → DiskState) (left : D → ℕ → Image → List ℕ → Type 0) where
   pub still_refl : (d : D) → Still state left d d

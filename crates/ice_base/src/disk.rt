@@ -15,6 +15,7 @@ pub enum DiskFault {
 /// A disk of numbered blocks. One that tells its content says what reads give and which blocks are loose,
 /// that is, written since the last good barrier. A crash leaves settled blocks as they read, and anything in loose ones.
 /// One that doesn't tell still keeps every clause that doesn't speak of content.
+/// The count of faults rises at each `Err`, and stays at each `Ok`.
 pub trait Disk {
     /// What the disk holds.
     ghost state: { Self → DiskState };
@@ -31,6 +32,7 @@ pub trait Disk {
         requires { at < (state self.old).size }
         ensures within { Within state left Nowhere self.old self.new }
         ensures cause { HasCause (state self.old) (state self.new) result }
+        ensures calm { OnOk result ((state self.new).faults ≡ (state self.old).faults) }
         ensures bytes { (state self.old).tells ≡ true → OnOk result (into.new ≡ block (state self.old).now at) }
         ensures counts { (state self.old).tells ≡ true → ReadCounts (state self.old) (state self.new) };
 
@@ -39,6 +41,7 @@ pub trait Disk {
         requires { at < (state self.old).size }
         ensures within { Within state left (λ k. k ≡ at) self.old self.new }
         ensures cause { HasCause (state self.old) (state self.new) result }
+        ensures calm { OnOk result ((state self.new).faults ≡ (state self.old).faults) }
         ensures bytes { (state self.old).tells ≡ true → OnOk result (block (state self.new).now at ≡ from.now) }
         ensures counts { (state self.old).tells ≡ true → WriteCounts at (is_ok result) (state self.old) (state self.new) };
 
@@ -46,6 +49,7 @@ pub trait Disk {
     fn barrier(&mut self) -> Result<(), DiskFault>
         ensures within { Within state left Nowhere self.old self.new }
         ensures cause { HasCause (state self.old) (state self.new) result }
+        ensures calm { OnOk result ((state self.new).faults ≡ (state self.old).faults) }
         ensures counts { (state self.old).tells ≡ true → BarrierCounts (is_ok result) (state self.old) (state self.new) };
 
     /// At each moment a crash leaves what reads give, but for the loose blocks, and the bytes given out by then.

@@ -6,7 +6,7 @@ ghost use Rattle.ice_base.specs.Spare.{lacks, FitsAny};
 ghost use Rattle.ice_base.specs.Views.{Looked, Spent};
 ghost use Rattle.ice_base.specs.Used.{used, AllUsed, free_count, is_data, Reserved, counted, bitmap_of};
 ghost use Rattle.ice_base.specs.Pools.{TookBlock, TookInode, GaveBlock, GaveInode, PutsFor, PutsInOne};
-ghost use Rattle.ice_base.specs.Faults.{IsDiskFault, IsTakeBlockFault, IsTakeInodeFault, IsGiveFault};
+ghost use Rattle.ice_base.specs.Faults.{IsDiskFault, IsSpaceFault, IsNodesFault, IsTakeBlockFault, IsTakeInodeFault, IsGiveFault};
 ghost use Rattle.ice_base.specs.declared.fault.Rule.{Rule};
 ghost use Rattle.ice_base.specs.declared.fault.Rule.TheVariants.{Counts, Bitmap};
 ghost use Rattle.ice_base.specs.declared.fault.OpFault.TheVariants.{Disk as FaultDisk, Damaged, NoSpace, NoNodes};
@@ -16,7 +16,7 @@ use crate::{Disk, Keep, Lot, OpFault};
 /// The free blocks and inodes of a lot, as the bitmaps of a keep's map say.
 /// A take or a give puts the sub-super block and the bitmap block of one group. Where it refuses, but for the disk, it puts nothing.
 pub trait Pool<D: Disk, K: Keep<D>> {
-    /// Takes the least free block. NoSpace: none is free. Damaged: it is no data place, or the count of used blocks can't grow.
+    /// Takes the least free block. NoSpace, exactly: none is free. Damaged: it is no data place, or the count of used blocks can't grow.
     fn take_block(&mut self, keep: &mut K, disk: &mut D, lot: &Lot) -> Result<u32, OpFault>
         requires sited { is_sited lot.now (D.state disk.old).size ≡ true }
         requires room { FitsAny (K.held keep.old) (K.room keep.old) lot.now }
@@ -25,6 +25,7 @@ pub trait Pool<D: Disk, K: Keep<D>> {
         ensures puts { IfOk result (λ a. PutsFor K.View lot.now true false a keep.old disk.old keep.new disk.new) }
         ensures broken { OnErr result (PutsInOne K.View lot.now keep.old disk.old keep.new disk.new) }
         ensures spent { Spent D.Disk K.View lot.now 2 keep.old disk.old keep.new disk.new }
+        ensures exact { K.shows lot.now keep.old disk.old → AllUsed false lot.now (K.map keep.old disk.old lot.now) → IfErr result IsSpaceFault }
         ensures none { IsErrOf result NoSpace → K.shows lot.now keep.old disk.old → AllUsed false lot.now (K.map keep.old disk.old lot.now) }
         ensures full { IsErrOf result (Damaged Counts) → K.shows lot.now keep.old disk.old → counted false (K.map keep.old disk.old lot.now) ≡ 2 ^ 32 - 1 }
         ensures unreserved { IsErrOf result (Damaged Bitmap) → K.shows lot.now keep.old disk.old → ¬ Reserved lot.now (K.map keep.old disk.old lot.now) }
@@ -47,7 +48,7 @@ pub trait Pool<D: Disk, K: Keep<D>> {
         ensures faults { IfErr result IsGiveFault }
         ensures failed { IsErrOf result FaultDisk → Rose (D.state disk.old).faults (D.state disk.new).faults };
 
-    /// Takes the least free inode. NoNodes: none is free. Damaged: the count of used inodes can't grow.
+    /// Takes the least free inode. NoNodes, exactly: none is free. Damaged: the count of used inodes can't grow.
     fn take_inode(&mut self, keep: &mut K, disk: &mut D, lot: &Lot) -> Result<u32, OpFault>
         requires sited { is_sited lot.now (D.state disk.old).size ≡ true }
         requires room { FitsAny (K.held keep.old) (K.room keep.old) lot.now }
@@ -56,6 +57,7 @@ pub trait Pool<D: Disk, K: Keep<D>> {
         ensures puts { IfOk result (λ a. PutsFor K.View lot.now true true a keep.old disk.old keep.new disk.new) }
         ensures broken { OnErr result (PutsInOne K.View lot.now keep.old disk.old keep.new disk.new) }
         ensures spent { Spent D.Disk K.View lot.now 2 keep.old disk.old keep.new disk.new }
+        ensures exact { K.shows lot.now keep.old disk.old → AllUsed true lot.now (K.map keep.old disk.old lot.now) → IfErr result IsNodesFault }
         ensures none { IsErrOf result NoNodes → K.shows lot.now keep.old disk.old → AllUsed true lot.now (K.map keep.old disk.old lot.now) }
         ensures full { IsErrOf result (Damaged Counts) → K.shows lot.now keep.old disk.old → counted true (K.map keep.old disk.old lot.now) ≡ 2 ^ 32 - 1 }
         ensures looked { IsErrOf result NoNodes → Looked D.Disk K.View lot.now keep.old disk.old keep.new disk.new }

@@ -3,6 +3,7 @@ ghost use Rattle.std.specs.Prelude.{◌≡◌, Bool, true, false, List, [], ℕ,
 ghost use Rattle.ice_base.specs.Disk.{Rose};
 ghost use Rattle.ice_base.specs.Looks.{LookedBy};
 ghost use Rattle.ice_base.specs.Lots.{LotView, is_address, is_sited};
+ghost use Rattle.ice_base.specs.Still.{Still};
 ghost use Rattle.ice_base.specs.declared.fault.BlockFault.TheVariants.{Disk as FaultDisk, Range};
 
 use crate::{Block, BlockFault, Disk, Lot};
@@ -24,11 +25,12 @@ pub trait View<D: Disk> {
     /// For a lot, what stays between a view and disk at one moment and at a later one.
     ghost steady: { LotView → Self → D → Self → D → Type 0 };
 
-    /// Reads the block of an address. After an `Err` any bytes may stand in `into`.
+    /// Reads the block of an address. It leaves the disk as it was. After an `Err` any bytes may stand in `into`.
     fn get(&mut self, disk: &mut D, lot: &Lot, at: u32, into: &mut Block) -> Result<(), BlockFault>
         requires { is_sited lot.now (D.state disk.old).size ≡ true }
         ensures content { shows lot.now self.old disk.old → OnOk result (into.new ≡ map self.old disk.old lot.now at) }
         ensures looked { LookedBy D.state map shows held room steady lot.now self.old disk.old self.new disk.new }
+        ensures still { Still D.state D.left disk.old disk.new }
         ensures good { OnOk result (is_address lot.now at ≡ true) }
         ensures range { IsErrOf result Range → is_address lot.now at ≡ false }
         ensures placed { IsErrOf result FaultDisk → is_address lot.now at ≡ true }

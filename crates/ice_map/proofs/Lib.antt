@@ -9,3 +9,4 @@ pub mod CutLaws
 pub mod DamageLaws
 pub mod UsesLaws
 pub mod GrowLaws
+pub mod ShortLaws

@@ -18,6 +18,13 @@ IsGrowFault (Damaged Bitmap) = Unit {0}
 IsGrowFault NoSpace = Unit {0}
 IsGrowFault _ = ⊥
 
+-- those of a growth where too few blocks are free
+abbrev pub IsShortFault : OpFault → Type 0
+IsShortFault Disk = Unit {0}
+IsShortFault (Damaged Pointer) = Unit {0}
+IsShortFault NoSpace = Unit {0}
+IsShortFault _ = ⊥
+
 -- those of a cut
 abbrev pub IsCutFault : OpFault → Type 0
 IsCutFault Disk = Unit {0}

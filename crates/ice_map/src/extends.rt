@@ -11,7 +11,7 @@ ghost use Rattle.ice_base.specs.Used.{is_data, used_block, bitmap_of, counted, f
 ghost use Rattle.ice_base.specs.Views.{Looked, Spent, Puts};
 ghost use Rattle.ice_base.specs.declared.fault.OpFault.TheVariants.{Disk as FaultDisk, Damaged, NoSpace};
 ghost use Rattle.ice_base.specs.declared.fault.Rule.TheVariants.{Counts, Pointer, Bitmap};
-ghost use Rattle.ice_map.specs.Faults.{IsGrowFault};
+ghost use Rattle.ice_map.specs.Faults.{IsGrowFault, IsShortFault};
 ghost use Rattle.ice_map.specs.Maps.{longest, indirect_of, needs, growth, growth_puts, GrowthFailed, widened, Marked, Stays, OthersStay, TookTwo, Grown};
 
 use crate::codec::Inode;
@@ -47,6 +47,7 @@ fn extend_direct<D: Disk, K: Keep<D>, P: Pool<D, K>>(
     ensures broken { OnErr result (GrowthFailed K.View lot.now inode.old count keep.old disk.old keep.new disk.new) }
     ensures stays { K.shows lot.now keep.old disk.old → Stays lot.now (K.map keep.old disk.old lot.now) (K.map keep.new disk.new lot.now) (indirect_of inode.old count) }
     ensures spent { Spent D.Disk K.View lot.now 6 keep.old disk.old keep.new disk.new }
+    ensures exact { K.shows lot.now keep.old disk.old → free_count false lot.now (K.map keep.old disk.old lot.now) < needs count → IfErr result IsShortFault }
     ensures none { IsErrOf result NoSpace → K.shows lot.now keep.old disk.old → free_count false lot.now (K.map keep.old disk.old lot.now) < needs count }
     ensures full { IsErrOf result (Damaged Counts) → K.shows lot.now keep.old disk.old → 2 ^ 32 ≤ counted false (K.map keep.old disk.old lot.now) + needs count }
     ensures unreserved { IsErrOf result (Damaged Bitmap) → K.shows lot.now keep.old disk.old → ¬ Reserved lot.now (K.map keep.old disk.old lot.now) }
@@ -140,6 +141,7 @@ fn extend_first<D: Disk, K: Keep<D>, P: Pool<D, K>>(
     ensures broken { OnErr result (GrowthFailed K.View lot.now inode.old count keep.old disk.old keep.new disk.new) }
     ensures stays { K.shows lot.now keep.old disk.old → Stays lot.now (K.map keep.old disk.old lot.now) (K.map keep.new disk.new lot.now) (indirect_of inode.old count) }
     ensures spent { Spent D.Disk K.View lot.now 6 keep.old disk.old keep.new disk.new }
+    ensures exact { K.shows lot.now keep.old disk.old → free_count false lot.now (K.map keep.old disk.old lot.now) < needs count → IfErr result IsShortFault }
     ensures none { IsErrOf result NoSpace → K.shows lot.now keep.old disk.old → free_count false lot.now (K.map keep.old disk.old lot.now) < needs count }
     ensures full { IsErrOf result (Damaged Counts) → K.shows lot.now keep.old disk.old → 2 ^ 32 ≤ counted false (K.map keep.old disk.old lot.now) + needs count }
     ensures unreserved { IsErrOf result (Damaged Bitmap) → K.shows lot.now keep.old disk.old → ¬ Reserved lot.now (K.map keep.old disk.old lot.now) }
@@ -183,6 +185,7 @@ fn extend_single<D: Disk, K: Keep<D>, P: Pool<D, K>>(
     ensures broken { OnErr result (GrowthFailed K.View lot.now inode.old count keep.old disk.old keep.new disk.new) }
     ensures stays { K.shows lot.now keep.old disk.old → Stays lot.now (K.map keep.old disk.old lot.now) (K.map keep.new disk.new lot.now) (indirect_of inode.old count) }
     ensures spent { Spent D.Disk K.View lot.now 6 keep.old disk.old keep.new disk.new }
+    ensures exact { K.shows lot.now keep.old disk.old → free_count false lot.now (K.map keep.old disk.old lot.now) < needs count → IfErr result IsShortFault }
     ensures none { IsErrOf result NoSpace → K.shows lot.now keep.old disk.old → free_count false lot.now (K.map keep.old disk.old lot.now) < needs count }
     ensures full { IsErrOf result (Damaged Counts) → K.shows lot.now keep.old disk.old → 2 ^ 32 ≤ counted false (K.map keep.old disk.old lot.now) + needs count }
     ensures unreserved { IsErrOf result (Damaged Bitmap) → K.shows lot.now keep.old disk.old → ¬ Reserved lot.now (K.map keep.old disk.old lot.now) }
@@ -203,7 +206,7 @@ fn extend_single<D: Disk, K: Keep<D>, P: Pool<D, K>>(
 
 /// Gives a map of `count` blocks one more, which is answered: the least free block, and with the first block past the direct ones
 /// the least free block after that as the indirect block. The inode is the caller's to put.
-/// NoSpace: fewer blocks are free than that takes. Damaged: the count of used blocks can't grow so far, or the least free block is no data place, or the indirect block is none.
+/// NoSpace, exactly: fewer blocks are free than that takes, and the pointer to the indirect block is none that is damaged. Damaged: the count of used blocks can't grow so far, or the least free block is no data place, or the indirect block is none.
 pub fn extend<D: Disk, K: Keep<D>, P: Pool<D, K>, F: Form>(
     keep: &mut K,
     pool: &mut P,
@@ -225,6 +228,7 @@ pub fn extend<D: Disk, K: Keep<D>, P: Pool<D, K>, F: Form>(
     ensures stays { K.shows lot.now keep.old disk.old → Stays lot.now (K.map keep.old disk.old lot.now) (K.map keep.new disk.new lot.now) (indirect_of inode.old count) }
     ensures others { K.shows lot.now keep.old disk.old → OthersStay lot.now (K.map keep.old disk.old lot.now) (K.map keep.new disk.new lot.now) inode.old count }
     ensures spent { Spent D.Disk K.View lot.now 6 keep.old disk.old keep.new disk.new }
+    ensures exact { K.shows lot.now keep.old disk.old → free_count false lot.now (K.map keep.old disk.old lot.now) < needs count → IfErr result IsShortFault }
     ensures none { IsErrOf result NoSpace → K.shows lot.now keep.old disk.old → free_count false lot.now (K.map keep.old disk.old lot.now) < needs count }
     ensures full { IsErrOf result (Damaged Counts) → K.shows lot.now keep.old disk.old → 2 ^ 32 ≤ counted false (K.map keep.old disk.old lot.now) + needs count }
     ensures unreserved { IsErrOf result (Damaged Bitmap) → K.shows lot.now keep.old disk.old → ¬ Reserved lot.now (K.map keep.old disk.old lot.now) }

@@ -1,10 +1,11 @@
 -- Cases of blocks and inodes.
 use Rattle.std.proofs.Common.{◌≡◌, ◌<◌, ◌≤◌, ◌+◌, ◌-◌, ◌*◌, ◌%◌, ◌≢◌, ◌==◌, ℕ, Bool, true, false, cond, not, List, length, subst, sym, ap, ◌∙◌, arith}
+use Rattle.std.proofs.lemmas.Bool.{false≢true}
 use Rattle.ice_base.specs.Bits.{bit_of, count_below, IsLeast, Takes, Gives}
 use Rattle.ice_base.specs.Fields.{WordSet}
 use Rattle.ice_base.specs.Pools.{Took, Gave}
 use Rattle.ice_base.specs.Lots.{LotView, sub_address}
-use Rattle.ice_base.specs.Used.{used, bits_of, bit_index, bit_place, bitmap_of, Reserved, count_place, counted}
+use Rattle.ice_base.specs.Used.{used, bits_of, bit_index, bit_place, bitmap_of, AllUsed, Reserved, count_place, counted}
 use Rattle.ice_base.specs.declared.fault.OpFault.{OpFault}
 use Rattle.ice_base.specs.declared.fault.OpFault.TheVariants.{Disk, Damaged}
 use Rattle.ice_base.specs.declared.fault.Rule.TheVariants.{Counts}
@@ -54,6 +55,17 @@ bits_few false = omega arith
 pub unreserved_at : (inodes : Bool) (lot : LotView) (map : ℕ → List ℕ) (block : List ℕ) (o i : ℕ) → inodes ≡ false → block ≡ map (256 * o) → o < length lot.groups → i < 9 → bit_of block (bit_index inodes i) ≡ false → ¬ Reserved lot map
 unreserved_at true lot map block o i f e h p clear = absurd cc
 unreserved_at false lot map block o i f e h p clear = unreserved lot map block o i e h p clear
+
+number_below : (inodes : Bool) (n o i : ℕ) → o < n → i < bits_of inodes → bits_of inodes * o + i < bits_of inodes * n
+number_below true n o i h l = omega arith
+number_below false n o i h l = omega arith
+
+-- where one is clear, not all are used
+pub not_all : (inodes : Bool) (lot : LotView) (map : ℕ → List ℕ) (block : List ℕ) (o i : ℕ) → block ≡ map (256 * o) → o < length lot.groups → i < bits_of inodes → bit_of block (bit_index inodes i) ≡ false → ¬ AllUsed inodes lot map
+not_all inodes lot map block o i e h l clear all =
+    let set = all (bits_of inodes * o + i) (number_below inodes (length lot.groups) o i h l) in
+    let bit = used-at inodes map o i l ∙ ap (λ x. bit_of x (bit_index inodes i)) (sym e) ∙ clear in
+    false≢true (sym bit ∙ set)
 
 -- a bit that was read says whether it is used
 pub bit_used : (inodes : Bool) (map : ℕ → List ℕ) (block : List ℕ) (i p : ℕ) (v : Bool) → bit_of block (bit_index inodes p) ≡ v → p ≡ i % bits_of inodes → block ≡ map (bitmap_of inodes i) → used inodes map i ≡ v

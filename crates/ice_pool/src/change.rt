@@ -11,7 +11,7 @@ ghost use Rattle.ice_base.specs.Pools.{Took, Gave, PutsFor, PutsInOne};
 ghost use Rattle.ice_base.specs.declared.fault.Rule.{Rule};
 ghost use Rattle.ice_base.specs.declared.fault.OpFault.TheVariants.{Disk as FaultDisk, Damaged};
 ghost use Rattle.ice_base.specs.declared.fault.Rule.TheVariants.{Counts, Bitmap};
-ghost use Rattle.ice_pool.specs.Either.{absent, IsTakeFault, IsCountFault};
+ghost use Rattle.ice_pool.specs.Either.{absent, IsTakeFault, IsAbsentFault, IsCountFault};
 
 use crate::find::find;
 use ice_base::{
@@ -115,6 +115,7 @@ pub fn take<D: Disk, K: Keep<D>>(
     ensures puts { IfOk result (λ i. PutsFor K.View lot.now true inodes i keep.old disk.old keep.new disk.new) }
     ensures broken { OnErr result (PutsInOne K.View lot.now keep.old disk.old keep.new disk.new) }
     ensures spent { Spent D.Disk K.View lot.now 2 keep.old disk.old keep.new disk.new }
+    ensures exact { K.shows lot.now keep.old disk.old → AllUsed inodes lot.now (K.map keep.old disk.old lot.now) → IfErr result (IsAbsentFault inodes) }
     ensures none { IsErrOf result (absent inodes) → K.shows lot.now keep.old disk.old → AllUsed inodes lot.now (K.map keep.old disk.old lot.now) }
     ensures full { IsErrOf result (Damaged Counts) → K.shows lot.now keep.old disk.old → counted inodes (K.map keep.old disk.old lot.now) ≡ 2 ^ 32 - 1 }
     ensures unreserved { IsErrOf result (Damaged Bitmap) → K.shows lot.now keep.old disk.old → ¬ Reserved lot.now (K.map keep.old disk.old lot.now) }

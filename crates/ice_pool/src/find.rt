@@ -9,7 +9,7 @@ ghost use Rattle.ice_base.specs.Used.{used, bits_of, bitmap_of, AllUsed, free_co
 ghost use Rattle.ice_base.specs.declared.fault.OpFault.{OpFault};
 ghost use Rattle.ice_base.specs.declared.fault.OpFault.TheVariants.{Disk as FaultDisk, Damaged};
 ghost use Rattle.ice_base.specs.declared.fault.Rule.TheVariants.{Counts, Bitmap};
-ghost use Rattle.ice_pool.specs.Either.{absent, IsTakeFault};
+ghost use Rattle.ice_pool.specs.Either.{absent, IsTakeFault, IsAbsentFault};
 
 use ice_base::{Block, Disk, Lot, OpFault, Rule, View, fetch};
 use ice_bits::{bits, count, first_clear};
@@ -52,6 +52,7 @@ pub fn find<D: Disk, V: View<D>>(
     ensures data { inodes ≡ false → IfOk result (λ a. is_data lot.now a ≡ true) }
     ensures least { V.shows lot.now view.old disk.old → IfOk result (IsLeast (used inodes (V.map view.old disk.old lot.now))) }
     ensures block { V.shows lot.now view.old disk.old → IfOk result (λ i. block.new ≡ V.map view.old disk.old lot.now (bitmap_of inodes i)) }
+    ensures exact { V.shows lot.now view.old disk.old → AllUsed inodes lot.now (V.map view.old disk.old lot.now) → IfErr result (IsAbsentFault inodes) }
     ensures none { IsErrOf result (absent inodes) → V.shows lot.now view.old disk.old → AllUsed inodes lot.now (V.map view.old disk.old lot.now) }
     ensures unreserved { IsErrOf result (Damaged Bitmap) → V.shows lot.now view.old disk.old → ¬ Reserved lot.now (V.map view.old disk.old lot.now) }
     ensures no_counts { ¬ IsErrOf result (Damaged Counts) }

@@ -1,7 +1,8 @@
-use Rattle.std.proofs.Common.{refl}
+use Rattle.std.proofs.Common.{refl, rules, arith}
 use Rattle.ice_base.proofs.LotLaws.{sited-few}
 use Rattle.ice_map.proofs.GrowLaws.{stays-none, grown-direct}
 use Rattle.ice_map.proofs.FailLaws.{on-err, failed-one}
+use Rattle.ice_map.proofs.ShortLaws.{short_all, short_laws}
 use Rattle.ice_map.proofs.extends.extend_direct.Goals as goal
 
 pub returns-in_err-taken-clause-stays : goal.returns-in_err-taken-clause-stays
@@ -20,3 +21,6 @@ pub returns-in_err-taken-clause-broken : goal.returns-in_err-taken-clause-broken
 returns-in_err-taken-clause-broken g c =
     let p = c.in_err-taken.ensures.broken in
     on-err _ _ (failed-one g.K.View c.args.lot.now c.args.inode.now c.args.count p.0 _ _ _ _ p.2)
+
+pub returns-in_err-taken-clause-exact : goal.returns-in_err-taken-clause-exact
+returns-in_err-taken-clause-exact g c = λ s few. let e = c.in_err-taken.ensures.exact s (short_all c.args.lot.now (g.K.View.map c.args.keep.now c.args.disk.now c.args.lot.now) c.args.count (omega (arith, c.requires.short)) few) in search (rules, short_laws)

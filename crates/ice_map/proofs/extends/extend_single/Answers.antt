@@ -1,8 +1,11 @@
-use Rattle.std.proofs.Common.{◌∙◌}
+use Rattle.std.proofs.Common.{rules, ◌<◌, ℕ, List, false, sym, ◌∙◌, subst, arith}
+use Rattle.ice_base.specs.Used.{free_count}
 use Rattle.ice_base.proofs.LotLaws.{sited-few}
+use Rattle.ice_map.specs.Maps.{needs}
 use Rattle.ice_map.proofs.GrowLaws.{stays-none, stays-own, stays-from, grown-single, grown-from}
 use Rattle.ice_base.proofs.PutsLaws.{puts_after}
 use Rattle.ice_map.proofs.FailLaws.{on-err, failed-one, failed-at_once}
+use Rattle.ice_map.proofs.ShortLaws.{short_all, short_laws}
 use Rattle.ice_map.proofs.extends.extend_single.Goals as goal
 
 pub returns-in_err-taken-clause-stays : goal.returns-in_err-taken-clause-stays
@@ -46,3 +49,10 @@ returns-in_err-taken-clause-broken g c =
     let p = c.in_err-taken.ensures.broken in
     on-err _ _ (failed-one g.K.View c.args.lot.now c.args.inode.now c.args.count p.0 _ _ _ _
     (puts_after g.D.Disk g.K.View c.args.lot.now _ _ _ _ _ _ _ _ c.fetch.ensures.looked p.2))
+
+pub returns-in_err-taken-clause-exact : goal.returns-in_err-taken-clause-exact
+returns-in_err-taken-clause-exact g c = λ s few.
+    let m = c.fetch.ensures.looked.map in
+    let now = subst (λ (m : ℕ → List ℕ). free_count false c.args.lot.now m < needs c.args.count) (sym m) few in
+    let all = short_all c.args.lot.now (g.K.View.map c.fetch.new.view c.fetch.new.disk c.args.lot.now) c.args.count (omega (arith, c.requires.long)) now in
+    let e = c.in_err-taken.ensures.exact (c.fetch.ensures.looked.shows s) all in search (rules, short_laws)

@@ -1,7 +1,7 @@
 use Rattle.std.proofs.Common.{rules, arith}
 use Rattle.std.proofs.lemmas.Grind.{common_steps}
 use Rattle.ice_base.proofs.UsedLaws.{group_least, group_full}
-use Rattle.ice_pool.proofs.EitherLaws.{unreserved_at}
+use Rattle.ice_pool.proofs.EitherLaws.{unreserved_at, not_all}
 use Rattle.ice_pool.proofs.find.find.Goals as goal
 
 pub returns-in-Some-clause-least : goal.returns-in-Some-clause-least
@@ -27,3 +27,10 @@ returns-then-i-lt9-clause-unreserved g c = λ _ t.
     let e = c.in_ok-fetch.ensures.content (c.loop-ordinal.invariant.looked.shows t) in
     unreserved_at c.args.inodes c.args.lot.now (g.V.View.map c.args.view.now c.args.disk.now c.args.lot.now) c.fetch.new.into c.loop-ordinal.ordinal c.in-Some.i
     (search rules) (cc) (omega arith) (omega arith) c.in-Some.ensures.clear
+
+pub returns-then-i-lt9-clause-exact : goal.returns-then-i-lt9-clause-exact
+returns-then-i-lt9-clause-exact g c = λ t all.
+    let m = c.loop-ordinal.invariant.looked.map in
+    let e = c.in_ok-fetch.ensures.content (c.loop-ordinal.invariant.looked.shows t) in
+    absurd (not_all c.args.inodes c.args.lot.now (g.V.View.map c.args.view.now c.args.disk.now c.args.lot.now) c.fetch.new.into c.loop-ordinal.ordinal c.in-Some.i
+    (cc) (omega arith) c.in-Some.ensures.small c.in-Some.ensures.clear all)

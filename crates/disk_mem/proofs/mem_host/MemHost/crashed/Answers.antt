@@ -1,4 +1,4 @@
-use Rattle.std.proofs.Common.{sym, subst, List, arith}
+use Rattle.std.proofs.Common.{sym, subst, ◌+◌, List, arith}
 use Rattle.ice_base.specs.Disk.{Image}
 use Rattle.disk_mem.specs.Memory.{fresh, past_of, after}
 use Rattle.disk_mem.specs.Crash.{Shows, LeavesFilled}
@@ -18,5 +18,5 @@ returns-clause-left c = let self = c.args.self.now in record {
   moment = c.args.moment;
   from = omega arith;
   until = c.requires;
-  is = filled_left c.args.fill (past_of self.first.items self.steps.items c.args.moment) c.in_ok-host.host.blocks.items self.output.items (returns-clause-filled c);
+  is = filled_left c.args.fill (past_of self.first.items self.steps.items c.args.moment) (past_of self.first.items self.steps.items (c.args.moment + 1)) c.in_ok-host.host.blocks.items self.output.items (returns-clause-filled c);
 }

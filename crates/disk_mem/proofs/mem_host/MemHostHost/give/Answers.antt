@@ -1,7 +1,7 @@
 use Rattle.std.proofs.Common.{arith, refl, sym, ◌∙◌, subst, inl, inr, ⊎_elim, take, length, ◌+◌, List, ℕ}
 use Rattle.std.proofs.lemmas.List.{append-nil}
 use Rattle.disk_mem.specs.Memory.{Linked, LeftSince, past_of}
-use Rattle.disk_mem.proofs.Past.{grows, linked_pass, pass_left, pass_kept, linked_give, give_left, give_kept, give_settled}
+use Rattle.disk_mem.proofs.Past.{grows, linked_pass, pass_left, pass_kept, linked_give, give_left, give_kept, give_settled, some_first}
 use Rattle.disk_mem.specs.declared.step.Step.{Step}
 use Rattle.disk_mem.specs.declared.step.Step.TheVariants.{Give}
 use Rattle.disk_mem.proofs.mem_host.MemHostHost.give.Goals as goal
@@ -29,7 +29,7 @@ returns-in-Ok-clause-leaves c = let self = c.args.self.now in let d = c.saturati
     let more = take c.min-n.result c.args.bytes.now in
     let grown = grows self.first.items self.steps.items c.add.new.steps.items (Give self.calls (length self.output.items + length more)) self.calls refl c.in-Ok.ensures.noted in
     record {
-      left_new = λ t i o l. ⊎_elim (λ before. inl before) (λ now. inr (record { count = now.0; same = λ k inside flag. now.1 k flag }, (c.min-n.result, omega arith, now.2)))
+      left_new = λ t i o l. ⊎_elim (λ before. inl before) (λ now. inr (record { count = now.0; same = λ k inside flag. now.1 k flag }, some_first self.output.items c.args.bytes.now c.min-n.result o (omega arith) now.2))
           (give_left _ _ _ _ _ _ self.linked (past_of self.first.items c.add.new.steps.items) d more c.add.new.output.items grown c.in-Ok.ensures.added t i o l);
       left_old = λ t i o l. give_kept _ _ _ _ _ _ self.linked (past_of self.first.items c.add.new.steps.items) d more c.add.new.output.items grown c.in-Ok.ensures.added (omega arith) t i o l;
     }
