@@ -1,5 +1,5 @@
 -- What a removal of one row does.
-use Rattle.std.proofs.Common.{◌≡◌, ◌≢◌, ◌≤◌, ◌<◌, ◌+◌, ◌-◌, ◌*◌, ◌/◌, ◌%◌, ℕ, true, false, cond, ◌&&◌, nat_lt, nat_le, List, [], ◌∷◌, length, length-append, slice_index, ◌∙◌, sym, refl, ap, subst, arith}
+use Rattle.std.proofs.Common.{◌≡◌, ◌≢◌, ◌≤◌, ◌<◌, ◌+◌, ◌-◌, ◌*◌, ◌/◌, ◌%◌, ℕ, true, false, cond, ◌&&◌, nat_lt, nat_le, List, [], ◌∷◌, length, length-append, slice_index, ◌∙◌, sym, refl, ap, subst, inl, inr, ⊎_elim, arith, ltb}
 use Rattle.std.proofs.lemmas.Bool.Decides.{nat_tests}
 use Rattle.std.proofs.lemmas.Nat.{div-add-mod', mod_below}
 use Rattle.std.specs.List.{swap_remove, position_or_len}
@@ -10,24 +10,23 @@ use Rattle.ice_base.specs.Spare.{has}
 use Rattle.ice_base.specs.Used.{is_data, used_block, count_place, counted, free_count}
 use Rattle.ice_map.specs.declared.codec.Inode.{Inode}
 use Rattle.ice_map.specs.Inodes.{inode_at, inode_of, InodeSet}
-use Rattle.ice_map.specs.Maps.{nth_block, blocks_between, leads, cut_off, cut_room, shortened, Stays, Cut, OwnsOnce, Placed}
+use Rattle.ice_map.specs.Maps.{nth_block, blocks_between, uses, times, cut_off, cut_room, shortened, Stays, Cut, FreeOrTwice, Misleads}
 use Rattle.ice_map.proofs.CutLaws.{length-between}
 use Rattle.ice_map.proofs.GrowLaws.{inode_not_bitmap, inode_not_data, inode_not_sub}
 use Rattle.ice_map.proofs.MarkLaws.{data_not_bitmap, data_not_sub, used-same, free-same}
-use Rattle.ice_file.specs.Own.{MadeOf}
-use Rattle.ice_file.specs.Writes.{Reached, content_of, uses_of}
-use Rattle.ice_file.proofs.CutLaws.{cut-moved, cut-contents, cut-once}
-use Rattle.ice_file.proofs.MoveLaws.{had-reached, made-leads}
+use Rattle.ice_map.proofs.UsesLaws.{cut-same, off-free, times-has}
+use Rattle.ice_file.specs.Own.{MadeOf, Confuses}
+use Rattle.ice_file.specs.Writes.{Moved, Reached, content_of, uses_of}
+use Rattle.ice_file.proofs.CutLaws.{cut-moved, cut-contents}
+use Rattle.ice_file.proofs.GrowthLaws.{Unmixed, unmixed-one, misled-here}
+use Rattle.ice_file.proofs.MoveLaws.{had-reached}
 use Rattle.ice_file.proofs.SetLaws.{resized}
-use Rattle.ice_dir.specs.Changes.{dir_blocks, RowPut, DirSet, EntryGone}
-use Rattle.ice_dir.specs.Rows.{Row, per_block, place_of, row_at, row_of, rows_of, named, without, FirstNamed, IsDirectory}
+use Rattle.ice_dir.specs.Changes.{dir_blocks, RowPut, DirSet, TextTaken, EntryGone}
+use Rattle.ice_dir.specs.Rows.{Row, per_block, place_of, row_bytes, entry_bytes, row_of, rows_of, named, FirstNamed, IsDirectory}
 use Rattle.ice_dir.proofs.DirLaws.{per-sixteen, position-found, rows-read}
-use Rattle.ice_dir.proofs.PutLaws.{dir-sixteenth, row-inside, row-put, dir-taken}
+use Rattle.ice_dir.proofs.PutLaws.{dir-sixteenth, row-inside, row-put, dir-taken, text-taken}
 
--- the block of a row of a well-made directory leads to a data place
-pub row-leads : (lot : LotView) (entry : ℕ) (m : ℕ → List ℕ) (x : Inode) (k per : ℕ) → entry ≡ 64 → MadeOf lot m x (dir_blocks entry x.size) → k < x.size → per ≡ per_block entry → leads lot m x (k / per) ≡ true
-row-leads lot entry m x k per e made h p = ap (λ n. leads lot m x (k / n)) p ∙ made-leads lot m x (dir_blocks entry x.size) (k / per_block entry) made (row-inside entry x.size k e h)
-
+-- a block of the rows of a directory is one of its map
 pub block-inside : (entry size n : ℕ) → entry ≡ 64 → n * per_block entry < size → n < dir_blocks entry size
 block-inside entry size n e h =
     let l = dir-sixteenth entry size e in
@@ -37,22 +36,19 @@ block-inside entry size n e h =
     let q : n * 16 < size = omega (arith, p, h) in
     omega (arith, l, b, s, q)
 
-pub block-leads : (lot : LotView) (entry : ℕ) (m : ℕ → List ℕ) (x : Inode) (n : ℕ) → entry ≡ 64 → MadeOf lot m x (dir_blocks entry x.size) → n * per_block entry < x.size → leads lot m x n ≡ true
-block-leads lot entry m x n e made h = made-leads lot m x (dir_blocks entry x.size) n made (block-inside entry x.size n e h)
-
 -- the last row was copied over row k
 pub row-moved : (lot : LotView) (entry : ℕ) (m0 ma mb m2 : ℕ → List ℕ) (x : Inode) (k per at p q : ℕ) (from old new : List ℕ) → entry ≡ 64 → MadeOf lot m0 x (dir_blocks entry x.size) → length lot.groups ≤ 64 → k < x.size → per ≡ per_block entry → ma ≡ m0 → mb ≡ ma
     → from ≡ content_of m0 x ((x.size - 1) / per) → old ≡ content_of ma x (k / per) → at ≡ nth_block ma x (k / per) → length old ≡ 1024 → length new ≡ 1024 → p ≡ place_of entry k → q ≡ place_of entry (x.size - 1)
-    → SameBeside p entry old new → row_at entry new p ≡ row_at entry from q → m2 at ≡ new → ((b : ℕ) → b ≢ at → m2 b ≡ mb b)
-    → RowPut lot entry m0 m2 x x (dir_blocks entry x.size) (dir_blocks entry x.size) k (row_of entry m0 x (x.size - 1))
+    → SameBeside p entry old new → row_bytes entry new p ≡ row_bytes entry from q → m2 at ≡ new → ((b : ℕ) → b ≢ at → m2 b ≡ mb b)
+    → RowPut lot entry m0 m2 x x (dir_blocks entry x.size) (dir_blocks entry x.size) k (entry_bytes entry m0 x (x.size - 1))
 row-moved lot entry m0 ma mb m2 x k per at p q from old new e made few h pe ea eb fe oe ae lo ln pp qq beside copied put only =
     let inside = row-inside entry x.size k e h in
     let at0 : at ≡ nth_block m0 x (k / per_block entry) = ae ∙ ap (λ (m : ℕ → List ℕ). nth_block m x (k / per)) ea ∙ ap (λ n. nth_block m0 x (k / n)) pe in
     let old0 : old ≡ content_of m0 x (k / per_block entry) = oe ∙ ap (λ (m : ℕ → List ℕ). content_of m x (k / per)) ea ∙ ap (λ n. content_of m0 x (k / n)) pe in
     let r = had-reached lot m0 x (dir_blocks entry x.size) (k / per_block entry) at made inside at0 in
     let r' = subst (λ (m : ℕ → List ℕ). Reached lot m0 m x x (dir_blocks entry x.size) (k / per_block entry) at) (sym (eb ∙ ea)) r in
-    row-put lot entry m0 mb m2 x x (dir_blocks entry x.size) (dir_blocks entry x.size) k at old new (row_of entry m0 x (x.size - 1)) e r' few (omega arith) (λ l. old0) lo ln (subst (λ n. SameBeside n entry old new) pp beside)
-    (ap (row_at entry new) (sym pp) ∙ copied ∙ ap (row_at entry from) qq ∙ ap (λ (b : List ℕ). row_at entry b (place_of entry (x.size - 1))) (fe ∙ ap (λ n. content_of m0 x ((x.size - 1) / n)) pe))
+    row-put lot entry m0 mb m2 x x (dir_blocks entry x.size) (dir_blocks entry x.size) k at old new (entry_bytes entry m0 x (x.size - 1)) e r' few (omega arith) (λ l. old0) lo ln (subst (λ n. SameBeside n entry old new) pp beside)
+    (ap (row_bytes entry new) (sym pp) ∙ copied ∙ ap (row_bytes entry from) qq ∙ ap (λ (b : List ℕ). row_bytes entry b (place_of entry (x.size - 1))) (fe ∙ ap (λ n. content_of m0 x ((x.size - 1) / n)) pe))
     put only
 
 -- a directory loses one block at most
@@ -69,34 +65,36 @@ blocks-fall entry size e =
 pub cut-six : (count rest : ℕ) → count ≤ rest + 1 → cut_room count rest ≡ 6
 cut-six count rest h = grind (arith, nat_tests)
 
--- what the cut of a well-made directory gives back
-pub taken-owns : (lot : LotView) (entry : ℕ) (m : ℕ → List ℕ) (x : Inode) (count rest : ℕ) → entry ≡ 64 → MadeOf lot m x (dir_blocks entry x.size) → count ≡ dir_blocks entry x.size → rest ≡ dir_blocks entry (x.size - 1) → OwnsOnce m (cut_off m x count rest)
-taken-owns lot entry m x count rest e made c r =
-    subst (λ n. OwnsOnce m (cut_off m x n rest)) (sym c) (subst (λ n. OwnsOnce m (cut_off m x (dir_blocks entry x.size) n)) (sym r)
-    (cut-once lot m x (dir_blocks entry x.size) (dir_blocks entry (x.size - 1)) (blocks-fall entry x.size e) made))
-
-pub taken-placed : (lot : LotView) (entry : ℕ) (m : ℕ → List ℕ) (x : Inode) (count : ℕ) → MadeOf lot m x (dir_blocks entry x.size) → count ≡ dir_blocks entry x.size → Placed lot m x count
-taken-placed lot entry m x count made c = subst (λ n. Placed lot m x n) (sym c) (λ b h. (made.holds b h).0)
-
 -- a directory of which row k was taken
-pub dir-removed : (lot : LotView) (entry : ℕ) (m0 m1 m2 m3 : ℕ → List ℕ) (x y : Inode) (number k count rest : ℕ) → entry ≡ 64 → IsDirectory lot x → k < x.size → inode_of m0 number ≡ x
-    → RowPut lot entry m0 m1 x x (dir_blocks entry x.size) (dir_blocks entry x.size) k (row_of entry m0 x (x.size - 1)) → count ≡ dir_blocks entry x.size → rest ≡ dir_blocks entry (x.size - 1)
-    → Cut lot m1 m2 x y count rest → Stays lot m1 m2 [] → y ≡ shortened x rest → InodeSet m2 m3 number (resized y (x.size - 1)) → ((b : ℕ) → b ≢ inode_address number → m3 b ≡ m2 b)
-    → DirSet lot entry m0 m3 number (swap_remove (rows_of entry m0 number) k ([], 0))
-dir-removed lot entry m0 m1 m2 m3 x y number k count rest e is below before put c r was stay fields set only =
-    let order = blocks-fall entry x.size e in
-    let was' = subst (λ n. Cut lot m1 m2 x y (dir_blocks entry x.size) n) r (subst (λ n. Cut lot m1 m2 x y n rest) c was) in
-    let fields' = fields ∙ ap (shortened x) r in
-    dir-taken lot entry m0 m1 m2 m3 x y number k e is below before put
-    (cut-moved lot m1 m2 x y (dir_blocks entry x.size) (dir_blocks entry (x.size - 1)) put.moved.made order was' stay fields')
-    (cut-contents lot m1 m2 x y (dir_blocks entry x.size) (dir_blocks entry (x.size - 1)) put.moved.made order was' stay fields') set only
+module _ (lot : LotView) (entry : ℕ) (m0 m1 m2 m3 : ℕ → List ℕ) (x y : Inode) (number k count rest : ℕ) (e : entry ≡ 64) (is : IsDirectory lot x) (below : k < x.size) (before : inode_of m0 number ≡ x)
+    (put : RowPut lot entry m0 m1 x x (dir_blocks entry x.size) (dir_blocks entry x.size) k (entry_bytes entry m0 x (x.size - 1))) (c : count ≡ dir_blocks entry x.size) (r : rest ≡ dir_blocks entry (x.size - 1))
+    (was : Cut lot m1 m2 x y count rest) (stay : Stays lot m1 m2 []) (fields : y ≡ shortened x rest) (set : InodeSet m2 m3 number (resized y (x.size - 1))) (only : (b : ℕ) → b ≢ inode_address number → m3 b ≡ m2 b) where
+  order : dir_blocks entry (x.size - 1) ≤ dir_blocks entry x.size
+  order = blocks-fall entry x.size e
+
+  was' : Cut lot m1 m2 x y (dir_blocks entry x.size) (dir_blocks entry (x.size - 1))
+  was' = subst (λ n. Cut lot m1 m2 x y (dir_blocks entry x.size) n) r (subst (λ n. Cut lot m1 m2 x y n rest) c was)
+
+  fields' : y ≡ shortened x (dir_blocks entry (x.size - 1))
+  fields' = fields ∙ ap (shortened x) r
+
+  moved' : Moved lot m1 m2 x y (dir_blocks entry x.size) (dir_blocks entry (x.size - 1))
+  moved' = cut-moved lot m1 m2 x y (dir_blocks entry x.size) (dir_blocks entry (x.size - 1)) put.moved.made order was' stay fields'
+
+  contents' : (n : ℕ) → n < dir_blocks entry (x.size - 1) → content_of m2 y n ≡ content_of m1 x n
+  contents' = cut-contents lot m1 m2 x y (dir_blocks entry x.size) (dir_blocks entry (x.size - 1)) put.moved.made order was' stay fields'
+
+  pub dir-removed : DirSet lot entry m0 m3 number (swap_remove (rows_of entry m0 number) k ([], 0))
+  dir-removed = dir-taken lot entry m0 m1 m2 m3 x y number k e is below before put moved' contents' set only
+
+  pub text-removed : TextTaken entry m0 m3 number k
+  text-removed = text-taken lot entry m0 m1 m2 m3 x y number k e is below before put moved' contents' set only
 
 -- row k is the one of a name
-pub dir-without : (lot : LotView) (entry : ℕ) (m m' m3 : ℕ → List ℕ) (number : ℕ) (x : Inode) (name : List ℕ) (k : ℕ) → entry ≡ 64 → x ≡ inode_of m number → x.kind ≡ 2 → m' ≡ m → FirstNamed (row_of entry m' x) name 0 x.size k
-    → DirSet lot entry m m3 number (swap_remove (rows_of entry m number) k ([], 0)) → DirSet lot entry m m3 number (without name (rows_of entry m number))
-dir-without lot entry m m' m3 number x name k e is kind same found d =
-    let at = ap (λ (rs : List Row). position_or_len (named name) rs) (rows-read entry m m' number x e is kind same) ∙ position-found (row_of entry m' x) name x.size k found in
-    subst (λ i. DirSet lot entry m m3 number (swap_remove (rows_of entry m number) i ([], 0))) (sym at) d
+pub row-named : (entry : ℕ) (m m' : ℕ → List ℕ) (number : ℕ) (x : Inode) (name : List ℕ) (k : ℕ) → entry ≡ 64 → x ≡ inode_of m number → x.kind ≡ 2 → m' ≡ m → FirstNamed (row_of entry m' x) name 0 x.size k
+    → position_or_len (named name) (rows_of entry m number) ≡ k
+row-named entry m m' number x name k e is kind same found =
+    ap (λ (rs : List Row). position_or_len (named name) rs) (rows-read entry m m' number x e is kind same) ∙ position-found (row_of entry m' x) name x.size k found
 
 -- how many blocks a directory gives back that loses one row
 pub off-length : (entry : ℕ) (m : ℕ → List ℕ) (x : Inode) (count rest : ℕ) → entry ≡ 64 → count ≡ dir_blocks entry x.size → rest ≡ dir_blocks entry (x.size - 1) → uses_of count ≡ uses_of rest + length (cut_off m x count rest)
@@ -142,11 +140,12 @@ module _ (lot : LotView) (entry : ℕ) (m0 m1 m2 m3 : ℕ → List ℕ) (x y : I
       let l = off-length entry m1 x count rest sixty c r in
       omega arith
 
-  gone-counts : counted false m3 ≤ counted false m0
+  gone-counts : counted false m3 ≡ counted false m0 - (uses_of count - uses_of rest)
   gone-counts =
       let a = ap (λ (b : List ℕ). word_at b (count_place false)) gone-sub in
       let b = ap (λ (b : List ℕ). word_at b (count_place false)) (beside-sub lot m0 m1 beside few) in
       let v = was.gave.counts.value in
+      let l = off-length entry m1 x count rest sixty c r in
       omega arith
 
   gone-lacks : (b : ℕ) → is_data lot b ≡ false → has (cut_off m1 x count rest) b ≡ false
@@ -158,8 +157,45 @@ module _ (lot : LotView) (entry : ℕ) (m0 m1 m2 m3 : ℕ → List ℕ) (x y : I
     size = let a = ap (λ (i : Inode). i.size) set.value in let b = ap (λ (i : Inode). i.size) before in omega arith;
     others = λ n ne. set.others n ne ∙ stay.inodes n ∙ beside-inode lot m0 m1 beside n;
     free = let a = ap (λ (i : Inode). uses_of (dir_blocks entry i.size)) set.value ∙ ap uses_of (sym r) in let b = ap (λ (i : Inode). uses_of (dir_blocks entry i.size)) before ∙ ap uses_of (sym c) in let f = gone-free in omega arith;
-    counts = gone-counts;
+    counts = let a = ap (λ (i : Inode). uses_of (dir_blocks entry i.size)) set.value ∙ ap uses_of (sym r) in let b = ap (λ (i : Inode). uses_of (dir_blocks entry i.size)) before ∙ ap uses_of (sym c) in let f = gone-counts in omega arith;
     sub = λ n h. ap (λ (b : List ℕ). slice_index b n) gone-sub ∙ was.gave.counts.others n h ∙ ap (λ (b : List ℕ). slice_index b n) (beside-sub lot m0 m1 beside few);
     places = λ b d. used-same false m2 m3 b gone-bitmaps ∙ was.gave.used b ∙ ap (λ t. cond t false (used_block m1 b)) (gone-lacks b d) ∙ used-same false m0 m1 b (beside-bitmaps lot m0 m1 beside);
     inodes = λ i. used-same true m2 m3 i gone-bitmaps ∙ was.gave.inodes i ∙ used-same true m0 m1 i (beside-bitmaps lot m0 m1 beside);
   }
+
+-- ---- a cut that found damage, after the row was moved
+
+-- the indirect block of a directory in which one row was written
+row-mixed : (entry : ℕ) (m0 m1 : ℕ → List ℕ) (x : Inode) (k count : ℕ) → entry ≡ 64 → k < x.size → ((b : ℕ) → b ≢ nth_block m0 x (k / per_block entry) → m1 b ≡ m0 b) → count ≡ dir_blocks entry x.size → 12 < count → Unmixed m0 m1 x count
+row-mixed entry m0 m1 x k count e h only c long = unmixed-one m0 m0 m1 x count (k / per_block entry) (nth_block m0 x (k / per_block entry)) long (let l = row-inside entry x.size k e h in omega arith) refl only refl
+
+-- a block that was to be given back and is free was so, or the directory uses a block twice
+pub row-free : (lot : LotView) (entry : ℕ) (m0 m1 : ℕ → List ℕ) (x : Inode) (k count rest : ℕ) → entry ≡ 64 → k < x.size → ((b : ℕ) → is_data lot b ≡ false → m1 b ≡ m0 b) → ((b : ℕ) → b ≢ nth_block m0 x (k / per_block entry) → m1 b ≡ m0 b)
+    → count ≡ dir_blocks entry x.size → rest ≡ dir_blocks entry (x.size - 1) → FreeOrTwice m1 (cut_off m1 x count rest) → FreeOrTwice m0 (uses m0 x (dir_blocks entry x.size))
+row-free lot entry m0 m1 x k count rest e h beside only c r f =
+    let order : rest ≤ count = (let o = blocks-fall entry x.size e in omega arith) in
+    subst (λ n. FreeOrTwice m0 (uses m0 x n)) c (elim (ltb 12 count) as (λ t. ltb 12 count ≡ t → FreeOrTwice m0 (uses m0 x count)) [
+      | false ↦ λ t. same order (λ long. absurd (grind (arith, nat_tests)))
+      | true ↦ λ t.
+          let long : 12 < count = grind (arith, nat_tests) in
+          ⊎_elim
+          (λ kept. same order (λ l. kept))
+          (λ twice. record { block = twice.0; among = times-has (uses m0 x count) twice.0 (let l = twice.1 in omega arith); why = inr twice.1 })
+          (row-mixed entry m0 m1 x k count e h only c long)
+    ] refl)
+  where
+    same : rest ≤ count → (12 < count → m1 x.single ≡ m0 x.single) → FreeOrTwice m0 (uses m0 x count)
+    same order kept =
+        let list = cut-same m0 m1 x count rest kept in
+        let free = used-same false m0 m1 f.block (beside-bitmaps lot m0 m1 beside) in
+        off-free m0 x count rest order (record {
+          block = f.block;
+          among = ap (λ xs. has xs f.block) (sym list) ∙ f.among;
+          why = ⊎_elim (λ p. inl (sym free ∙ p)) (λ p. inr (let t = ap (λ xs. times xs f.block) list in omega arith)) f.why;
+        })
+
+-- a block that leads nowhere did so, or the directory uses a block twice
+pub row-misled : (lot : LotView) (entry : ℕ) (m0 m1 : ℕ → List ℕ) (x : Inode) (k count : ℕ) → entry ≡ 64 → k < x.size → ((b : ℕ) → b ≢ nth_block m0 x (k / per_block entry) → m1 b ≡ m0 b)
+    → count ≡ dir_blocks entry x.size → Misleads lot m1 x count → Confuses lot m0 x (dir_blocks entry x.size)
+row-misled lot entry m0 m1 x k count e h only c l =
+    subst (λ n. Confuses lot m0 x n) c (misled-here lot m0 m1 x count l.block l.below (λ long. row-mixed entry m0 m1 x k count e h only c long) l.bad)

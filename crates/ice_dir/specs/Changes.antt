@@ -1,5 +1,6 @@
 -- Changes of directories.
-use Rattle.std.specs.Prelude.{◌≡◌, ◌≢◌, ◌≤◌, ◌<◌, ℕ, ◌+◌, ◌*◌, ◌/◌, false, List, length}
+use Rattle.std.specs.Prelude.{◌≡◌, ◌≢◌, ◌<◌, ℕ, ◌+◌, ◌-◌, ◌*◌, ◌/◌, ◌++◌, false, List, [], ◌∷◌, length}
+use Rattle.std.specs.List.{swap_remove}
 use Rattle.ice_base.specs.Fields.{SameBeside}
 use Rattle.ice_base.specs.Lots.{LotView, sub_address}
 use Rattle.ice_base.specs.Used.{used_block, used_inode, is_data, count_place, counted, free_count}
@@ -7,7 +8,7 @@ use Rattle.ice_map.specs.declared.codec.Inode.{Inode}
 use Rattle.ice_map.specs.Inodes.{inode_of}
 use Rattle.ice_file.specs.Own.{OwnSet, blocks_for}
 use Rattle.ice_file.specs.Writes.{Moved, uses_of}
-use Rattle.ice_dir.specs.Rows.{Row, per_block, row_of, rows_of, IsDirectory}
+use Rattle.ice_dir.specs.Rows.{Row, per_block, entry_bytes, texts_of, rows_of, IsText, IsDirectory}
 
 -- how many blocks a directory of so many entries has
 abbrev pub dir_blocks : ℕ → ℕ → ℕ
@@ -24,11 +25,19 @@ pub record DirSet (lot : LotView) (entry : ℕ) (old new : ℕ → List ℕ) (nu
   pub is : IsDirectory lot (inode_of new number)
   pub set : OwnSet lot entry old new number
 
--- Row k was written where a map of c blocks became one of d, and every other row of the c blocks stays.
-pub record RowPut (lot : LotView) (entry : ℕ) (m0 m1 : ℕ → List ℕ) (x y : Inode) (c d k : ℕ) (row : Row) : Type 0 where
+-- The bytes of entry k were written where a map of c blocks became one of d, and those of every other entry of the c blocks stay.
+pub record RowPut (lot : LotView) (entry : ℕ) (m0 m1 : ℕ → List ℕ) (x y : Inode) (c d k : ℕ) (bytes : List ℕ) : Type 0 where
   pub moved : Moved lot m0 m1 x y c d
-  pub here : row_of entry m1 y k ≡ row
-  pub others : (j : ℕ) → j / per_block entry < c → j ≢ k → row_of entry m1 y j ≡ row_of entry m0 x j
+  pub here : entry_bytes entry m1 y k ≡ bytes
+  pub others : (j : ℕ) → j / per_block entry < c → j ≢ k → entry_bytes entry m1 y j ≡ entry_bytes entry m0 x j
+
+-- a directory got the text of a row behind its last entry, and the bytes of its other entries stay
+abbrev pub TextAdded : ℕ → (ℕ → List ℕ) → (ℕ → List ℕ) → ℕ → Row → Type 0
+TextAdded entry old new number row = (bytes : List ℕ) × IsText row bytes × (texts_of entry new number ≡ texts_of entry old number ++ bytes ∷ [])
+
+-- entry k was taken from a directory: the bytes of the last one stand in its place, and those of its other entries stay
+abbrev pub TextTaken : ℕ → (ℕ → List ℕ) → (ℕ → List ℕ) → ℕ → ℕ → Type 0
+TextTaken entry old new number k = texts_of entry new number ≡ swap_remove (texts_of entry old number) k []
 
 -- An entry was taken from a directory, whatever its blocks held: the directory has one entry fewer, and as many blocks fewer as these need.
 -- No other inode, no other mark, and nothing of the sub-super block but the count of used blocks, changed.
@@ -37,7 +46,7 @@ pub record EntryGone (lot : LotView) (entry : ℕ) (old new : ℕ → List ℕ) 
   pub size : (inode_of new number).size + 1 ≡ (inode_of old number).size
   pub others : (k : ℕ) → k ≢ number → inode_of new k ≡ inode_of old k
   pub free : free_count false lot new + uses_of (dir_blocks entry (inode_of new number).size) ≡ free_count false lot old + uses_of (dir_blocks entry (inode_of old number).size)
-  pub counts : counted false new ≤ counted false old
+  pub counts : counted false new ≡ counted false old - (uses_of (dir_blocks entry (inode_of old number).size) - uses_of (dir_blocks entry (inode_of new number).size))
   pub sub : SameBeside (count_place false) 4 (old sub_address) (new sub_address)
   pub places : (b : ℕ) → is_data lot b ≡ false → used_block new b ≡ used_block old b
   pub inodes : (i : ℕ) → used_inode new i ≡ used_inode old i

@@ -1,6 +1,5 @@
 -- Maps that are cut.
-use Rattle.std.proofs.Common.{◌≡◌, ◌≢◌, ◌≤◌, ◌<◌, ◌+◌, ◌-◌, ◌&&◌, ℕ, Bool, true, false, cond, List, [], ◌∷◌, ◌++◌, map, length, take, slice_index, replicate, length-append, length-take, ◌∙◌, sym, refl, ap, arith, ltb, leb}
-use Rattle.std.specs.List.{range_with_len}
+use Rattle.std.proofs.Common.{◌≡◌, ◌≢◌, ◌≤◌, ◌<◌, ◌+◌, ◌-◌, ℕ, true, false, cond, List, [], ◌∷◌, ◌++◌, length, take, slice_index, replicate, length-append, length-take, ◌∙◌, sym, refl, ap, arith, ltb, leb}
 use Rattle.std.proofs.lemmas.Bool.Decides.{nat_tests}
 use Rattle.std.proofs.lemmas.List.{length-replicate, get_or-append_right, get_or-replicate, get_or_past}
 use Rattle.std.proofs.lemmas.List.FromFn.{get_or-map-range_with_len, length-map-range_with_len}
@@ -10,19 +9,14 @@ use Rattle.ice_base.specs.Lots.{LotView, sub_address}
 use Rattle.ice_base.specs.Spare.{has}
 use Rattle.ice_base.specs.Used.{used_block, count_place}
 use Rattle.ice_map.specs.declared.codec.Inode.{Inode}
-use Rattle.ice_map.specs.Maps.{nth_block, blocks_of, blocks_between, indirect_of, uses, times, cut_off, shortened, Stays, Cut, OwnsOnce}
+use Rattle.ice_map.specs.Maps.{nth_block, blocks_between, uses, cut_off, shortened, Stays, Cut}
 use Rattle.ice_map.proofs.GrowLaws.{inode_not_sub}
-use Rattle.ice_map.proofs.ListLaws.{has-none, has-times, times-append, range-append}
+use Rattle.ice_map.proofs.ListLaws.{has-none, has-times}
 use Rattle.ice_file.specs.Own.{MadeOf, NoneUnused, Holds}
 use Rattle.ice_file.specs.Writes.{Moved, content_of, uses_of}
 use Rattle.ice_file.proofs.OwnLaws.{times-has, times-zero, marks-cut, length-uses, uses-nth}
 
-last-times : (t u : Bool) (s b : ℕ) → times (cond (t && u) (s ∷ []) []) b ≤ times (cond t (s ∷ []) []) b
-last-times true true s b = omega arith
-last-times true false s b = omega arith
-last-times false u s b = omega arith
-
-length-cut_off : (m : ℕ → List ℕ) (x : Inode) (c r : ℕ) → r ≤ c → uses_of c ≡ uses_of r + length (cut_off m x c r)
+pub length-cut_off : (m : ℕ → List ℕ) (x : Inode) (c r : ℕ) → r ≤ c → uses_of c ≡ uses_of r + length (cut_off m x c r)
 length-cut_off m x c r h =
     let l = length-map-range_with_len (nth_block m x) r (c - r) in
     let a = λ (ys : List ℕ). length-append (blocks_between m x r c) ys in
@@ -45,27 +39,6 @@ length-cut_off m x c r h =
           let g = a [] in
           grind (arith, nat_tests)
     ] refl
-
--- what a cut gives back is part of what the map uses
-off-times : (m : ℕ → List ℕ) (x : Inode) (c r : ℕ) → r ≤ c → (b : ℕ) → times (cut_off m x c r) b ≤ times (uses m x c) b
-off-times m x c r h b =
-    let f = nth_block m x in
-    let all = times-append (indirect_of x c) (blocks_of m x c) b in
-    let e : r + (c - r) ≡ c = omega arith in
-    let parts : map f (range_with_len 0 r) ++ map f (range_with_len (0 + r) (c - r)) ≡ blocks_of m x c = range-append f 0 r (c - r) ∙ ap (λ n. map f (range_with_len 0 n)) e in
-    let z : map f (range_with_len (0 + r) (c - r)) ≡ blocks_between m x r c = ap (λ n. map f (range_with_len n (c - r))) (omega arith) in
-    let two = times-append (map f (range_with_len 0 r)) (map f (range_with_len (0 + r) (c - r))) b in
-    let same : times (map f (range_with_len 0 r) ++ map f (range_with_len (0 + r) (c - r))) b ≡ times (blocks_of m x c) b = ap (λ xs. times xs b) parts in
-    let part : times (map f (range_with_len (0 + r) (c - r))) b ≡ times (blocks_between m x r c) b = ap (λ xs. times xs b) z in
-    let off = times-append (blocks_between m x r c) (cond (ltb 12 c && leb r 12) (x.single ∷ []) []) b in
-    let last : times (cond (ltb 12 c && leb r 12) (x.single ∷ []) []) b ≤ times (indirect_of x c) b = last-times (ltb 12 c) (leb r 12) x.single b in
-    omega arith
-
-off-has : (m : ℕ → List ℕ) (x : Inode) (c r : ℕ) → r ≤ c → (b : ℕ) → has (cut_off m x c r) b ≡ true → has (uses m x c) b ≡ true
-off-has m x c r h b k = let t = off-times m x c r h b in let n = has-times (cut_off m x c r) b k in times-has (uses m x c) b (omega arith)
-
-pub cut-few : (m : ℕ → List ℕ) (x : Inode) (c r : ℕ) → r ≤ c → length (cut_off m x c r) ≤ uses_of c
-cut-few m x c r h = let l = length-cut_off m x c r h in omega arith
 
 zeros-past : (n k : ℕ) → slice_index (replicate n 0) k ≡ 0
 zeros-past n k =
@@ -120,13 +93,6 @@ module _ (lot : LotView) (m0 m1 : ℕ → List ℕ) (x y : Inode) (c r : ℕ) (m
       let e : nth_block m1 y n ≡ nth_block m0 x n = sym (get_or-map-range_with_len (nth_block m1 y) 0 r n n 0 h (omega arith)) ∙ ap (λ (xs : List ℕ). slice_index xs n) was.blocks ∙ get_or-map-range_with_len (nth_block m0 x) 0 r n n 0 h (omega arith) in
       let q = made.holds (nth_block m0 x n) (uses-nth m0 x c n (omega arith)) in
       ap m1 e ∙ stay.blocks (nth_block m0 x n) q.0 q.1 (has-none (nth_block m0 x n))
-
--- what is given back is used, and none of it twice
-pub cut-once : (lot : LotView) (m : ℕ → List ℕ) (x : Inode) (c r : ℕ) → r ≤ c → MadeOf lot m x c → OwnsOnce m (cut_off m x c r)
-cut-once lot m x c r order made = record {
-  used = λ b h. (made.holds b (off-has m x c r order b h)).1;
-  once = λ b. let o = made.once b in let t = off-times m x c r order b in omega arith;
-}
 
 -- a cut, and then a put of the inode's block, change nothing of the sub-super block but the count of used blocks
 pub cut-sub : (lot : LotView) (m m0 m1 m2 : ℕ → List ℕ) (x y : Inode) (number c r : ℕ) → m0 ≡ m → Cut lot m0 m1 x y c r → ((b : ℕ) → b ≢ inode_address number → m2 b ≡ m1 b)

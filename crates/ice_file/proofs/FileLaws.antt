@@ -5,12 +5,12 @@ use Rattle.ice_base.specs.Lots.{LotView}
 use Rattle.ice_base.specs.Inodes.{inode_address}
 use Rattle.ice_map.specs.declared.codec.Inode.{Inode}
 use Rattle.ice_map.specs.Inodes.{inode_of, InodeSet}
-use Rattle.ice_map.specs.Maps.{leads, cut_off, shortened, Stays, Cut, OwnsOnce}
+use Rattle.ice_map.specs.Maps.{leads, cut_off, shortened, Stays, Cut, FreeOrTwice}
 use Rattle.ice_file.specs.Own.{own, file_bytes, map_length, blocks_for, MadeOf, WellMade}
 use Rattle.ice_file.specs.Files.{overwritten, ReachesTo, FileSet}
 use Rattle.ice_file.specs.Writes.{Written, blocks_with, uses_of}
 use Rattle.ice_file.proofs.ByteLaws.{file_length}
-use Rattle.ice_file.proofs.CutLaws.{cut-moved, cut-contents, cut-once, cut-few}
+use Rattle.ice_file.proofs.CutLaws.{cut-moved, cut-contents, length-cut_off}
 use Rattle.ice_file.proofs.MoveLaws.{made-leads}
 use Rattle.ice_file.proofs.SetLaws.{resized, file-written, file-cut}
 use Rattle.ice_file.proofs.WriteLaws.{count-less}
@@ -44,22 +44,22 @@ cut-all lot m m0 m1 m2 x y entry number len count rest e is r n o was stay field
     (cut-moved lot m m1 x y (blocks_for x.size) (blocks_for len) made' order was' stay' fields')
     (cut-contents lot m m1 x y (blocks_for x.size) (blocks_for len) made' order was' stay' fields') set only
 
--- what a cut gives back is used, and none of it twice
-pub cut-owns : (lot : LotView) (m m0 : ℕ → List ℕ) (x : Inode) (entry number len count rest : ℕ) → m0 ≡ m → x ≡ inode_of m number → ReachesTo len x → count ≡ blocks_for x.size → rest ≡ blocks_for len
-    → WellMade lot entry m number → OwnsOnce m0 (cut_off m0 x count rest)
-cut-owns lot m m0 x entry number len count rest e is r n o made =
-    let order = count-less len x.size r.reaches in
-    let once = cut-once lot m0 x (blocks_for x.size) (blocks_for len) order (made-file lot m m0 x entry number e is r.kind made) in
-    subst (λ k. OwnsOnce m0 (cut_off m0 x count k)) (sym o) (subst (λ k. OwnsOnce m0 (cut_off m0 x k (blocks_for len))) (sym n) once)
+-- what a cut loses, said of the inode of a number
+pub cut-loses : (m m0 : ℕ → List ℕ) (x : Inode) (number len count rest : ℕ) → m0 ≡ m → x ≡ inode_of m number → count ≡ blocks_for x.size → rest ≡ blocks_for len
+    → FreeOrTwice m0 (cut_off m0 x count rest) → FreeOrTwice m (cut_off m (inode_of m number) (blocks_for (inode_of m number).size) (blocks_for len))
+cut-loses m m0 x number len count rest e is n o f =
+    subst (λ (i : Inode). FreeOrTwice m (cut_off m i (blocks_for i.size) (blocks_for len))) is
+    (subst (λ k. FreeOrTwice m (cut_off m x (blocks_for x.size) k)) o (subst (λ k. FreeOrTwice m (cut_off m x k rest)) n (subst (λ (z : ℕ → List ℕ). FreeOrTwice z (cut_off z x count rest)) e f)))
 
--- and not more than the map uses
+-- and how many blocks
 pub cut-most : (m m0 : ℕ → List ℕ) (x : Inode) (number len count rest : ℕ) → x ≡ inode_of m number → ReachesTo len x → count ≡ blocks_for x.size → rest ≡ blocks_for len
-    → length (cut_off m0 x count rest) ≤ uses_of (blocks_for (inode_of m number).size)
+    → uses_of (blocks_for (inode_of m number).size) ≡ uses_of (blocks_for len) + length (cut_off m0 x count rest)
 cut-most m m0 x number len count rest is r n o =
     let order = count-less len x.size r.reaches in
-    let l = cut-few m0 x count rest (omega arith) in
+    let l = length-cut_off m0 x count rest (omega arith) in
     let s = ap (λ (i : Inode). uses_of (blocks_for i.size)) is in
     let t = ap uses_of n in
+    let u = ap uses_of o in
     omega arith
 
 -- a block of a well-made map that leads nowhere

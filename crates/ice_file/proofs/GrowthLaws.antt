@@ -1,5 +1,5 @@
 -- What a growth of a map does, whatever the map was.
-use Rattle.std.proofs.Common.{◌≡◌, ◌≢◌, ◌≤◌, ◌<◌, ◌+◌, ◌-◌, ◌*◌, ◌%◌, ◌==◌, max, ℕ, true, false, cond, List, [], ◌∷◌, length, slice_index, ◌∙◌, sym, refl, ap, subst, ⊎_elim, arith, ltb}
+use Rattle.std.proofs.Common.{◌≡◌, ◌≢◌, ◌≤◌, ◌<◌, ◌⊎◌, ◌+◌, ◌-◌, ◌*◌, ◌%◌, ◌==◌, max, ℕ, true, false, cond, List, [], ◌∷◌, length, slice_index, ◌∙◌, sym, refl, ap, subst, inl, inr, ⊎_elim, arith, ltb}
 use Rattle.std.proofs.lemmas.Bool.Decides.{nat_tests}
 use Rattle.std.proofs.lemmas.Nat.{div-add-mod', mod_below}
 use Rattle.ice_base.specs.Fields.{word_at, SameBeside}
@@ -10,15 +10,16 @@ use Rattle.ice_base.specs.Used.{used_block, is_data, count_place, counted, free_
 use Rattle.ice_base.proofs.UsedLaws.{data_place}
 use Rattle.ice_map.specs.declared.codec.Inode.{Inode}
 use Rattle.ice_map.specs.Inodes.{inode_at}
-use Rattle.ice_map.specs.Maps.{growth, widened, needs, leads, Grown, Marked, Misleads}
-use Rattle.ice_map.proofs.ListLaws.{has-one, has-cons}
-use Rattle.ice_map.proofs.MapLaws.{nth-single, leads-direct, leads-single, leads-lost}
+use Rattle.ice_map.specs.Maps.{growth, widened, needs, leads, nth_block, blocks_of, indirect_of, uses, times, HasTwice, Grown, Marked}
+use Rattle.ice_map.proofs.ListLaws.{has-one, has-cons, has-range, has-times, times-append}
+use Rattle.ice_map.proofs.MapLaws.{nth-direct, nth-single, leads-direct, leads-single, leads-lost}
 use Rattle.ice_map.proofs.MarkLaws.{data_not_bitmap, data_not_sub, used-same, free-same}
 use Rattle.ice_map.proofs.GrowLaws.{inode_not_data, inode_not_sub, growth-one, growth-two}
-use Rattle.ice_file.specs.Own.{MoreMarked, blocks_for}
+use Rattle.ice_file.specs.Own.{MoreMarked, Confuses, blocks_for}
 use Rattle.ice_file.specs.Growth.{Grew, InodesStay, Strays}
 use Rattle.ice_file.specs.Writes.{blocks_with, uses_of}
 use Rattle.ice_file.proofs.MoveLaws.{widened-direct, widened-single}
+use Rattle.ice_file.proofs.OwnLaws.{times-one}
 use Rattle.ice_file.proofs.WriteLaws.{count-grows, uses-less, uses-needs}
 
 -- marks of more blocks
@@ -195,14 +196,69 @@ leads-kept lot m x y k d s =
           ] refl
     ] refl
 
-pub misled-from : (lot : LotView) (m0 m1 m2 : ℕ → List ℕ) (x y : Inode) (c d k : ℕ) → Grew lot m0 m1 x y c d → (k < d → k < c) → Strays lot m2 y d k → Misleads lot m2 x c
-misled-from lot m0 m1 m2 x y c d k g old s = ⊎_elim
+-- while blocks that a map had are written: its indirect block holds what it held, or the map uses a block twice
+abbrev pub Unmixed : (ℕ → List ℕ) → (ℕ → List ℕ) → Inode → ℕ → Type 0
+Unmixed m0 m1 x c = (m1 x.single ≡ m0 x.single) ⊎ HasTwice (uses m0 x c)
+
+-- one of them that is the indirect block is used twice
+single-twice : (m : ℕ → List ℕ) (x : Inode) (c k : ℕ) → 12 < c → k < c → nth_block m x k ≡ x.single → HasTwice (uses m x c)
+single-twice m x c k l h e =
+    let one : indirect_of x c ≡ x.single ∷ [] = grind (arith, nat_tests) in
+    let t = times-append (indirect_of x c) (blocks_of m x c) x.single in
+    let a = ap (λ xs. times xs x.single) one in
+    let s = times-one x.single x.single in
+    let same : (x.single == x.single) ≡ true = grind (arith, nat_tests) in
+    let r = has-times (blocks_of m x c) x.single (ap (has (blocks_of m x c)) (sym e) ∙ has-range (nth_block m x) 0 c k (omega arith) (omega arith)) in
+    (x.single, grind arith)
+
+-- a block of the map that it has, where its pointers stay and so does its indirect block
+nth-kept : (m0 m1 : ℕ → List ℕ) (x y : Inode) (k : ℕ) → slice_index y.direct k ≡ slice_index x.direct k → (12 ≤ k → y.single ≡ x.single) → (12 ≤ k → m1 x.single ≡ m0 x.single) → nth_block m1 y k ≡ nth_block m0 x k
+nth-kept m0 m1 x y k d s same =
+    elim (ltb k 12) as (λ t. ltb k 12 ≡ t → nth_block m1 y k ≡ nth_block m0 x k) [
+      | true ↦ λ t. let l : k < 12 = grind (arith, nat_tests) in nth-direct m1 y k l ∙ d ∙ sym (nth-direct m0 x k l)
+      | false ↦ λ t. let l : 12 ≤ k = grind (arith, nat_tests) in
+          nth-single m1 y k l ∙ ap (λ a. word_at (m1 a) (4 * (k - 12))) (s l) ∙ ap (λ (b : List ℕ). word_at b (4 * (k - 12))) (same l) ∙ sym (nth-single m0 x k l)
+    ] refl
+
+-- one of them was written
+pub unmixed-one : (m0 m1 m2 : ℕ → List ℕ) (x : Inode) (c k at : ℕ) → 12 < c → k < c → at ≡ nth_block m0 x k → ((b : ℕ) → b ≢ at → m2 b ≡ m1 b) → m1 x.single ≡ m0 x.single → Unmixed m0 m2 x c
+unmixed-one m0 m1 m2 x c k at long h e only same =
+    elim (at == x.single) as (λ t. (at == x.single) ≡ t → Unmixed m0 m2 x c) [
+      | true ↦ λ t. let q : at ≡ x.single = grind (arith, nat_tests) in inr (single-twice m0 x c k long h (sym e ∙ q))
+      | false ↦ λ t. let ne : at ≢ x.single = grind (arith, nat_tests) in inl (only x.single (λ q. ne (sym q)) ∙ same)
+    ] refl
+
+-- one more of them was
+pub unmixed-next : (lot : LotView) (m0 m1 m2 : ℕ → List ℕ) (x y : Inode) (c d k : ℕ) → Grew lot m0 m1 x y c d → 12 < c → k < c → ((b : ℕ) → b ≢ nth_block m1 y k → m2 b ≡ m1 b) → Unmixed m0 m1 x c → Unmixed m0 m2 x c
+unmixed-next lot m0 m1 m2 x y c d k g long h only u = ⊎_elim
+    (λ same. unmixed-one m0 m1 m2 x c k (nth_block m1 y k) long h (nth-kept m0 m1 x y k (g.direct k h) (λ l. g.single long) (λ l. same)) only same)
+    (λ twice. inr twice)
+    u
+
+-- a block of the map that leads nowhere now
+pub misled-here : (lot : LotView) (m0 m1 : ℕ → List ℕ) (x : Inode) (c k : ℕ) → k < c → (12 < c → Unmixed m0 m1 x c) → leads lot m1 x k ≡ false → Confuses lot m0 x c
+misled-here lot m0 m1 x c k l mixed lost =
+    elim (ltb k 12) as (λ t. ltb k 12 ≡ t → Confuses lot m0 x c) [
+      | true ↦ λ t. let h : k < 12 = grind (arith, nat_tests) in
+          inl (record { block = k; below = l; bad = leads-direct lot m0 x k h ∙ sym (leads-direct lot m1 x k h) ∙ lost })
+      | false ↦ λ t. let h : 12 ≤ k = grind (arith, nat_tests) in
+          elim (is_data lot x.single) as (λ u. is_data lot x.single ≡ u → Confuses lot m0 x c) [
+            | false ↦ λ u. inl (record { block = k; below = l; bad = leads-lost lot m0 x k h u })
+            | true ↦ λ u. ⊎_elim
+                (λ same. inl (record { block = k; below = l; bad = leads-single lot m0 x k h u ∙ ap (is_data lot) (sym (nth-kept m0 m1 x x k refl (λ j. refl) (λ j. same))) ∙ sym (leads-single lot m1 x k h u) ∙ lost }))
+                (λ twice. inr twice)
+                (mixed (omega arith))
+          ] refl
+    ] refl
+
+pub misled-from : (lot : LotView) (m0 m1 : ℕ → List ℕ) (x y : Inode) (c d k : ℕ) → Grew lot m0 m1 x y c d → (k < d → k < c) → (k < c → 12 < c → Unmixed m0 m1 x c) → Strays lot m1 y d k → Confuses lot m0 x c
+misled-from lot m0 m1 x y c d k g old mixed s = ⊎_elim
     (λ p.
     let l = old p.0 in
-    record { block = k; below = l; bad = leads-kept lot m2 x y k (g.direct k l) (λ h. g.single (omega arith)) ∙ p.1 })
-    (λ p. elim (ltb 12 c) as (λ t. ltb 12 c ≡ t → Misleads lot m2 x c) [
+    misled-here lot m0 m1 x c k l (mixed l) (leads-kept lot m1 x y k (g.direct k l) (λ h. g.single (omega arith)) ∙ p.1))
+    (λ p. elim (ltb 12 c) as (λ t. ltb 12 c ≡ t → Confuses lot m0 x c) [
       | true ↦ λ t. let l : 12 < c = grind (arith, nat_tests) in
-          record { block = 12; below = l; bad = leads-lost lot m2 x 12 (omega arith) (ap (is_data lot) (sym (g.single l)) ∙ p.1) }
+          inl (record { block = 12; below = l; bad = leads-lost lot m0 x 12 (omega arith) (ap (is_data lot) (sym (g.single l)) ∙ p.1) })
       | false ↦ λ t. let q = g.place (grind (arith, nat_tests)) p.0 in let r = p.1 in absurd cc
     ] refl)
     s

@@ -8,3 +8,4 @@ pub mod GrowthLaws
 pub mod SetLaws
 pub mod CutLaws
 pub mod FileLaws
+pub mod DamageLaws

@@ -1,5 +1,5 @@
 -- What each inode of a lot says by itself.
-use Rattle.std.specs.Prelude.{◌≡◌, ◌≢◌, ◌≤◌, ◌<◌, ℕ, Bool, true, false, ◌+◌, ◌*◌, ◌/◌, ◌%◌, cond, ◌==◌, List, [], map, length, slice_index, slice_index_or}
+use Rattle.std.specs.Prelude.{◌≡◌, ◌≢◌, ◌≤◌, ◌<◌, ◌⊎◌, ℕ, Bool, true, false, ◌+◌, ◌*◌, ◌/◌, ◌%◌, cond, ◌==◌, List, [], map, length, slice_index, slice_index_or}
 use Rattle.std.specs.List.{range_with_len}
 use Rattle.ice_base.specs.Bits.{bit_of}
 use Rattle.ice_base.specs.Fields.{SameBeside}
@@ -8,7 +8,7 @@ use Rattle.ice_base.specs.Spare.{has}
 use Rattle.ice_base.specs.Used.{used_block, used_inode, is_data, count_place, counted, free_count}
 use Rattle.ice_map.specs.declared.codec.Inode.{Inode}
 use Rattle.ice_map.specs.Inodes.{inode_of}
-use Rattle.ice_map.specs.Maps.{blocks_of, uses, times}
+use Rattle.ice_map.specs.Maps.{blocks_of, uses, times, HasTwice, Misleads}
 
 -- how many blocks hold this many bytes
 abbrev pub blocks_for : ℕ → ℕ
@@ -59,6 +59,10 @@ pub record MadeOf (lot : LotView) (m : ℕ → List ℕ) (inode : Inode) (count 
 -- so is the map of the inode of a number
 abbrev pub WellMade : LotView → ℕ → (ℕ → List ℕ) → ℕ → Type 0
 WellMade lot entry m number = MadeOf lot m (inode_of m number) (map_length entry (inode_of m number))
+
+-- a map of `count` blocks leads to no data place, or uses a block twice: then a block that is written may be the one that names others
+abbrev pub Confuses : LotView → (ℕ → List ℕ) → Inode → ℕ → Type 0
+Confuses lot m inode count = Misleads lot m inode count ⊎ HasTwice (uses m inode count)
 
 -- Every other inode says what it said, where it uses used data places, and none that this inode used.
 abbrev pub OthersSay : LotView → ℕ → (ℕ → List ℕ) → (ℕ → List ℕ) → ℕ → Type 0

@@ -1,5 +1,5 @@
 //! Cuts of files.
-ghost use Rattle.std.specs.Prelude.{◌≡◌, ◌≢◌, ◌≤◌, ◌<◌, ◌*◌, true, false, OnOk, IfErr, IsErrOf, length, take};
+ghost use Rattle.std.specs.Prelude.{◌≡◌, ◌≢◌, ◌≤◌, ◌<◌, ◌+◌, ◌*◌, true, false, OnOk, IfErr, IsErrOf, length, take};
 ghost use Rattle.ice_base.specs.Disk.{Rose};
 ghost use Rattle.ice_base.specs.Fields.{SameBeside};
 ghost use Rattle.ice_base.specs.Lots.{is_sited, sub_address};
@@ -9,7 +9,7 @@ ghost use Rattle.ice_base.specs.declared.fault.OpFault.TheVariants.{Disk as Faul
 ghost use Rattle.ice_base.specs.declared.fault.Rule.{Rule};
 ghost use Rattle.ice_base.specs.declared.fault.Rule.TheVariants.{Counts, Kind, Pointer, Bitmap};
 ghost use Rattle.ice_map.specs.Inodes.{inode_of};
-ghost use Rattle.ice_map.specs.Maps.{Misleads, UsesUnmarked};
+ghost use Rattle.ice_map.specs.Maps.{cut_off, FreeOrTwice, Misleads};
 ghost use Rattle.ice_file.specs.Files.{longest_file, ReachesTo, FileSet, IsCutToFault};
 ghost use Rattle.ice_file.specs.Own.{own, file_bytes, blocks_for, WellMade};
 ghost use Rattle.ice_file.specs.Writes.{uses_of};
@@ -36,13 +36,10 @@ pub fn cut_to<D: Disk, K: Keep<D>, P: Pool<D, K>, F: Form>(
     ensures spent { Spent D.Disk K.View lot.now 72 keep.old disk.old keep.new disk.new }
     ensures kind { IsErrOf result (Damaged Kind) → K.shows lot.now keep.old disk.old → ¬ ReachesTo len (inode_of (K.map keep.old disk.old lot.now) number) }
     ensures looked { IsErrOf result (Damaged Kind) → Looked D.Disk K.View lot.now keep.old disk.old keep.new disk.new }
-    ensures zero { IsErrOf result (Damaged Counts) → K.shows lot.now keep.old disk.old → counted false (K.map keep.old disk.old lot.now) < uses_of (blocks_for (inode_of (K.map keep.old disk.old lot.now) number).size) }
-    ensures unused { IsErrOf result (Damaged Bitmap) → K.shows lot.now keep.old disk.old → ¬ WellMade lot.now F.ENTRY (K.map keep.old disk.old lot.now) number }
-    ensures pointer { IsErrOf result (Damaged Pointer) → K.shows lot.now keep.old disk.old → ¬ WellMade lot.now F.ENTRY (K.map keep.old disk.old lot.now) number }
+    ensures zero { IsErrOf result (Damaged Counts) → K.shows lot.now keep.old disk.old → counted false (K.map keep.old disk.old lot.now) + uses_of (blocks_for len) < uses_of (blocks_for (inode_of (K.map keep.old disk.old lot.now) number).size) }
+    ensures unused { IsErrOf result (Damaged Bitmap) → K.shows lot.now keep.old disk.old → FreeOrTwice (K.map keep.old disk.old lot.now) (cut_off (K.map keep.old disk.old lot.now) (inode_of (K.map keep.old disk.old lot.now) number) (blocks_for (inode_of (K.map keep.old disk.old lot.now) number).size) (blocks_for len)) }
     ensures kept { (rule : Rule) → IsErrOf result (Damaged rule) → K.shows lot.now keep.old disk.old → inode_of (K.map keep.new disk.new lot.now) number ≡ inode_of (K.map keep.old disk.old lot.now) number }
-    ensures empty { IsErrOf result (Damaged Counts) → K.shows lot.now keep.old disk.old → counted false (K.map keep.new disk.new lot.now) ≡ 0 }
-    ensures unmarked { IsErrOf result (Damaged Bitmap) → K.shows lot.now keep.old disk.old → UsesUnmarked (K.map keep.new disk.new lot.now) (inode_of (K.map keep.new disk.new lot.now) number) (blocks_for (inode_of (K.map keep.new disk.new lot.now) number).size) }
-    ensures misled { IsErrOf result (Damaged Pointer) → K.shows lot.now keep.old disk.old → Misleads lot.now (K.map keep.new disk.new lot.now) (inode_of (K.map keep.new disk.new lot.now) number) (blocks_for (inode_of (K.map keep.new disk.new lot.now) number).size) }
+    ensures misled { IsErrOf result (Damaged Pointer) → K.shows lot.now keep.old disk.old → Misleads lot.now (K.map keep.old disk.old lot.now) (inode_of (K.map keep.old disk.old lot.now) number) (blocks_for (inode_of (K.map keep.old disk.old lot.now) number).size) }
     ensures sub { K.shows lot.now keep.old disk.old → OnOk result (SameBeside (count_place false) 4 (K.map keep.old disk.old lot.now sub_address) (K.map keep.new disk.new lot.now sub_address)) }
     ensures file { IfErr result (λ e. (rule : Rule) → e ≡ Damaged rule → rule ≢ Kind → K.shows lot.now keep.old disk.old → ReachesTo len (inode_of (K.map keep.old disk.old lot.now) number)) }
     ensures faults { IfErr result IsCutToFault }

@@ -1,5 +1,5 @@
 //! Bytes that are put into one block of a file.
-ghost use Rattle.std.specs.Prelude.{is_ok, ◌≡◌, ◌≤◌, ◌<◌, ◌+◌, ◌-◌, ◌*◌, ◌^◌, ◌⊎◌, max, ℕ, true, false, [], ◌∷◌, OnOk, IfOk, IfErr, IsErrOf, length, slice_index};
+ghost use Rattle.std.specs.Prelude.{is_ok, ◌≡◌, ◌≢◌, ◌≤◌, ◌<◌, ◌+◌, ◌-◌, ◌*◌, ◌^◌, ◌⊎◌, max, ℕ, true, false, [], ◌∷◌, OnOk, IfOk, IfErr, IsErrOf, length, slice_index};
 ghost use Rattle.ice_base.specs.Disk.{Rose};
 ghost use Rattle.ice_base.specs.Faults.{IsDiskFault};
 ghost use Rattle.ice_base.specs.Lots.{is_sited};
@@ -8,7 +8,7 @@ ghost use Rattle.ice_base.specs.Views.{Spent, Puts};
 ghost use Rattle.ice_base.specs.declared.fault.OpFault.TheVariants.{Disk as FaultDisk, Damaged, NoSpace};
 ghost use Rattle.ice_base.specs.declared.fault.Rule.TheVariants.{Counts, Pointer, Bitmap};
 ghost use Rattle.ice_map.specs.Faults.{IsGrowFault};
-ghost use Rattle.ice_map.specs.Maps.{longest, needs};
+ghost use Rattle.ice_map.specs.Maps.{longest, needs, nth_block};
 ghost use Rattle.ice_file.specs.Growth.{Grew, InodesStay, Strays};
 ghost use Rattle.ice_file.specs.Own.{MadeOf};
 ghost use Rattle.ice_file.specs.Writes.{Reached, PutPiece, due};
@@ -40,8 +40,8 @@ fn reach<D: Disk, K: Keep<D>, P: Pool<D, K>, F: Form>(
     ensures none { IsErrOf result NoSpace → K.shows lot.now keep.old disk.old → (k ≡ count) × (free_count false lot.now (K.map keep.old disk.old lot.now) < needs count) }
     ensures full { IsErrOf result (Damaged Counts) → K.shows lot.now keep.old disk.old → (k ≡ count) × (2 ^ 32 ≤ counted false (K.map keep.old disk.old lot.now) + needs count) }
     ensures unreserved { IsErrOf result (Damaged Bitmap) → K.shows lot.now keep.old disk.old → ¬ Reserved lot.now (K.map keep.old disk.old lot.now) }
-    ensures pointer { IsErrOf result (Damaged Pointer) → K.shows lot.now keep.old disk.old → ¬ MadeOf lot.now (K.map keep.old disk.old lot.now) inode.old count }
-    ensures strays { IsErrOf result (Damaged Pointer) → K.shows lot.now keep.old disk.old → Strays lot.now (K.map keep.new disk.new lot.now) inode.old count k }
+    ensures strays { IsErrOf result (Damaged Pointer) → K.shows lot.now keep.old disk.old → Strays lot.now (K.map keep.old disk.old lot.now) inode.old count k }
+    ensures had { K.shows lot.now keep.old disk.old → k < count → IfOk result (λ a. (a ≡ nth_block (K.map keep.old disk.old lot.now) inode.old k) × (K.map keep.new disk.new lot.now ≡ K.map keep.old disk.old lot.now)) }
     ensures faults { IfErr result IsGrowFault }
     ensures failed { IsErrOf result FaultDisk → Rose (D.state disk.old).faults (D.state disk.new).faults }
 {
@@ -118,8 +118,8 @@ pub fn put_piece<D: Disk, K: Keep<D>, P: Pool<D, K>, F: Form>(
     ensures none { IsErrOf result NoSpace → K.shows lot.now keep.old disk.old → (k ≡ count) × (free_count false lot.now (K.map keep.old disk.old lot.now) < needs count) }
     ensures full { IsErrOf result (Damaged Counts) → K.shows lot.now keep.old disk.old → (k ≡ count) × (2 ^ 32 ≤ counted false (K.map keep.old disk.old lot.now) + needs count) }
     ensures unreserved { IsErrOf result (Damaged Bitmap) → K.shows lot.now keep.old disk.old → ¬ Reserved lot.now (K.map keep.old disk.old lot.now) }
-    ensures pointer { IsErrOf result (Damaged Pointer) → K.shows lot.now keep.old disk.old → ¬ MadeOf lot.now (K.map keep.old disk.old lot.now) inode.old count }
-    ensures strays { IsErrOf result (Damaged Pointer) → K.shows lot.now keep.old disk.old → Strays lot.now (K.map keep.new disk.new lot.now) inode.old count k }
+    ensures strays { IsErrOf result (Damaged Pointer) → K.shows lot.now keep.old disk.old → Strays lot.now (K.map keep.old disk.old lot.now) inode.old count k }
+    ensures within { K.shows lot.now keep.old disk.old → k < count → OnOk result ((b : ℕ) → b ≢ nth_block (K.map keep.old disk.old lot.now) inode.old k → K.map keep.new disk.new lot.now b ≡ K.map keep.old disk.old lot.now b) }
     ensures faults { IfErr result IsGrowFault }
     ensures failed { IsErrOf result FaultDisk → Rose (D.state disk.old).faults (D.state disk.new).faults }
 {

@@ -10,10 +10,9 @@ ghost use Rattle.ice_base.specs.declared.fault.Rule.{Rule};
 ghost use Rattle.ice_base.specs.declared.fault.Rule.TheVariants.{Counts, Kind, Pointer, Bitmap};
 ghost use Rattle.ice_map.specs.Faults.{IsGrowFault};
 ghost use Rattle.ice_map.specs.Inodes.{inode_of};
-ghost use Rattle.ice_map.specs.Maps.{Misleads};
 ghost use Rattle.ice_file.specs.Files.{longest_file, most_at_once, ReachesTo, FileSet, IsWriteFault, overwritten};
 ghost use Rattle.ice_file.specs.Growth.{Grew, InodesStay};
-ghost use Rattle.ice_file.specs.Own.{own, file_bytes, blocks_for, MadeOf, WellMade};
+ghost use Rattle.ice_file.specs.Own.{own, file_bytes, blocks_for, MadeOf, WellMade, Confuses};
 ghost use Rattle.ice_file.specs.Writes.{Written, blocks_with, uses_of};
 
 use crate::inode::{file_inode, map_length};
@@ -43,8 +42,7 @@ fn write_blocks<D: Disk, K: Keep<D>, P: Pool<D, K>, F: Form>(
     ensures none { IsErrOf result NoSpace → K.shows lot.now keep.old disk.old → free_count false lot.now (K.map keep.old disk.old lot.now) + uses_of (blocks_for inode.old.size) < uses_of (blocks_with inode.old.size (at + length bytes.now)) }
     ensures full { IsErrOf result (Damaged Counts) → K.shows lot.now keep.old disk.old → 2 ^ 32 + uses_of (blocks_for inode.old.size) ≤ counted false (K.map keep.old disk.old lot.now) + uses_of (blocks_with inode.old.size (at + length bytes.now)) }
     ensures unreserved { IsErrOf result (Damaged Bitmap) → K.shows lot.now keep.old disk.old → ¬ Reserved lot.now (K.map keep.old disk.old lot.now) }
-    ensures pointer { IsErrOf result (Damaged Pointer) → K.shows lot.now keep.old disk.old → ¬ MadeOf lot.now (K.map keep.old disk.old lot.now) inode.old (blocks_for inode.old.size) }
-    ensures misled { IsErrOf result (Damaged Pointer) → K.shows lot.now keep.old disk.old → Misleads lot.now (K.map keep.new disk.new lot.now) inode.old (blocks_for inode.old.size) }
+    ensures misled { IsErrOf result (Damaged Pointer) → K.shows lot.now keep.old disk.old → Confuses lot.now (K.map keep.old disk.old lot.now) inode.old (blocks_for inode.old.size) }
     ensures faults { IfErr result IsGrowFault }
     ensures failed { IsErrOf result FaultDisk → Rose (D.state disk.old).faults (D.state disk.new).faults }
 {
@@ -95,9 +93,8 @@ pub fn write_at<D: Disk, K: Keep<D>, P: Pool<D, K>, F: Form>(
     ensures none { IsErrOf result NoSpace → K.shows lot.now keep.old disk.old → free_count false lot.now (K.map keep.old disk.old lot.now) + uses_of (blocks_for (inode_of (K.map keep.old disk.old lot.now) number).size) < uses_of (blocks_with (inode_of (K.map keep.old disk.old lot.now) number).size (at + length bytes.now)) }
     ensures full { IsErrOf result (Damaged Counts) → K.shows lot.now keep.old disk.old → 2 ^ 32 + uses_of (blocks_for (inode_of (K.map keep.old disk.old lot.now) number).size) ≤ counted false (K.map keep.old disk.old lot.now) + uses_of (blocks_with (inode_of (K.map keep.old disk.old lot.now) number).size (at + length bytes.now)) }
     ensures unreserved { IsErrOf result (Damaged Bitmap) → K.shows lot.now keep.old disk.old → ¬ Reserved lot.now (K.map keep.old disk.old lot.now) }
-    ensures pointer { IsErrOf result (Damaged Pointer) → K.shows lot.now keep.old disk.old → ¬ WellMade lot.now F.ENTRY (K.map keep.old disk.old lot.now) number }
     ensures kept { (rule : Rule) → IsErrOf result (Damaged rule) → K.shows lot.now keep.old disk.old → inode_of (K.map keep.new disk.new lot.now) number ≡ inode_of (K.map keep.old disk.old lot.now) number }
-    ensures misled { IsErrOf result (Damaged Pointer) → K.shows lot.now keep.old disk.old → Misleads lot.now (K.map keep.new disk.new lot.now) (inode_of (K.map keep.new disk.new lot.now) number) (blocks_for (inode_of (K.map keep.new disk.new lot.now) number).size) }
+    ensures misled { IsErrOf result (Damaged Pointer) → K.shows lot.now keep.old disk.old → Confuses lot.now (K.map keep.old disk.old lot.now) (inode_of (K.map keep.old disk.old lot.now) number) (blocks_for (inode_of (K.map keep.old disk.old lot.now) number).size) }
     ensures file { IsErrOf result (Damaged Pointer) → K.shows lot.now keep.old disk.old → ReachesTo at (inode_of (K.map keep.old disk.old lot.now) number) }
     ensures sub { K.shows lot.now keep.old disk.old → OnOk result (SameBeside (count_place false) 4 (K.map keep.old disk.old lot.now sub_address) (K.map keep.new disk.new lot.now sub_address)) }
     ensures faults { IfErr result IsWriteFault }

@@ -1,5 +1,5 @@
 -- What a cut of a map does.
-use Rattle.std.proofs.Common.{◌≡◌, ◌≢◌, ◌≤◌, ◌<◌, ◌+◌, ◌-◌, ◌*◌, ◌/◌, ◌&&◌, ℕ, Bool, true, false, cond, List, [], ◌∷◌, ◌++◌, map, length, slice_index, replicate, take, ◌∙◌, sym, refl, ap, arith, ltb, subst, nat_lt, nat_le, length-append}
+use Rattle.std.proofs.Common.{◌≡◌, ◌≢◌, ◌≤◌, ◌<◌, ◌⊎◌, ◌+◌, ◌-◌, ◌*◌, ◌/◌, ◌&&◌, ℕ, Bool, true, false, cond, List, [], ◌∷◌, ◌++◌, map, length, slice_index, replicate, take, ◌∙◌, sym, refl, ap, arith, ltb, subst, nat_lt, nat_le, length-append, inl, inr, ⊎_elim}
 use Rattle.std.proofs.lemmas.Bool.Decides.{nat_tests}
 use Rattle.std.proofs.lemmas.List.{append-nil, ext_get_or}
 use Rattle.std.proofs.lemmas.List.FromFn.{map-range_with_len_more, length-map-range_with_len}
@@ -15,8 +15,8 @@ use Rattle.ice_base.specs.declared.view.View as view
 use Rattle.ice_base.proofs.SpareLaws.{lacks_part, lacks_few, lacks-bitmaps}
 use Rattle.ice_base.proofs.UsedLaws.{bitmap_not_sub}
 use Rattle.ice_map.specs.declared.codec.Inode.{Inode}
-use Rattle.ice_map.specs.Maps.{nth_block, blocks_of, indirect_of, Placed, blocks_between, cut_off, cut_room, given_puts, shortened, times, Marked, OwnsOnce, Cut}
-use Rattle.ice_map.proofs.ListLaws.{AllHas, map_range_same, times-append, has-head, has-tail, has-left, has-right, has-times, has-range, range-append, lacks-wide, where_elim}
+use Rattle.ice_map.specs.Maps.{nth_block, blocks_of, indirect_of, blocks_between, cut_off, cut_room, given_puts, shortened, times, Marked, FreeOrTwice, Cut}
+use Rattle.ice_map.proofs.ListLaws.{AllHas, map_range_same, times-append, has-head, has-tail, has-left, has-right, has-times, range-append, lacks-wide, where_elim}
 use Rattle.ice_map.proofs.MapLaws.{nth-direct, nth-single}
 use Rattle.ice_map.proofs.MarkLaws.{marked-then, marked-gave}
 use Rattle.ice_map.proofs.PutsLaws.{puts-then, given-left, given-one, bitmaps-one}
@@ -89,20 +89,23 @@ pub gave-next : (lot : LotView) (m0 m1 m2 : ℕ → List ℕ) (xs : List ℕ) (a
 gave-next lot m0 m1 m2 xs a place marked gave only = marked-then lot false m0 m1 m2 xs (a ∷ []) marked (marked-gave lot m1 m2 a place gave only)
 
 -- a give that finds its block free: it was free, or the list has it twice
-pub free-next : (lot : LotView) (m0 m1 : ℕ → List ℕ) (xs ys : List ℕ) (a : ℕ) → Marked lot false m0 m1 xs → used_block m1 a ≡ false → ¬ OwnsOnce m0 ((xs ++ a ∷ []) ++ ys)
-free-next lot m0 m1 xs ys a marked free owns =
+pub free-next : (lot : LotView) (m0 m1 : ℕ → List ℕ) (xs ys : List ℕ) (a : ℕ) → Marked lot false m0 m1 xs → used_block m1 a ≡ false → FreeOrTwice m0 ((xs ++ a ∷ []) ++ ys)
+free-next lot m0 m1 xs ys a marked free =
     let u = marked.used a in
     let last = has-right xs (a ∷ []) a (has-head a []) in
-    elim (has xs a) as (λ t. has xs a ≡ t → ⊥) [
-      | true ↦ λ t.
-          let n = times-append (xs ++ a ∷ []) ys a in
-          let k = times-append xs (a ∷ []) a in
-          let one = has-times xs a t in
-          let two = has-times (a ∷ []) a (has-head a []) in
-          let o = owns.once a in
-          omega arith
-      | false ↦ λ t. let w = owns.used a (has-left (xs ++ a ∷ []) ys a last) in absurd (grind arith)
-    ] refl
+    record {
+      block = a;
+      among = has-left (xs ++ a ∷ []) ys a last;
+      why = elim (has xs a) as (λ t. has xs a ≡ t → (used_block m0 a ≡ false) ⊎ (2 ≤ times ((xs ++ a ∷ []) ++ ys) a)) [
+        | true ↦ λ t.
+            let n = times-append (xs ++ a ∷ []) ys a in
+            let k = times-append xs (a ∷ []) a in
+            let one = has-times xs a t in
+            let two = has-times (a ∷ []) a (has-head a []) in
+            inr (omega arith)
+        | false ↦ λ t. inl (grind arith)
+      ] refl;
+    }
 
 -- a give that finds the count 0
 pub zero-next : (lot : LotView) (m0 m1 : ℕ → List ℕ) (xs : List ℕ) → Marked lot false m0 m1 xs → counted false m1 ≡ 0 → counted false m0 ≤ length xs
@@ -117,11 +120,11 @@ next-gave lot m inode rest k m0 m1 m2 a h same place marked gave only =
 
 -- the next block of a run is found free
 pub next-free : (lot : LotView) (m : ℕ → List ℕ) (inode : Inode) (rest k count : ℕ) (m0 m1 : ℕ → List ℕ) (a : ℕ) → rest ≤ k → k < count → a ≡ nth_block m inode k
-    → Marked lot false m0 m1 (blocks_between m inode rest k) → used_block m1 a ≡ false → ¬ OwnsOnce m0 (blocks_between m inode rest count)
-next-free lot m inode rest k count m0 m1 a h l same marked free owns =
+    → Marked lot false m0 m1 (blocks_between m inode rest k) → used_block m1 a ≡ false → FreeOrTwice m0 (blocks_between m inode rest count)
+next-free lot m inode rest k count m0 m1 a h l same marked free =
     let list : blocks_between m inode rest count ≡ (blocks_between m inode rest k ++ a ∷ []) ++ blocks_between m inode (k + 1) count =
     between-at m inode rest k count h l ∙ ap (λ x. (blocks_between m inode rest k ++ x ∷ []) ++ blocks_between m inode (k + 1) count) (sym same) in
-    free-next lot m0 m1 (blocks_between m inode rest k) (blocks_between m inode (k + 1) count) a marked free (rw list at owns)
+    rw list (free-next lot m0 m1 (blocks_between m inode rest k) (blocks_between m inode (k + 1) count) a marked free)
 
 -- a block of a map whose indirect block was read, and a run of them
 pub same-block : (m : ℕ → List ℕ) (b : List ℕ) (inode : Inode) (k : ℕ) → (12 ≤ k → b ≡ m inode.single) → nth_block m inode k ≡ nth_block (λ _. b) inode k
@@ -165,32 +168,15 @@ cut-part m b inode count rest e = ap (λ xs. xs ++ cond (nat_lt 12 count && nat_
 pub puts-part : (m : ℕ → List ℕ) (b : List ℕ) (inode : Inode) (count rest : ℕ) → (12 < count → b ≡ m inode.single) → AllHas (given_puts (cut_off m inode count rest)) (given_puts (blocks_between (λ _. b) inode rest count))
 puts-part m b inode count rest e = rw (cut-part m b inode count rest e) (given-left (blocks_between (λ _. b) inode rest count) (cond (nat_lt 12 count && nat_le rest 12) (inode.single ∷ []) []))
 
-owns-left : (m : ℕ → List ℕ) (xs ys : List ℕ) → OwnsOnce m (xs ++ ys) → OwnsOnce m xs
-owns-left m xs ys o = record {
-  used = λ b h. o.used b (has-left xs ys b h);
-  once = λ b. let t = times-append xs ys b in let l = o.once b in omega arith;
+free-left : (m : ℕ → List ℕ) (xs ys : List ℕ) → FreeOrTwice m xs → FreeOrTwice m (xs ++ ys)
+free-left m xs ys f = record {
+  block = f.block;
+  among = has-left xs ys f.block f.among;
+  why = ⊎_elim (λ p. inl p) (λ p. inr (let t = times-append xs ys f.block in omega arith)) f.why;
 }
 
-pub owns-part : (m0 m1 : ℕ → List ℕ) (b : List ℕ) (inode : Inode) (count rest : ℕ) → m1 ≡ m0 → (12 < count → b ≡ m0 inode.single) → OwnsOnce m0 (cut_off m0 inode count rest) → OwnsOnce m1 (blocks_between (λ _. b) inode rest count)
-owns-part m0 m1 b inode count rest e r o = rw e (owns-left m0 _ _ (rw (cut-part m0 b inode count rest r) at o))
-
--- blocks of a map that are data places
-pub placed-single : (lot : LotView) (m : ℕ → List ℕ) (inode : Inode) (count : ℕ) → 12 < count → Placed lot m inode count → is_data lot inode.single ≡ true
-placed-single lot m inode count h p =
-    let one : indirect_of inode count ≡ inode.single ∷ [] = grind (arith, nat_tests) in
-    p inode.single (has-left (indirect_of inode count) (blocks_of m inode count) inode.single (ap (λ xs. has xs inode.single) one ∙ has-head inode.single []))
-
-pub placed-block : (lot : LotView) (m : ℕ → List ℕ) (inode : Inode) (count k : ℕ) → k < count → Placed lot m inode count → is_data lot (nth_block m inode k) ≡ true
-placed-block lot m inode count k h p = p (nth_block m inode k) (has-right (indirect_of inode count) (blocks_of m inode count) (nth_block m inode k) (has-range (nth_block m inode) 0 count k (omega arith) (omega arith)))
-
-pub placed-run : (lot : LotView) (m : ℕ → List ℕ) (b : List ℕ) (inode : Inode) (count k : ℕ) → (12 < count → b ≡ m inode.single) → k < count → Placed lot m inode count → is_data lot (nth_block (λ _. b) inode k) ≡ false → ⊥
-placed-run lot m b inode count k e h p no_place =
-    let d = placed-block lot m inode count k h p in
-    elim (ltb k 12) as (λ t. ltb k 12 ≡ t → ⊥) [
-      | true ↦ λ t. let n : k < 12 = grind (arith, nat_tests) in let x = nth-direct m inode k n in let y = nth-direct (λ _. b) inode k n in let z = ap (is_data lot) (x ∙ sym y) in absurd cc
-      | false ↦ λ t. let n : 12 ≤ k = grind (arith, nat_tests) in let x = nth-single m inode k n in let y = nth-single (λ _. b) inode k n in
-          let w = ap (λ (u : List ℕ). word_at u (4 * (k - 12))) (sym (e (omega arith))) in let z = ap (is_data lot) (x ∙ w ∙ sym y) in absurd cc
-    ] refl
+pub free-part : (m0 m1 : ℕ → List ℕ) (b : List ℕ) (inode : Inode) (count rest : ℕ) → m1 ≡ m0 → (12 < count → b ≡ m0 inode.single) → FreeOrTwice m1 (blocks_between (λ _. b) inode rest count) → FreeOrTwice m0 (cut_off m0 inode count rest)
+free-part m0 m1 b inode count rest e r f = rw (cut-part m0 b inode count rest r) (free-left m0 _ _ (rw e at f))
 
 pub marked-from : (lot : LotView) (v : Bool) (m0 m1 m2 : ℕ → List ℕ) (xs ys : List ℕ) → m1 ≡ m0 → ys ≡ xs → Marked lot v m1 m2 xs → Marked lot v m0 m2 ys
 marked-from lot v m0 m1 m2 xs ys e f k = rw f (rw e at k)
@@ -222,11 +208,11 @@ last-puts g lot ok m b inode count rest v d w e x f h l r p q =
     (given-left (blocks_between (λ _. b) inode rest count) (inode.single ∷ [])) (given-one (blocks_between (λ _. b) inode rest count) inode.single) in
     rw (cut-run-last m b inode count rest h l r) step
 
-pub owns-last : (lot : LotView) (m0 m1 m2 : ℕ → List ℕ) (b : List ℕ) (inode : Inode) (count rest : ℕ) → m1 ≡ m0 → 12 < count → rest ≤ 12 → (12 < count → b ≡ m0 inode.single)
-    → Marked lot false m1 m2 (blocks_between (λ _. b) inode rest count) → used_block m2 inode.single ≡ false → ¬ OwnsOnce m0 (cut_off m0 inode count rest)
-owns-last lot m0 m1 m2 b inode count rest e h l r marked free owns =
+pub free-last : (lot : LotView) (m0 m1 m2 : ℕ → List ℕ) (b : List ℕ) (inode : Inode) (count rest : ℕ) → m1 ≡ m0 → 12 < count → rest ≤ 12 → (12 < count → b ≡ m0 inode.single)
+    → Marked lot false m1 m2 (blocks_between (λ _. b) inode rest count) → used_block m2 inode.single ≡ false → FreeOrTwice m0 (cut_off m0 inode count rest)
+free-last lot m0 m1 m2 b inode count rest e h l r marked free =
     let list = cut-run-last m0 b inode count rest h l r ∙ sym (append-nil (blocks_between (λ _. b) inode rest count ++ inode.single ∷ [])) in
-    free-next lot m1 m2 (blocks_between (λ _. b) inode rest count) [] inode.single marked free (rw e (rw list at owns))
+    rw list (rw e at (free-next lot m1 m2 (blocks_between (λ _. b) inode rest count) [] inode.single marked free))
 
 pub counted-from : (m0 m1 : ℕ → List ℕ) (n l : ℕ) → m1 ≡ m0 → counted false m1 < n → n ≤ l → counted false m0 < l
 counted-from m0 m1 n l e h k = let c = ap (counted false) e in omega arith

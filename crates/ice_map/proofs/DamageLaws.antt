@@ -1,17 +1,13 @@
 -- What a cut of a map shows of the blocks that it gives back, and of the damage that it finds.
-use Rattle.std.proofs.Common.{◌≡◌, ◌≤◌, ◌<◌, ◌+◌, ◌-◌, ℕ, Bool, true, false, List, [], ◌∷◌, ◌++◌, length, ◌∙◌, sym, refl, ap, arith}
+use Rattle.std.proofs.Common.{◌≡◌, ◌≤◌, ◌<◌, ◌+◌, ◌-◌, ℕ, true, false, List, [], ◌∷◌, ◌++◌, ◌∙◌, sym, refl, ap, arith}
 use Rattle.std.proofs.lemmas.Bool.Decides.{nat_tests}
-use Rattle.ice_base.specs.Lots.{LotView, sub_address}
-use Rattle.ice_base.specs.Spare.{has, bitmaps}
-use Rattle.ice_base.specs.Used.{used_block, is_data, counted}
-use Rattle.ice_base.specs.Views.{Puts}
-use Rattle.ice_base.specs.declared.view.View as view
+use Rattle.ice_base.specs.Lots.{LotView}
+use Rattle.ice_base.specs.Spare.{has}
+use Rattle.ice_base.specs.Used.{is_data}
 use Rattle.ice_map.specs.declared.codec.Inode.{Inode}
-use Rattle.ice_map.specs.Maps.{nth_block, blocks_of, blocks_between, indirect_of, cut_off, Misleads, UsesUnmarked}
-use Rattle.ice_map.proofs.ListLaws.{has-append, has-none, has-one, has-head, has-left, has-right, has-range}
+use Rattle.ice_map.specs.Maps.{nth_block, blocks_between, cut_off, Misleads}
+use Rattle.ice_map.proofs.ListLaws.{has-append, has-none, has-one}
 use Rattle.ice_map.proofs.MapLaws.{leads-bad, leads-lost}
-use Rattle.ice_map.proofs.MarkLaws.{data_not_bitmap, data_not_sub}
-use Rattle.ice_map.proofs.PutsLaws.{bitmaps-only}
 use Rattle.ice_map.proofs.CutLaws.{between-none, between-next, same-block, cut-none, cut-run-last}
 
 -- each block of a list is a data place
@@ -46,36 +42,6 @@ placed-uncut lot m inode count rest h = data-none lot _ (cut-none m inode count 
 pub placed-last : (lot : LotView) (m : ℕ → List ℕ) (b : List ℕ) (inode : Inode) (count rest : ℕ) → 12 < count → rest ≤ 12 → (12 < count → b ≡ m inode.single) → is_data lot inode.single ≡ true
     → AllData lot (blocks_between (λ _. b) inode rest count) → AllData lot (cut_off m inode count rest)
 placed-last lot m b inode count rest h l e place all = rw (cut-run-last m b inode count rest h l e) (data-with lot _ inode.single place all)
-
--- the indirect block that was read, where no more than bitmap blocks and the sub-super block was put since
-pub read-stays : {V D : Type 0} (k : view.Ghosts V D) (lot : LotView) (ok : Bool) (n : ℕ) (v : V) (d : D) (w : V) (e : D) (inode : Inode) (b : List ℕ) → length lot.groups ≤ 64 → is_data lot inode.single ≡ true
-    → b ≡ k.map v d lot inode.single → Puts k lot ok (sub_address ∷ bitmaps n) v d w e → b ≡ k.map w e lot inode.single
-read-stays k lot ok n v d w e inode b few place read puts =
-    read ∙ sym (bitmaps-only k lot ok n v d w e puts inode.single (λ q. data_not_sub lot _ few place (sym q)) (λ o q. data_not_bitmap lot _ o place (sym q)))
-
--- what a give that refuses found is still so
-pub still-zero : (m0 m1 : ℕ → List ℕ) → m1 ≡ m0 → counted false m0 ≡ 0 → counted false m1 ≡ 0
-still-zero m0 m1 e z = ap (counted false) e ∙ z
-
-pub still-free : (m0 m1 : ℕ → List ℕ) (a b : ℕ) → m1 ≡ m0 → b ≡ a → used_block m0 b ≡ false → used_block m1 a ≡ false
-still-free m0 m1 a b e same free = ap (λ (m : ℕ → List ℕ). used_block m a) e ∙ ap (used_block m0) (sym same) ∙ free
-
--- a block of a run, or the indirect block, that is not marked used
-pub unmarked-run : (m : ℕ → List ℕ) (b : List ℕ) (inode : Inode) (count k : ℕ) → (12 < count → b ≡ m inode.single) → k < count → used_block m (nth_block (λ _. b) inode k) ≡ false → UsesUnmarked m inode count
-unmarked-run m b inode count k e h free = record {
-  block = nth_block m inode k;
-  uses = has-right (indirect_of inode count) (blocks_of m inode count) (nth_block m inode k) (has-range (nth_block m inode) 0 count k (omega arith) (omega arith));
-  unmarked = ap (used_block m) (same-block m b inode k (λ n. e (omega arith))) ∙ free;
-}
-
-pub unmarked-single : (m : ℕ → List ℕ) (inode : Inode) (count : ℕ) → 12 < count → used_block m inode.single ≡ false → UsesUnmarked m inode count
-unmarked-single m inode count h free = record {
-  block = inode.single;
-  uses =
-      let one : indirect_of inode count ≡ inode.single ∷ [] = grind (arith, nat_tests) in
-      has-left (indirect_of inode count) (blocks_of m inode count) inode.single (ap (λ xs. has xs inode.single) one ∙ has-head inode.single []);
-  unmarked = free;
-}
 
 -- a block of a run, or the indirect block, that is no data place
 pub misled-run : (lot : LotView) (m : ℕ → List ℕ) (b : List ℕ) (inode : Inode) (count k : ℕ) → (12 < count → b ≡ m inode.single) → k < count → is_data lot (nth_block (λ _. b) inode k) ≡ false → Misleads lot m inode count

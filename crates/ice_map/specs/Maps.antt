@@ -1,5 +1,5 @@
 -- The maps of the blocks of inodes.
-use Rattle.std.specs.Prelude.{◌≡◌, ◌≤◌, ◌<◌, ℕ, ◌+◌, ◌-◌, ◌*◌, Bool, true, false, cond, ◌==◌, ◌&&◌, ◌||◌, nat_lt, nat_le, List, [], ◌∷◌, ◌++◌, map, length, slice_index, slice_set, replicate, take}
+use Rattle.std.specs.Prelude.{◌≡◌, ◌≤◌, ◌<◌, ◌⊎◌, ℕ, ◌+◌, ◌-◌, ◌*◌, Bool, true, false, cond, ◌==◌, ◌&&◌, ◌||◌, nat_lt, nat_le, List, [], ◌∷◌, ◌++◌, map, length, slice_index, slice_set, replicate, take}
 use Rattle.std.specs.List.{count_by, range_with_len}
 use Rattle.ice_base.specs.Bits.{bit_of, IsLeast}
 use Rattle.ice_base.specs.Fields.{word_at, WordSet}
@@ -140,6 +140,16 @@ cut_room count rest = cond (nat_le count (rest + 1)) 6 66
 pub record OwnsOnce (m : ℕ → List ℕ) (blocks : List ℕ) : Type 0 where
   pub used : (b : ℕ) → has blocks b ≡ true → used_block m b ≡ true
   pub once : (b : ℕ) → times blocks b ≤ 1
+
+-- some block of these is marked free, or stands twice among them
+pub record FreeOrTwice (m : ℕ → List ℕ) (blocks : List ℕ) : Type 0 where
+  pub block : ℕ
+  pub among : has blocks block ≡ true
+  pub why : (used_block m block ≡ false) ⊎ (2 ≤ times blocks block)
+
+-- some block stands twice among these
+abbrev pub HasTwice : List ℕ → Type 0
+HasTwice blocks = (b : ℕ) × (2 ≤ times blocks b)
 
 -- every block that a map uses is a data place
 abbrev pub Placed : LotView → (ℕ → List ℕ) → Inode → ℕ → Type 0

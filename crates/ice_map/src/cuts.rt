@@ -8,7 +8,7 @@ ghost use Rattle.ice_base.specs.Views.{Looked, Spent, Puts};
 ghost use Rattle.ice_base.specs.declared.fault.OpFault.TheVariants.{Disk as FaultDisk, Damaged};
 ghost use Rattle.ice_base.specs.declared.fault.Rule.TheVariants.{Counts, Pointer, Bitmap};
 ghost use Rattle.ice_map.specs.Faults.{IsCutFault, IsLookFault};
-ghost use Rattle.ice_map.specs.Maps.{longest, nth_block, blocks_between, cut_off, cut_room, given_puts, shortened, Marked, Stays, Owns, OwnsOnce, MapStays, Placed, Cut, Misleads, UsesUnmarked};
+ghost use Rattle.ice_map.specs.Maps.{longest, nth_block, blocks_between, cut_off, cut_room, given_puts, shortened, Marked, Stays, Owns, MapStays, Cut, FreeOrTwice, Misleads};
 
 use crate::codec::Inode;
 use crate::maps::checked;
@@ -48,9 +48,7 @@ fn give_between<D: Disk, K: Keep<D>, P: Pool<D, K>>(
     ensures bitmaps { Puts K.View lot.now (is_ok result) (sub_address ∷ bitmaps (length lot.now.groups)) keep.old disk.old keep.new disk.new }
     ensures spent { Spent D.Disk K.View lot.now (2 * (count - rest)) keep.old disk.old keep.new disk.new }
     ensures zero { IsErrOf result (Damaged Counts) → K.shows lot.now keep.old disk.old → counted false (K.map keep.old disk.old lot.now) < count - rest }
-    ensures unused { IsErrOf result (Damaged Bitmap) → K.shows lot.now keep.old disk.old → ¬ OwnsOnce (K.map keep.old disk.old lot.now) (blocks_between (λ _. block.now) inode.now rest count) }
-    ensures empty { IsErrOf result (Damaged Counts) → K.shows lot.now keep.old disk.old → counted false (K.map keep.new disk.new lot.now) ≡ 0 }
-    ensures unmarked { IsErrOf result (Damaged Bitmap) → K.shows lot.now keep.old disk.old → (k : ℕ) × (rest ≤ k) × (k < count) × (used_block (K.map keep.new disk.new lot.now) (nth_block (λ _. block.now) inode.now k) ≡ false) }
+    ensures unused { IsErrOf result (Damaged Bitmap) → K.shows lot.now keep.old disk.old → FreeOrTwice (K.map keep.old disk.old lot.now) (blocks_between (λ _. block.now) inode.now rest count) }
     ensures placed { OnOk result ((b : ℕ) → has (blocks_between (λ _. block.now) inode.now rest count) b ≡ true → is_data lot.now b ≡ true) }
     ensures pointer { IsErrOf result (Damaged Pointer) → (k : ℕ) × (rest ≤ k) × (k < count) × (is_data lot.now (nth_block (λ _. block.now) inode.now k) ≡ false) }
     ensures faults { IfErr result IsCutFault }
@@ -111,11 +109,8 @@ fn give_indirect<D: Disk, K: Keep<D>, P: Pool<D, K>>(
     ensures single { OnOk result (K.map keep.new disk.new lot.now inode.now.single ≡ K.map keep.old disk.old lot.now inode.now.single) }
     ensures spent { Spent D.Disk K.View lot.now (cut_room count rest) keep.old disk.old keep.new disk.new }
     ensures zero { IsErrOf result (Damaged Counts) → K.shows lot.now keep.old disk.old → counted false (K.map keep.old disk.old lot.now) < length (cut_off (K.map keep.old disk.old lot.now) inode.now count rest) }
-    ensures unused { IsErrOf result (Damaged Bitmap) → K.shows lot.now keep.old disk.old → ¬ OwnsOnce (K.map keep.old disk.old lot.now) (cut_off (K.map keep.old disk.old lot.now) inode.now count rest) }
-    ensures pointer { IsErrOf result (Damaged Pointer) → K.shows lot.now keep.old disk.old → ¬ Placed lot.now (K.map keep.old disk.old lot.now) inode.now count }
-    ensures empty { IsErrOf result (Damaged Counts) → K.shows lot.now keep.old disk.old → counted false (K.map keep.new disk.new lot.now) ≡ 0 }
-    ensures unmarked { IsErrOf result (Damaged Bitmap) → K.shows lot.now keep.old disk.old → UsesUnmarked (K.map keep.new disk.new lot.now) inode.now count }
-    ensures misled { IsErrOf result (Damaged Pointer) → K.shows lot.now keep.old disk.old → Misleads lot.now (K.map keep.new disk.new lot.now) inode.now count }
+    ensures unused { IsErrOf result (Damaged Bitmap) → K.shows lot.now keep.old disk.old → FreeOrTwice (K.map keep.old disk.old lot.now) (cut_off (K.map keep.old disk.old lot.now) inode.now count rest) }
+    ensures misled { IsErrOf result (Damaged Pointer) → K.shows lot.now keep.old disk.old → Misleads lot.now (K.map keep.old disk.old lot.now) inode.now count }
     ensures placed { K.shows lot.now keep.old disk.old → OnOk result ((b : ℕ) → has (cut_off (K.map keep.old disk.old lot.now) inode.now count rest) b ≡ true → is_data lot.now b ≡ true) }
     ensures faults { IfErr result IsCutFault }
     ensures failed { IsErrOf result FaultDisk → Rose (D.state disk.old).faults (D.state disk.new).faults }
@@ -181,11 +176,8 @@ fn give_rest<D: Disk, K: Keep<D>, P: Pool<D, K>>(
     ensures single { OnOk result (12 < rest → K.map keep.new disk.new lot.now inode.now.single ≡ K.map keep.old disk.old lot.now inode.now.single) }
     ensures spent { Spent D.Disk K.View lot.now (cut_room count rest) keep.old disk.old keep.new disk.new }
     ensures zero { IsErrOf result (Damaged Counts) → K.shows lot.now keep.old disk.old → counted false (K.map keep.old disk.old lot.now) < length (cut_off (K.map keep.old disk.old lot.now) inode.now count rest) }
-    ensures unused { IsErrOf result (Damaged Bitmap) → K.shows lot.now keep.old disk.old → ¬ OwnsOnce (K.map keep.old disk.old lot.now) (cut_off (K.map keep.old disk.old lot.now) inode.now count rest) }
-    ensures pointer { IsErrOf result (Damaged Pointer) → K.shows lot.now keep.old disk.old → ¬ Placed lot.now (K.map keep.old disk.old lot.now) inode.now count }
-    ensures empty { IsErrOf result (Damaged Counts) → K.shows lot.now keep.old disk.old → counted false (K.map keep.new disk.new lot.now) ≡ 0 }
-    ensures unmarked { IsErrOf result (Damaged Bitmap) → K.shows lot.now keep.old disk.old → UsesUnmarked (K.map keep.new disk.new lot.now) inode.now count }
-    ensures misled { IsErrOf result (Damaged Pointer) → K.shows lot.now keep.old disk.old → Misleads lot.now (K.map keep.new disk.new lot.now) inode.now count }
+    ensures unused { IsErrOf result (Damaged Bitmap) → K.shows lot.now keep.old disk.old → FreeOrTwice (K.map keep.old disk.old lot.now) (cut_off (K.map keep.old disk.old lot.now) inode.now count rest) }
+    ensures misled { IsErrOf result (Damaged Pointer) → K.shows lot.now keep.old disk.old → Misleads lot.now (K.map keep.old disk.old lot.now) inode.now count }
     ensures placed { K.shows lot.now keep.old disk.old → OnOk result ((b : ℕ) → has (cut_off (K.map keep.old disk.old lot.now) inode.now count rest) b ≡ true → is_data lot.now b ≡ true) }
     ensures faults { IfErr result IsCutFault }
     ensures failed { IsErrOf result FaultDisk → Rose (D.state disk.old).faults (D.state disk.new).faults }
@@ -224,11 +216,8 @@ pub fn cut<D: Disk, K: Keep<D>, P: Pool<D, K>, F: Form>(
     ensures others { (other : Inode) (n : ℕ) → Owns lot.now (K.map keep.old disk.old lot.now) other n → MapStays (K.map keep.old disk.old lot.now) (K.map keep.new disk.new lot.now) other n }
     ensures spent { Spent D.Disk K.View lot.now (cut_room count rest) keep.old disk.old keep.new disk.new }
     ensures zero { IsErrOf result (Damaged Counts) → K.shows lot.now keep.old disk.old → counted false (K.map keep.old disk.old lot.now) < length (cut_off (K.map keep.old disk.old lot.now) inode.old count rest) }
-    ensures unused { IsErrOf result (Damaged Bitmap) → K.shows lot.now keep.old disk.old → ¬ OwnsOnce (K.map keep.old disk.old lot.now) (cut_off (K.map keep.old disk.old lot.now) inode.old count rest) }
-    ensures pointer { IsErrOf result (Damaged Pointer) → K.shows lot.now keep.old disk.old → ¬ Placed lot.now (K.map keep.old disk.old lot.now) inode.old count }
-    ensures empty { IsErrOf result (Damaged Counts) → K.shows lot.now keep.old disk.old → counted false (K.map keep.new disk.new lot.now) ≡ 0 }
-    ensures unmarked { IsErrOf result (Damaged Bitmap) → K.shows lot.now keep.old disk.old → UsesUnmarked (K.map keep.new disk.new lot.now) inode.old count }
-    ensures misled { IsErrOf result (Damaged Pointer) → K.shows lot.now keep.old disk.old → Misleads lot.now (K.map keep.new disk.new lot.now) inode.old count }
+    ensures unused { IsErrOf result (Damaged Bitmap) → K.shows lot.now keep.old disk.old → FreeOrTwice (K.map keep.old disk.old lot.now) (cut_off (K.map keep.old disk.old lot.now) inode.old count rest) }
+    ensures misled { IsErrOf result (Damaged Pointer) → K.shows lot.now keep.old disk.old → Misleads lot.now (K.map keep.old disk.old lot.now) inode.old count }
     ensures placed { K.shows lot.now keep.old disk.old → OnOk result ((b : ℕ) → has (cut_off (K.map keep.old disk.old lot.now) inode.old count rest) b ≡ true → is_data lot.now b ≡ true) }
     ensures faults { IfErr result IsCutFault }
     ensures failed { IsErrOf result FaultDisk → Rose (D.state disk.old).faults (D.state disk.new).faults }

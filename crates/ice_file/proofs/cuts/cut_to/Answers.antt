@@ -1,24 +1,11 @@
-use Rattle.std.proofs.Common.{rules, ◌≤◌, ℕ, arith}
+use Rattle.std.proofs.Common.{rules, ◌≤◌, ℕ, List, false, ap, arith}
+use Rattle.ice_base.specs.Used.{counted}
 use Rattle.std.proofs.lemmas.Bool.Decides.{nat_tests}
 use Rattle.ice_map.proofs.PutsLaws.{spent-after, spent-then}
 use Rattle.ice_map.specs.Maps.{cut_room}
 use Rattle.ice_file.proofs.CutLaws.{cut-sub}
-use Rattle.ice_file.proofs.FileLaws.{cut-all, cut-owns, cut-most}
+use Rattle.ice_file.proofs.FileLaws.{cut-all, cut-loses, cut-most}
 use Rattle.ice_file.proofs.cuts.cut_to.Goals as goal
-
-pub returns-in_err-cut-clause-zero : goal.returns-in_err-cut-clause-zero
-returns-in_err-cut-clause-zero g c = λ e s.
-    let z = c.in_err-cut.ensures.zero (search rules) (c.file_inode.ensures.looked.shows s) in
-    let m = c.file_inode.ensures.looked.map in
-    let l = cut-most (g.K.View.map c.args.keep.now c.args.disk.now c.args.lot.now) (g.K.View.map c.file_inode.new.view c.file_inode.new.disk c.args.lot.now) c.in_ok-inode.inode c.args.number c.args.len c.map_length-count.result c.map_length-rest.result
-    (c.in_ok-inode.ensures.value s) c.in_ok-inode.ensures.reaches (omega arith) (omega arith) in
-    grind arith
-
-pub returns-in_err-cut-clause-unused : goal.returns-in_err-cut-clause-unused
-returns-in_err-cut-clause-unused g c = λ e s made.
-    c.in_err-cut.ensures.unused (search rules) (c.file_inode.ensures.looked.shows s)
-    (cut-owns c.args.lot.now (g.K.View.map c.args.keep.now c.args.disk.now c.args.lot.now) (g.K.View.map c.file_inode.new.view c.file_inode.new.disk c.args.lot.now) c.in_ok-inode.inode g.F.Form.ENTRY c.args.number c.args.len c.map_length-count.result c.map_length-rest.result
-    c.file_inode.ensures.looked.map (c.in_ok-inode.ensures.value s) c.in_ok-inode.ensures.reaches (omega arith) (omega arith) made)
 
 few-cut : (count rest : ℕ) → cut_room count rest ≤ 66
 few-cut count rest = grind (arith, nat_tests)
@@ -46,3 +33,16 @@ pub returns-clause-sub : goal.returns-clause-sub
 returns-clause-sub g c = λ s.
     cut-sub c.args.lot.now (g.K.View.map c.args.keep.now c.args.disk.now c.args.lot.now) (g.K.View.map c.file_inode.new.view c.file_inode.new.disk c.args.lot.now) (g.K.View.map c.cut.new.keep c.cut.new.disk c.args.lot.now) (g.K.View.map c.put_inode.new.keep c.put_inode.new.disk c.args.lot.now)
     c.in_ok-inode.inode c.cut.new.inode c.args.number c.map_length-count.result c.map_length-rest.result c.file_inode.ensures.looked.map (c.in_ok-cut.ensures.cut (c.file_inode.ensures.looked.shows s)) c.in_ok-put_inode.ensures.puts.only
+
+pub returns-in_err-cut-clause-zero : goal.returns-in_err-cut-clause-zero
+returns-in_err-cut-clause-zero g c = λ e s.
+    let z = c.in_err-cut.ensures.zero (search rules) (c.file_inode.ensures.looked.shows s) in
+    let m = ap (λ (n : ℕ → List ℕ). counted false n) c.file_inode.ensures.looked.map in
+    let l = cut-most (g.K.View.map c.args.keep.now c.args.disk.now c.args.lot.now) (g.K.View.map c.file_inode.new.view c.file_inode.new.disk c.args.lot.now) c.in_ok-inode.inode c.args.number c.args.len c.map_length-count.result c.map_length-rest.result
+    (c.in_ok-inode.ensures.value s) c.in_ok-inode.ensures.reaches (omega arith) (omega arith) in
+    omega arith
+
+pub returns-in_err-cut-clause-unused : goal.returns-in_err-cut-clause-unused
+returns-in_err-cut-clause-unused g c = λ e s.
+    cut-loses (g.K.View.map c.args.keep.now c.args.disk.now c.args.lot.now) (g.K.View.map c.file_inode.new.view c.file_inode.new.disk c.args.lot.now) c.in_ok-inode.inode c.args.number c.args.len c.map_length-count.result c.map_length-rest.result
+    c.file_inode.ensures.looked.map (c.in_ok-inode.ensures.value s) (omega arith) (omega arith) (c.in_err-cut.ensures.unused (search rules) (c.file_inode.ensures.looked.shows s))

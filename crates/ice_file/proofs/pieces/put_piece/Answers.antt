@@ -1,4 +1,4 @@
-use Rattle.std.proofs.Common.{◌+◌, max, arith}
+use Rattle.std.proofs.Common.{◌+◌, ◌∙◌, ap, ℕ, List, max, arith}
 use Rattle.std.proofs.lemmas.Bool.Decides.{nat_tests}
 use Rattle.ice_base.proofs.LotLaws.{sited-few}
 use Rattle.ice_file.proofs.DueLaws.{due-less}
@@ -32,3 +32,8 @@ returns-clause-stays g c = λ s. inodes-then (g.K.View.map c.args.keep.now c.arg
 pub returns-in_err-fill-clause-stays : goal.returns-in_err-fill-clause-stays
 returns-in_err-fill-clause-stays g c = λ s. inodes-then (g.K.View.map c.args.keep.now c.args.disk.now c.args.lot.now) (g.K.View.map c.reach.new.keep c.reach.new.disk c.args.lot.now) (g.K.View.map c.fill.new.keep c.fill.new.disk c.args.lot.now)
     (c.reach.ensures.stays s) (inodes-put c.args.lot.now (g.K.View.map c.reach.new.keep c.reach.new.disk c.args.lot.now) (g.K.View.map c.fill.new.keep c.fill.new.disk c.args.lot.now) c.in_ok-at.at c.in_ok-at.ensures.data c.in_err-fill.ensures.puts.only)
+
+pub returns-clause-within : goal.returns-clause-within
+returns-clause-within g c = λ s l b other.
+    let h = c.in_ok-at.ensures.had s l in
+    c.in_ok-fill.ensures.puts.only b (λ e. other (e ∙ h.0)) ∙ ap (λ (m : ℕ → List ℕ). m b) h.1

@@ -1,15 +1,9 @@
-use Rattle.std.proofs.Common.{rules, ◌≡◌, ◌+◌, max, ℕ, sym, ap, subst, arith}
+use Rattle.std.proofs.Common.{◌≡◌, ◌+◌, max, ℕ, sym, ap, subst, arith}
 use Rattle.ice_file.specs.Writes.{due, Reached}
 use Rattle.ice_file.proofs.DueLaws.{due-grow, due-same}
 use Rattle.ice_file.proofs.GrowthLaws.{grew-one}
-use Rattle.ice_file.proofs.MoveLaws.{grown-reached, had-reached, made-leads, made-single, widened-single}
+use Rattle.ice_file.proofs.MoveLaws.{grown-reached, had-reached, widened-single}
 use Rattle.ice_file.proofs.pieces.reach.Goals as goal
-
-pub returns-in_err-at-clause-pointer : goal.returns-in_err-at-clause-pointer
-returns-in_err-at-clause-pointer g c = λ e s made.
-    let l = made-leads c.args.lot.now (g.K.View.map c.args.keep.now c.args.disk.now c.args.lot.now) c.args.inode.now c.args.count c.args.k made (omega arith) in
-    let d = c.in_err-at.ensures.damaged (search rules) s in
-    cc
 
 pub returns-then-k-count-clause-reached : goal.returns-then-k-count-clause-reached
 returns-then-k-count-clause-reached g c = λ s made.
@@ -24,13 +18,6 @@ returns-then-k-count-clause-pays g c =
     let r = c.nth.ensures.looked.room in
     let d = due-same (g.K.View.held c.args.keep.now) (g.K.View.held c.nth.new.view) c.args.inode.now.single c.args.count (max c.args.count (c.args.k + 1)) h (omega arith) in
     omega arith
-
-pub returns-in_err-taken-clause-pointer : goal.returns-in_err-taken-clause-pointer
-returns-in_err-taken-clause-pointer g c = λ e s made.
-    let p = c.in_err-taken.ensures.pointer (search rules) in
-    let d = made-single c.args.lot.now (g.K.View.map c.args.keep.now c.args.disk.now c.args.lot.now) c.args.inode.now c.args.count made p.0 in
-    let q = p.1 in
-    cc
 
 pub returns-clause-reached : goal.returns-clause-reached
 returns-clause-reached g c = λ s made.
@@ -47,3 +34,9 @@ returns-clause-pays g c =
 pub returns-clause-grew : goal.returns-clause-grew
 returns-clause-grew g c = λ s.
     grew-one c.args.lot.now _ _ c.args.inode.now c.extend.new.inode c.args.count (max c.args.count (c.args.k + 1)) c.in_ok-taken.taken (c.in_ok-taken.ensures.grown s) c.in_ok-taken.ensures.data c.in_ok-taken.ensures.single c.in_ok-taken.ensures.fields (omega arith)
+
+pub returns-then-k-count-clause-had : goal.returns-then-k-count-clause-had
+returns-then-k-count-clause-had g c = λ s l. (c.in_ok-at.ensures.block s, c.nth.ensures.looked.map)
+
+pub returns-clause-had : goal.returns-clause-had
+returns-clause-had g c = λ s l. absurd (omega arith)

@@ -3,7 +3,7 @@ use Rattle.ice_map.proofs.PutsLaws.{spent-then, spent-by}
 use Rattle.ice_file.specs.Own.{MadeOf, blocks_for}
 use Rattle.ice_file.specs.Writes.{due}
 use Rattle.ice_file.proofs.DueLaws.{due-most}
-use Rattle.ice_file.proofs.GrowthLaws.{grew-at, grew-then, inodes-then, none-grew, full-grew, reserved-more, misled-from, count-had}
+use Rattle.ice_file.proofs.GrowthLaws.{grew-at, grew-then, inodes-then, none-grew, full-grew, reserved-more, misled-from, unmixed-next, count-had}
 use Rattle.ice_file.proofs.WriteLaws.{written-step, count-now, count-next, few-pieces, count-grows}
 use Rattle.ice_file.proofs.writes.write_blocks.Goals as goal
 
@@ -51,16 +51,10 @@ returns-in_err-put_piece-clause-misled g c = λ e s.
     let p = c.in_err-put_piece.ensures.strays (search rules) (c.loop-k.invariant.spent.shows s) in
     let n = count-now c.args.inode.now.size c.args.at (c.args.at + length c.args.bytes.now) c.loop-k.k c.max-from.result c.map_length-count.result (omega arith) (omega arith) (omega arith) (omega arith) in
     let w = grew-at c.args.lot.now (g.K.View.map c.args.keep.now c.args.disk.now c.args.lot.now) (g.K.View.map c.loop-k.keep c.loop-k.disk c.args.lot.now) c.args.inode.now c.loop-k.inode (blocks_for c.args.inode.now.size) _ c.map_length-count.result n (c.loop-k.invariant.grew s) in
-    misled-from c.args.lot.now (g.K.View.map c.args.keep.now c.args.disk.now c.args.lot.now) (g.K.View.map c.loop-k.keep c.loop-k.disk c.args.lot.now) (g.K.View.map c.put_piece.new.keep c.put_piece.new.disk c.args.lot.now)
+    misled-from c.args.lot.now (g.K.View.map c.args.keep.now c.args.disk.now c.args.lot.now) (g.K.View.map c.loop-k.keep c.loop-k.disk c.args.lot.now)
     c.args.inode.now c.loop-k.inode (blocks_for c.args.inode.now.size) c.map_length-count.result c.loop-k.k w
-    (count-had c.args.inode.now.size c.args.at c.loop-k.k c.max-from.result c.map_length-count.result c.requires.reaches.reaches (omega arith) (omega arith)) p
-
-pub returns-in_err-put_piece-clause-pointer : goal.returns-in_err-put_piece-clause-pointer
-returns-in_err-put_piece-clause-pointer g c = λ e s made.
-    let w = c.loop-k.invariant.written s made in
-    let n = count-now c.args.inode.now.size c.args.at (c.args.at + length c.args.bytes.now) c.loop-k.k c.max-from.result c.map_length-count.result (omega arith) (omega arith) (omega arith) (omega arith) in
-    c.in_err-put_piece.ensures.pointer (search rules) (c.loop-k.invariant.spent.shows s)
-    (subst (λ d. MadeOf c.args.lot.now (g.K.View.map c.loop-k.keep c.loop-k.disk c.args.lot.now) c.loop-k.inode d) n w.moved.made)
+    (count-had c.args.inode.now.size c.args.at c.loop-k.k c.max-from.result c.map_length-count.result c.requires.reaches.reaches (omega arith) (omega arith))
+    (λ l. c.loop-k.invariant.mixed s (omega arith)) p
 
 pub loop-k-preserved : goal.loop-k-preserved
 loop-k-preserved g c =
@@ -91,4 +85,10 @@ loop-k-preserved g c =
           (grew-then c.args.lot.now (g.K.View.map c.args.keep.now c.args.disk.now c.args.lot.now) (g.K.View.map c.loop-k.keep c.loop-k.disk c.args.lot.now) (g.K.View.map c.put_piece.new.keep c.put_piece.new.disk c.args.lot.now)
           c.args.inode.now c.loop-k.inode c.put_piece.new.inode (blocks_for c.args.inode.now.size) c.map_length-count.result (max c.map_length-count.result (c.loop-k.k + 1)) (omega arith) (omega arith) w (c.in_ok-put_piece.ensures.grew (c.loop-k.invariant.spent.shows s)));
       stays = λ s. inodes-then (g.K.View.map c.args.keep.now c.args.disk.now c.args.lot.now) (g.K.View.map c.loop-k.keep c.loop-k.disk c.args.lot.now) (g.K.View.map c.put_piece.new.keep c.put_piece.new.disk c.args.lot.now) (c.loop-k.invariant.stays s) (c.put_piece.ensures.stays (c.loop-k.invariant.spent.shows s));
+      mixed = λ s l long.
+          let w = grew-at c.args.lot.now (g.K.View.map c.args.keep.now c.args.disk.now c.args.lot.now) (g.K.View.map c.loop-k.keep c.loop-k.disk c.args.lot.now) c.args.inode.now c.loop-k.inode (blocks_for c.args.inode.now.size) _ c.map_length-count.result n (c.loop-k.invariant.grew s) in
+          let o = count-grows c.args.inode.now.size c.max-from.result in
+          unmixed-next c.args.lot.now (g.K.View.map c.args.keep.now c.args.disk.now c.args.lot.now) (g.K.View.map c.loop-k.keep c.loop-k.disk c.args.lot.now) (g.K.View.map c.put_piece.new.keep c.put_piece.new.disk c.args.lot.now)
+          c.args.inode.now c.loop-k.inode (blocks_for c.args.inode.now.size) c.map_length-count.result c.loop-k.k w long (omega arith)
+          (c.in_ok-put_piece.ensures.within (c.loop-k.invariant.spent.shows s) (omega arith)) (c.loop-k.invariant.mixed s (omega arith) long);
     }

@@ -1,8 +1,9 @@
-use Rattle.std.proofs.Common.{◌-◌, ◌+◌, ◌*◌, ◌/◌, ◌≤◌}
+use Rattle.std.proofs.Common.{◌-◌, ◌+◌, ◌*◌, ◌/◌, ◌≤◌, ◌<◌}
 use Rattle.ice_base.specs.Views.{Spent}
 use Rattle.ice_file.specs.Growth.{Grew, InodesStay}
 use Rattle.ice_file.specs.Own.{MadeOf, blocks_for}
 use Rattle.ice_file.specs.Writes.{Written, due, up_to, blocks_with}
+use Rattle.ice_file.proofs.GrowthLaws.{Unmixed}
 use Rattle.ice_file.proofs.writes.write_blocks.Given as goal
 
 abbrev pub invariant-loop-k : goal.invariant-loop-k
@@ -14,4 +15,6 @@ invariant-loop-k g l = record {
   grew : g.K.View.shows l.lot l.initial.keep l.initial.disk
       → Grew l.lot (g.K.View.map l.initial.keep l.initial.disk l.lot) (g.K.View.map l.keep l.disk l.lot) l.initial.inode l.inode (blocks_for l.size) (blocks_with l.size (up_to l.at l.end l.k));
   stays : g.K.View.shows l.lot l.initial.keep l.initial.disk → InodesStay (g.K.View.map l.initial.keep l.initial.disk l.lot) (g.K.View.map l.keep l.disk l.lot);
+  mixed : g.K.View.shows l.lot l.initial.keep l.initial.disk → l.k ≤ blocks_for l.size → 12 < blocks_for l.size
+      → Unmixed (g.K.View.map l.initial.keep l.initial.disk l.lot) (g.K.View.map l.keep l.disk l.lot) l.initial.inode (blocks_for l.size);
 }

@@ -1,8 +1,7 @@
 use Rattle.std.proofs.Common.{◌+◌, ◌∙◌, false, arith}
-use Rattle.ice_base.specs.declared.fault.Rule.TheVariants.{Counts, Bitmap}
 use Rattle.ice_base.proofs.LotLaws.{sited-few}
 use Rattle.ice_map.proofs.CutLaws.{between-none, length-between, next-puts, next-gave, all-puts, all-self, give-room, next-free, zero-next}
-use Rattle.ice_map.proofs.DamageLaws.{placed-none, placed-next, still-zero, still-free}
+use Rattle.ice_map.proofs.DamageLaws.{placed-none, placed-next}
 use Rattle.ice_map.proofs.MarkLaws.{marked-refl}
 use Rattle.ice_map.proofs.PutsLaws.{puts-then, puts-widen, puts-fail, puts-none, spent-none, spent-then, bitmaps-one}
 use Rattle.ice_map.proofs.cuts.give_between.Goals as goal
@@ -51,16 +50,6 @@ pub returns-in-Err-give_block-clause-unused : goal.returns-in-Err-give_block-cla
 returns-in-Err-give_block-clause-unused g c = λ e s.
     next-free c.args.lot.now (λ _. c.args.block.now) c.args.inode.now c.args.rest c.loop-k.k c.args.count _ _ c.in-Ok.at (omega arith) (omega arith) (c.in-Ok.ensures.same ∙ c.entry.ensures)
     (c.loop-k.invariant.gave s) (c.in-Err-give_block.ensures.unused e (c.loop-k.invariant.spent.shows s))
-
-pub returns-in-Err-give_block-clause-empty : goal.returns-in-Err-give_block-clause-empty
-returns-in-Err-give_block-clause-empty g c = λ e s.
-    let l = c.in-Err-give_block.ensures.looked_damaged Counts e in
-    still-zero _ _ l.map (c.in-Err-give_block.ensures.zero e (c.loop-k.invariant.spent.shows s))
-
-pub returns-in-Err-give_block-clause-unmarked : goal.returns-in-Err-give_block-clause-unmarked
-returns-in-Err-give_block-clause-unmarked g c = λ e s.
-    let l = c.in-Err-give_block.ensures.looked_damaged Bitmap e in
-    (c.loop-k.k, omega arith, omega arith, still-free _ _ _ c.in-Ok.at l.map (c.in-Ok.ensures.same ∙ c.entry.ensures) (c.in-Err-give_block.ensures.unused e (c.loop-k.invariant.spent.shows s)))
 
 pub loop-k-preserved : goal.loop-k-preserved
 loop-k-preserved g c =

@@ -1,9 +1,8 @@
-use Rattle.std.proofs.Common.{◌+◌, ◌-◌, ◌*◌, refl, sym, arith}
-use Rattle.ice_base.specs.declared.fault.Rule.TheVariants.{Counts, Bitmap}
+use Rattle.std.proofs.Common.{◌+◌, ◌-◌, ◌*◌, sym, arith}
 use Rattle.ice_base.proofs.LotLaws.{sited-few}
 use Rattle.ice_base.proofs.PutsLaws.{puts_after}
-use Rattle.ice_map.proofs.CutLaws.{all-self, give-room, gave-next, cut-length, puts-part, owns-part, owns-last, placed-single, placed-run, marked-from, cut-room-by, cut-run-more, cut-run-last, last-puts, counted-from}
-use Rattle.ice_map.proofs.DamageLaws.{read-stays, still-zero, still-free, unmarked-run, unmarked-single, misled-run, misled-single, placed-last}
+use Rattle.ice_map.proofs.CutLaws.{all-self, give-room, gave-next, cut-length, puts-part, free-part, free-last, marked-from, cut-room-by, cut-run-more, cut-run-last, last-puts, counted-from}
+use Rattle.ice_map.proofs.DamageLaws.{misled-run, misled-single, placed-last}
 use Rattle.ice_map.proofs.PutsLaws.{puts-then, puts-widen, puts-look, spent-then, spent-by, spent-after, bitmaps-one, bitmaps-only}
 use Rattle.ice_map.proofs.MarkLaws.{data_not_bitmap, data_not_sub}
 use Rattle.ice_map.proofs.cuts.give_indirect.Goals as goal
@@ -13,12 +12,6 @@ returns-in-Err-clause-puts g c = λ s. puts-look g.D.Disk g.K.View c.args.lot.no
 
 pub returns-in-Err-clause-bitmaps : goal.returns-in-Err-clause-bitmaps
 returns-in-Err-clause-bitmaps g c = puts-look g.D.Disk g.K.View c.args.lot.now _ _ _ _ _ _ c.read_indirect.ensures.looked
-
-pub returns-in-Err-clause-pointer : goal.returns-in-Err-clause-pointer
-returns-in-Err-clause-pointer g c = λ e s placed.
-    let p = placed-single c.args.lot.now _ c.args.inode.now c.args.count c.requires.long placed in
-    let q = c.in-Err.ensures.pointer e in
-    absurd cc
 
 pub returns-in-Err-give_between-clause-puts : goal.returns-in-Err-give_between-clause-puts
 returns-in-Err-give_between-clause-puts g c = λ s. puts_after g.D.Disk g.K.View c.args.lot.now _ _ _ _ _ _ _ _ c.read_indirect.ensures.looked
@@ -36,16 +29,6 @@ returns-in-Err-give_between-clause-zero g c = λ e s.
     let z = c.in-Err-give_between.ensures.zero e (c.read_indirect.ensures.looked.shows s) in
     let l = cut-length (g.K.View.map c.args.keep.now c.args.disk.now c.args.lot.now) c.args.inode.now c.args.count c.args.rest in
     counted-from _ _ _ _ c.read_indirect.ensures.looked.map z l
-
-pub returns-in-Err-give_between-clause-unused : goal.returns-in-Err-give_between-clause-unused
-returns-in-Err-give_between-clause-unused g c = λ e s owns.
-    c.in-Err-give_between.ensures.unused e (c.read_indirect.ensures.looked.shows s)
-    (owns-part _ _ c.read_indirect.new.into c.args.inode.now c.args.count c.args.rest c.read_indirect.ensures.looked.map (λ _. c.in-Ok.ensures.content s) owns)
-
-pub returns-in-Err-give_between-clause-pointer : goal.returns-in-Err-give_between-clause-pointer
-returns-in-Err-give_between-clause-pointer g c = λ e s placed.
-    let p = c.in-Err-give_between.ensures.pointer e in
-    placed-run c.args.lot.now _ c.read_indirect.new.into c.args.inode.now c.args.count p.0 (λ _. c.in-Ok.ensures.content s) p.2 placed p.3
 
 pub returns-then-rest-gt12-clause-gave : goal.returns-then-rest-gt12-clause-gave
 returns-then-rest-gt12-clause-gave g c = λ s. marked-from _ _ _ _ _ _ _ c.read_indirect.ensures.looked.map (cut-run-more _ c.read_indirect.new.into c.args.inode.now c.args.count c.args.rest c.if-rest-gt12.true (λ _. c.in-Ok.ensures.content s))
@@ -101,12 +84,6 @@ returns-in-Err-give_block-clause-spent g c =
     let t = spent-after g.D.Disk g.K.View c.args.lot.now _ _ _ _ _ _ _ c.read_indirect.ensures.looked (spent-then g.D.Disk g.K.View c.args.lot.now _ _ (2 * (c.args.count - c.args.rest) + 2) _ _ _ _ _ _ c.give_between.ensures.spent c.give_block.ensures.spent (omega arith)) in
     spent-by g.D.Disk g.K.View c.args.lot.now _ _ _ _ _ _ t (cut-room-by g.K.View c.args.lot.now _ _ _ _ _ c.args.count c.args.rest _ (sited-few _ _ c.requires.sited) p t.room (λ h. omega arith))
 
-pub returns-in-Err-give_block-clause-unused : goal.returns-in-Err-give_block-clause-unused
-returns-in-Err-give_block-clause-unused g c = λ e s owns.
-    let t = c.read_indirect.ensures.looked.shows s in
-    owns-last c.args.lot.now _ _ _ c.read_indirect.new.into c.args.inode.now c.args.count c.args.rest c.read_indirect.ensures.looked.map c.requires.long (omega arith) (λ _. c.in-Ok.ensures.content s)
-    (c.in-Ok-give_between.ensures.gave t) (c.in-Err-give_block.ensures.unused e (c.give_between.ensures.spent.shows t)) owns
-
 pub returns-then-rest-gt12-clause-single : goal.returns-then-rest-gt12-clause-single
 returns-then-rest-gt12-clause-single g c =
     bitmaps-only g.K.View c.args.lot.now _ _ _ _ _ _ (puts_after g.D.Disk g.K.View c.args.lot.now _ _ _ _ _ _ _ _ c.read_indirect.ensures.looked c.in-Ok-give_between.ensures.bitmaps)
@@ -123,34 +100,24 @@ returns-in-Err-give_between-clause-bitmaps g c = puts_after g.D.Disk g.K.View c.
 pub returns-in-Err-clause-misled : goal.returns-in-Err-clause-misled
 returns-in-Err-clause-misled g c = λ e s. misled-single c.args.lot.now _ c.args.inode.now c.args.count c.requires.long (c.in-Err.ensures.pointer e)
 
-pub returns-in-Err-give_between-clause-empty : goal.returns-in-Err-give_between-clause-empty
-returns-in-Err-give_between-clause-empty g c = λ e s. c.in-Err-give_between.ensures.empty e (c.read_indirect.ensures.looked.shows s)
-
-pub returns-in-Err-give_between-clause-unmarked : goal.returns-in-Err-give_between-clause-unmarked
-returns-in-Err-give_between-clause-unmarked g c = λ e s.
-    let p = c.in-Err-give_between.ensures.unmarked e (c.read_indirect.ensures.looked.shows s) in
-    unmarked-run _ c.read_indirect.new.into c.args.inode.now c.args.count p.0
-    (λ _. read-stays g.K.View c.args.lot.now _ _ _ _ _ _ c.args.inode.now c.read_indirect.new.into (sited-few _ _ c.requires.sited) c.in-Ok.ensures.data (c.in-Ok.ensures.content s) (returns-in-Err-give_between-clause-bitmaps g c)) p.2 p.3
-
-pub returns-in-Err-give_between-clause-misled : goal.returns-in-Err-give_between-clause-misled
-returns-in-Err-give_between-clause-misled g c = λ e s.
-    let p = c.in-Err-give_between.ensures.pointer e in
-    misled-run c.args.lot.now _ c.read_indirect.new.into c.args.inode.now c.args.count p.0
-    (λ _. read-stays g.K.View c.args.lot.now _ _ _ _ _ _ c.args.inode.now c.read_indirect.new.into (sited-few _ _ c.requires.sited) c.in-Ok.ensures.data (c.in-Ok.ensures.content s) (returns-in-Err-give_between-clause-bitmaps g c)) p.2 p.3
-
-pub returns-in-Err-give_block-clause-empty : goal.returns-in-Err-give_block-clause-empty
-returns-in-Err-give_block-clause-empty g c = λ e s.
-    let l = c.in-Err-give_block.ensures.looked_damaged Counts e in
-    still-zero _ _ l.map (c.in-Err-give_block.ensures.zero e (c.give_between.ensures.spent.shows (c.read_indirect.ensures.looked.shows s)))
-
-pub returns-in-Err-give_block-clause-unmarked : goal.returns-in-Err-give_block-clause-unmarked
-returns-in-Err-give_block-clause-unmarked g c = λ e s.
-    let l = c.in-Err-give_block.ensures.looked_damaged Bitmap e in
-    unmarked-single _ c.args.inode.now c.args.count c.requires.long
-    (still-free _ _ c.args.inode.now.single c.args.inode.now.single l.map refl (c.in-Err-give_block.ensures.unused e (c.give_between.ensures.spent.shows (c.read_indirect.ensures.looked.shows s))))
-
 pub returns-then-rest-gt12-clause-placed : goal.returns-then-rest-gt12-clause-placed
 returns-then-rest-gt12-clause-placed g c = λ s. rw (cut-run-more _ c.read_indirect.new.into c.args.inode.now c.args.count c.args.rest c.if-rest-gt12.true (λ _. c.in-Ok.ensures.content s)) c.in-Ok-give_between.ensures.placed
 
 pub returns-in-Ok-give_block-clause-placed : goal.returns-in-Ok-give_block-clause-placed
 returns-in-Ok-give_block-clause-placed g c = λ s. placed-last c.args.lot.now _ c.read_indirect.new.into c.args.inode.now c.args.count c.args.rest c.requires.long (omega arith) (λ _. c.in-Ok.ensures.content s) c.in-Ok.ensures.data c.in-Ok-give_between.ensures.placed
+
+pub returns-in-Err-give_between-clause-unused : goal.returns-in-Err-give_between-clause-unused
+returns-in-Err-give_between-clause-unused g c = λ e s.
+    free-part _ _ c.read_indirect.new.into c.args.inode.now c.args.count c.args.rest c.read_indirect.ensures.looked.map (λ _. c.in-Ok.ensures.content s)
+    (c.in-Err-give_between.ensures.unused e (c.read_indirect.ensures.looked.shows s))
+
+pub returns-in-Err-give_block-clause-unused : goal.returns-in-Err-give_block-clause-unused
+returns-in-Err-give_block-clause-unused g c = λ e s.
+    let t = c.read_indirect.ensures.looked.shows s in
+    free-last c.args.lot.now _ _ _ c.read_indirect.new.into c.args.inode.now c.args.count c.args.rest c.read_indirect.ensures.looked.map c.requires.long (omega arith) (λ _. c.in-Ok.ensures.content s)
+    (c.in-Ok-give_between.ensures.gave t) (c.in-Err-give_block.ensures.unused e (c.give_between.ensures.spent.shows t))
+
+pub returns-in-Err-give_between-clause-misled : goal.returns-in-Err-give_between-clause-misled
+returns-in-Err-give_between-clause-misled g c = λ e s.
+    let p = c.in-Err-give_between.ensures.pointer e in
+    misled-run c.args.lot.now _ c.read_indirect.new.into c.args.inode.now c.args.count p.0 (λ _. c.in-Ok.ensures.content s) p.2 p.3

@@ -5,8 +5,8 @@ use Rattle.ice_base.specs.Views.{Puts}
 use Rattle.ice_map.specs.Maps.{Marked, given_puts}
 use Rattle.ice_map.proofs.MarkLaws.{marked-refl}
 use Rattle.ice_map.proofs.PutsLaws.{puts-none}
-use Rattle.ice_map.proofs.CutLaws.{on-cut, cut-none, cut-length, owns-part, placed-run}
-use Rattle.ice_map.proofs.DamageLaws.{placed-uncut, unmarked-run, misled-run}
+use Rattle.ice_map.proofs.CutLaws.{on-cut, cut-none, cut-length, free-part}
+use Rattle.ice_map.proofs.DamageLaws.{placed-uncut, misled-run}
 use Rattle.ice_map.proofs.cuts.give_rest.Goals as goal
 
 pub returns-then-rest-count-clause-gave : goal.returns-then-rest-count-clause-gave
@@ -30,20 +30,10 @@ returns-clause-zero g c = λ e s.
     omega arith
 
 pub returns-clause-unused : goal.returns-clause-unused
-returns-clause-unused g c = λ e s owns. c.give_between.ensures.unused e s (owns-part _ _ _ c.args.inode.now c.args.count c.args.rest refl (λ n. absurd (omega arith)) owns)
-
-pub returns-clause-pointer : goal.returns-clause-pointer
-returns-clause-pointer g c = λ e s placed.
-    let p = c.give_between.ensures.pointer e in
-    placed-run c.args.lot.now _ _ c.args.inode.now c.args.count p.0 (λ n. absurd (omega arith)) p.2 placed p.3
+returns-clause-unused g c = λ e s. free-part _ _ _ c.args.inode.now c.args.count c.args.rest refl (λ n. absurd (omega arith)) (c.give_between.ensures.unused e s)
 
 pub returns-then-rest-count-clause-placed : goal.returns-then-rest-count-clause-placed
 returns-then-rest-count-clause-placed g c = λ s. placed-uncut c.args.lot.now _ c.args.inode.now c.args.count c.args.rest (omega arith)
-
-pub returns-clause-unmarked : goal.returns-clause-unmarked
-returns-clause-unmarked g c = λ e s.
-    let p = c.give_between.ensures.unmarked e s in
-    unmarked-run _ _ c.args.inode.now c.args.count p.0 (λ n. absurd (omega arith)) p.2 p.3
 
 pub returns-clause-misled : goal.returns-clause-misled
 returns-clause-misled g c = λ e s.
