@@ -151,11 +151,10 @@ impl FileHost {
         ensures disk { SameDisk (silent_state self.old) (silent_state self.new) }
         ensures only { GaveOnly (silent_state self.old).streams (silent_state self.new).streams }
     {
-        self.output.send();
-        if self.output.lost {
-            return Err(self.count_sink_fault());
+        if self.output.send() {
+            return Ok(());
         }
-        Ok(())
+        Err(self.count_sink_fault())
     }
 
     /// The status of a run once all replies that were held back are sent. Where that fails the run ended by it: whatever else it
@@ -263,8 +262,8 @@ impl Disk for FileHost {
         ensures lost { OnOk result (self.new.lost ≡ false) }
         ensures before { self.old.lost ≡ true → self.new.lost ≡ true }
     {
-        self.output.send();
-        if self.output.lost {
+        let may_write = self.output.send();
+        if !may_write {
             return Err(self.count_disk_fault());
         }
         if self.write_file(at, from) {
@@ -282,8 +281,8 @@ impl Disk for FileHost {
         ensures lost { OnOk result (self.new.lost ≡ false) }
         ensures before { self.old.lost ≡ true → self.new.lost ≡ true }
     {
-        self.output.send();
-        if self.output.lost {
+        let may_sync = self.output.send();
+        if !may_sync {
             return Err(self.count_disk_fault());
         }
         if self.sync_file() {
@@ -334,35 +333,93 @@ impl Host for FileHost {
 #[cfg(test)]
 mod tests {
     use super::*;
+    use std::fs;
     use std::test::Fail;
+
+    // How many blocks the host of a file has, or why there is none.
+    fn attached(rt: &HostRuntime, name: &str, least: u32) -> Result<u32, OpenFault> {
+        match FileHost::attach(rt, name, least) {
+            Ok(host) => Ok(host.blocks()),
+            Err(fault) => Err(fault),
+        }
+    }
 
     #[test]
     fn a_block_reads_back_after_a_barrier(rt: HostRuntime) -> Result<(), Fail> {
-        let mut host = FileHost::attach(&rt, "img", 3)?;
+        let mut host = FileHost::attach(&rt, "back", 3)?;
         assert_eq!(rt; host.blocks(), 3);
-        let mut block = [7; 1024];
+        let mut block = [0; 1024];
+        for k in 0..1024 {
+            block[k] = (k % 251) as u8;
+        }
         host.write(2, &block)?;
         host.barrier()?;
-        block[0] = 0;
-        host.read(2, &mut block)?;
-        assert_eq!(rt; block[0], 7);
-        host.read(1, &mut block)?;
-        assert_eq!(rt; block[0], 0);
+        let mut again = [1; 1024];
+        host.read(2, &mut again)?;
+        assert_eq!(rt; again, block);
+        host.read(1, &mut again)?;
+        assert_eq!(rt; again, [0; 1024]);
         host.finish()?;
+        fs::remove_file(&rt, "back")?;
+        Ok(())
+    }
+
+    #[test]
+    fn a_longer_file_stays_whole(rt: HostRuntime) -> Result<(), Fail> {
+        let mut host = FileHost::attach(&rt, "longer", 4)?;
+        assert_eq!(rt; host.blocks(), 4);
+        host.write(3, &[7; 1024])?;
+        let mut again = FileHost::attach(&rt, "longer", 2)?;
+        assert_eq!(rt; again.blocks(), 4);
+        let mut block = [0; 1024];
+        again.read(3, &mut block)?;
+        assert_eq!(rt; block, [7; 1024]);
+        fs::remove_file(&rt, "longer")?;
+        Ok(())
+    }
+
+    #[test]
+    fn a_block_that_is_gone_is_a_fault(rt: HostRuntime) -> Result<(), Fail> {
+        let mut host = FileHost::attach(&rt, "shorter", 3)?;
+        assert_eq!(rt; host.blocks(), 3);
+        OpenOptions::new()
+            .write(true)
+            .open(&rt, "shorter")?
+            .set_len(2500)?;
+        assert_eq!(rt; host.read(1, &mut [0; 1024]), Ok(()));
+        assert_eq!(rt; host.read(2, &mut [0; 1024]), Err(DiskFault::Failed));
+        assert_eq!(rt; attached(&rt, "shorter", 0), Ok(2));
+        fs::remove_file(&rt, "shorter")?;
         Ok(())
     }
 
     #[test]
     fn a_file_is_made_only_where_blocks_are_asked_for(rt: HostRuntime) -> Result<(), Fail> {
-        assert!(rt; FileHost::attach(&rt, "none", 0).is_err());
-        assert!(rt; FileHost::attach(&rt, "none", 0).is_err());
-        assert!(rt; FileHost::attach(&rt, ".", 1).is_err());
-        let host = FileHost::attach(&rt, "some", 2)?;
-        assert_eq!(rt; host.blocks(), 2);
-        let again = FileHost::attach(&rt, "some", 0)?;
-        assert_eq!(rt; again.blocks(), 2);
+        for (name, least, want) in [
+            ("made", 0, Err(OpenFault::Failed)),
+            ("made", 0, Err(OpenFault::Failed)),
+            (".", 1, Err(OpenFault::Failed)),
+            (".", 0, Err(OpenFault::Failed)),
+            ("made", 2, Ok(2)),
+            ("made", 0, Ok(2)),
+            ("made", 3, Ok(3)),
+        ] {
+            assert_eq!(rt; attached(&rt, name, least), want, "{name} {least}");
+        }
+        fs::remove_file(&rt, "made")?;
         assert_eq!(rt; FileHost::missing(&rt).blocks(), 0);
         assert!(rt; FileHost::missing(&rt).finish().is_ok());
         Ok(())
+    }
+
+    #[test]
+    fn want_of_memory_is_told_from_other_failures(rt: HostRuntime) {
+        for (kind, want) in [
+            (ErrorKind::OutOfMemory, OpenFault::Memory),
+            (ErrorKind::NotFound, OpenFault::Failed),
+            (ErrorKind::PermissionDenied, OpenFault::Failed),
+        ] {
+            assert_eq!(rt; open_fault(kind.into()), want);
+        }
     }
 }

@@ -1,5 +1,5 @@
 //! A sink that holds given bytes back.
-ghost use Rattle.std.specs.Prelude.{◌≡◌, ◌≤◌, ◌<◌, [], true, false, length, take, IfSome, IfOk, IsOk, IsNone, MatchOption};
+ghost use Rattle.std.specs.Prelude.{◌≡◌, ◌↔◌, ◌≤◌, ◌<◌, [], true, false, length, take, IfSome, IfOk, IsOk, IsNone, MatchOption};
 ghost use Rattle.std.specs.Io.Buffered.{writer_buffer, writer_contents};
 ghost use Rattle.std.specs.Io.KnownBytes.{Keeps, Appends};
 
@@ -45,8 +45,9 @@ impl<W: Write + Drop> Sink<W> {
         taken
     }
 
-    /// Sends what it holds. Where that failed, now or before, the rest is lost.
-    pub(crate) fn send(&mut self)
+    /// Sends what it holds, and says whether all was sent. Where that failed, now or before, the rest is lost.
+    pub(crate) fn send(&mut self) -> bool
+        ensures all { result ≡ true ↔ self.new.lost ≡ false }
         ensures sent { self.new.lost ≡ false → writer_buffer self.new.output ≡ [] }
         ensures order { Keeps (writer_contents W.contents self.old.output) (writer_contents W.contents self.new.output) }
         ensures before { self.old.lost ≡ true → self.new.lost ≡ true }
@@ -54,6 +55,7 @@ impl<W: Write + Drop> Sink<W> {
         if !self.lost {
             self.lost = self.output.flush().is_err();
         }
+        !self.lost
     }
 }
 
@@ -106,8 +108,7 @@ mod tests {
             assert_eq!(rt; sink.give(bytes.as_bytes()), Some(taken));
             assert_eq!(rt; sink.output.get_ref().bytes.as_slice(), sent.as_bytes());
         }
-        sink.send();
-        assert!(rt; !sink.lost);
+        assert!(rt; sink.send());
         assert_eq!(rt;
             sink.output.get_ref().bytes.as_slice(),
             b"abcdefghijklmn".as_slice()
@@ -135,8 +136,7 @@ mod tests {
         assert_eq!(rt; sink.give(b"ghi"), None);
         assert!(rt; sink.lost);
         sink.output.get_mut().calls = 100;
-        sink.send();
-        assert!(rt; sink.lost);
+        assert!(rt; !sink.send());
         assert_eq!(rt; sink.give(b"j"), None);
         assert_eq!(rt; sink.output.get_ref().bytes.as_slice(), b"abcd".as_slice());
         Ok(())

@@ -42,3 +42,64 @@ pub(crate) fn give_piece<W: Write>(output: &mut W, bytes: &[u8]) -> Option<usize
     }
     None
 }
+
+#[cfg(test)]
+mod tests {
+    use super::*;
+    use std::io;
+    use std::test::Fail;
+
+    /// Five bytes, two at a time. The call of that number fails in that way.
+    #[derive(Drop)]
+    struct Tape {
+        at: usize,
+        calls: u32,
+        fault: (u32, ErrorKind),
+    }
+
+    impl Read for Tape {
+        fn read(&mut self, into: &mut [u8]) -> io::Result<usize> {
+            let call = self.calls;
+            self.calls = call.saturating_add(1);
+            if call == self.fault.0 {
+                return Err(self.fault.1.into());
+            }
+            let mut count = 0;
+            for byte in into.iter_mut().take(2) {
+                if self.at >= 5 {
+                    return Ok(count);
+                }
+                *byte = b"abcde"[self.at];
+                self.at += 1;
+                count += 1;
+            }
+            Ok(count)
+        }
+    }
+
+    #[test]
+    fn input_comes_in_pieces_until_its_end_or_a_failure(rt: HostRuntime) -> Result<(), Fail> {
+        let table = [
+            ((9, ErrorKind::Other), [Some(2), Some(2), Some(1), Some(0)]),
+            (
+                (1, ErrorKind::Interrupted),
+                [Some(2), Some(2), Some(1), Some(0)],
+            ),
+            (
+                (1, ErrorKind::IsADirectory),
+                [Some(2), None, Some(2), Some(1)],
+            ),
+        ];
+        for (fault, wants) in table {
+            let mut tape = Tape {
+                at: 0,
+                calls: 0,
+                fault,
+            };
+            for want in wants {
+                assert_eq!(rt; take_piece(&mut tape, &mut [0; 4]), want);
+            }
+        }
+        Ok(())
+    }
+}

@@ -93,3 +93,137 @@ pub(crate) fn write_whole<F: Places>(file: &mut F, at: u32, from: &Block) -> io:
     }
     Err(ErrorKind::Interrupted.into())
 }
+
+#[cfg(test)]
+mod tests {
+    use super::*;
+    use std::test::Fail;
+
+    /// Bytes that move at most `most` at a time. The call of that number fails in that way.
+    #[derive(Drop)]
+    struct Tray {
+        bytes: Vec<u8>,
+        most: usize,
+        calls: u32,
+        fault: Option<(u32, ErrorKind)>,
+    }
+
+    impl Tray {
+        // How many bytes of so many move, from a place on.
+        fn moves(&mut self, wanted: usize, from: u64) -> io::Result<usize> {
+            let call = self.calls;
+            self.calls = call.saturating_add(1);
+            match self.fault {
+                Some((number, kind)) if number == call => Err(kind.into()),
+                _ => {
+                    let left = self.bytes.len().saturating_sub(from as usize);
+                    Ok(wanted.min(self.most).min(left))
+                }
+            }
+        }
+    }
+
+    impl Places for Tray {
+        ghost tells = { λ t. false };
+
+        ghost byte = { λ t k. 0 };
+
+        fn read_piece(&mut self, into: &mut [u8], from: u64) -> io::Result<usize> {
+            let count = self.moves(into.len(), from)?;
+            for k in 0..count {
+                into[k] = self.bytes[from as usize + k];
+            }
+            Ok(count)
+        }
+
+        fn write_piece(&mut self, bytes: &[u8], from: u64) -> io::Result<usize> {
+            let count = self.moves(bytes.len(), from)?;
+            for k in 0..count {
+                self.bytes[from as usize + k] = bytes[k];
+            }
+            Ok(count)
+        }
+    }
+
+    // Byte k of the tray is the remainder of k by 251. Three blocks, and ten bytes.
+    fn full_tray(
+        rt: &HostRuntime,
+        most: usize,
+        fault: Option<(u32, ErrorKind)>,
+    ) -> Result<Tray, Fail> {
+        let mut bytes = Vec::new(rt.alloc());
+        for k in 0..3082 {
+            bytes.push((k % 251) as u8)?;
+        }
+        Ok(Tray {
+            bytes,
+            most,
+            calls: 0,
+            fault,
+        })
+    }
+
+    // The pieces of 300 bytes, the call that fails and how, and what comes of it: none is success.
+    const CASES: [(u32, ErrorKind, Option<ErrorKind>); 4] = [
+        (9, ErrorKind::Other, None),
+        (2, ErrorKind::Interrupted, None),
+        (0, ErrorKind::Other, Some(ErrorKind::Other)),
+        (
+            3,
+            ErrorKind::PermissionDenied,
+            Some(ErrorKind::PermissionDenied),
+        ),
+    ];
+
+    fn kind_of(outcome: io::Result<()>) -> Option<ErrorKind> {
+        match outcome {
+            Ok(()) => None,
+            Err(error) => Some(error.kind()),
+        }
+    }
+
+    #[test]
+    fn a_block_is_read_piece_by_piece(rt: HostRuntime) -> Result<(), Fail> {
+        for (call, kind, want) in CASES {
+            let mut tray = full_tray(&rt, 300, Some((call, kind)))?;
+            let mut block = [0; 1024];
+            assert_eq!(rt;
+                kind_of(read_whole(&mut tray, 1, &mut block)),
+                want,
+                "{call}"
+            );
+            if want.is_none() {
+                for k in 0..1024 {
+                    assert_eq!(rt; block[k], ((1024 + k) % 251) as u8, "{k}");
+                }
+            }
+        }
+        let mut tray = full_tray(&rt, 300, None)?;
+        let past = kind_of(read_whole(&mut tray, 3, &mut [0; 1024]));
+        assert_eq!(rt; past, Some(ErrorKind::UnexpectedEof));
+        Ok(())
+    }
+
+    #[test]
+    fn a_block_is_written_piece_by_piece(rt: HostRuntime) -> Result<(), Fail> {
+        let mut block = [0; 1024];
+        for k in 0..1024 {
+            block[k] = (k % 253) as u8;
+        }
+        for (call, kind, want) in CASES {
+            let mut tray = full_tray(&rt, 300, Some((call, kind)))?;
+            assert_eq!(rt; kind_of(write_whole(&mut tray, 1, &block)), want, "{call}");
+            for k in 0..3082 {
+                let inside = (1024..2048).contains(&k);
+                if want.is_none() || !inside {
+                    let byte = if inside { (k - 1024) % 253 } else { k % 251 };
+                    assert_eq!(rt; tray.bytes[k], byte as u8, "{call} {k}");
+                }
+            }
+        }
+        let mut tray = full_tray(&rt, 0, None)?;
+        let none = kind_of(write_whole(&mut tray, 1, &block));
+        assert_eq!(rt; none, Some(ErrorKind::WriteZero));
+        Ok(())
+    }
+}
