@@ -2,9 +2,9 @@
 use Rattle.std.specs.Prelude.{◌≡◌, ◌<◌, ◌⊎◌, ℕ, List, [], ◌∷◌, ◌++◌, length, map, IsOk, ⊤}
 use Rattle.ice_base.specs.Disk.{Image}
 use Rattle.tree_spec.specs.Lines.{Line}
-use Rattle.tree_spec.specs.Replies.{Response}
+use Rattle.tree_spec.specs.Replies.{Response, HasNames}
 use Rattle.tree_spec.specs.World.{World, Step}
-use Rattle.ice_text.specs.Text.{text}
+use Rattle.ice_text.specs.Text.{text, closings}
 use Rattle.ice_run.specs.Images.{Fits}
 
 -- a line with its reply and the world after it
@@ -32,6 +32,11 @@ abbrev pub texts : List Answered → List ℕ
 texts [] = []
 texts (a ∷ rest) = text a.reply ++ texts rest
 
+-- the names in the replies are names
+abbrev pub AllNamed : List Answered → Type 0
+AllNamed [] = ⊤
+AllNamed (a ∷ rest) = HasNames a.reply × AllNamed rest
+
 -- the first bytes, but not all
 abbrev pub IsProperPrefix : List ℕ → List ℕ → Type 0
 IsProperPrefix xs ys = (rest : List ℕ) × (0 < length rest) × (ys ≡ xs ++ rest)
@@ -55,7 +60,10 @@ pub record After (fits : World → Type 0) (w : World) (script : List Line) (out
   pub runs : RunsFirst w script steps
   pub tail : List ℕ
   pub gives : out ≡ texts steps ++ tail
-  pub here : (fits (end w steps) × ((r : Response) × IsProperPrefix tail (text r)))
+  pub count : closings out ≡ length steps
+  -- no byte of a further reply, or the front of one to the next line
+  pub further : (tail ≡ []) ⊎ ((r : Response) × (v : World) × Next w script steps r v × IsProperPrefix tail (text r))
+  pub here : fits (end w steps)
       ⊎ ((r : Response) × (v : World) × Next w script steps r v × IsOk r × fits v × IsProperPrefix tail (text r))
 
 -- what a crash in a run may leave, where these bytes had been given before

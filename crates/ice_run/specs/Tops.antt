@@ -8,7 +8,7 @@ use Rattle.ice_layout.specs.Geometry.{total_blocks}
 use Rattle.ice_layout.specs.Supers.{IsFreshImage}
 use Rattle.ice_layout.specs.declared.superblock.Super.{Super}
 use Rattle.ice_run.specs.Causes.{FormatCause, SessionCause, HasAttached}
-use Rattle.ice_run.specs.Images.{IsEmptyVolume}
+use Rattle.ice_run.specs.Images.{IsEmptyVolume, Starts, empty_world}
 
 -- The making of an image. It changes blocks 0 to 31 alone, takes and gives nothing, and at Done they are the fresh image and nothing is loose.
 -- Small comes exactly where there are too few blocks, and then nothing was done.
@@ -17,6 +17,7 @@ pub record FormatsImage {D : Type 0} (state : D → DiskState) (left : D → ℕ
   pub cause : FormatCause sup status (state old) (state new)
   pub room : (state old).size < total_blocks sup.slots sup.groups → (status ≡ Small) × (new ≡ old)
   pub fresh : (state old).tells ≡ true → status ≡ Done → IsFreshImage sup (state new).now × Settled Everywhere (state new)
+  pub opens : (state old).tells ≡ true → status ≡ Done → Starts (state new) (empty_world sup)
 
 -- A session. No line changes the disk yet. A disk without a block is Small before any call on it.
 pub record RunsSession {D : Type 0} (state : D → DiskState) (status : Status) (old new : D) : Type 0 where
@@ -24,3 +25,5 @@ pub record RunsSession {D : Type 0} (state : D → DiskState) (status : Status) 
   pub kept : Kept Everywhere (state old) (state new)
   pub no_block : (state old).size ≡ 0 → ((status ≡ Small) ⊎ (status ≡ Memory)) × (new ≡ old)
   pub attached : (state old).tells ≡ true → HasAttached status → (sup : Super) × IsEmptyVolume sup (state old).now
+  pub silent : (HasAttached status → ⊥) → (state new).streams ≡ (state old).streams
+  pub settled : (state old).tells ≡ true → HasAttached status → Settled Everywhere (state new)

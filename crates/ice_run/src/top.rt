@@ -9,7 +9,7 @@ ghost use Rattle.tree_spec.specs.World.{World};
 ghost use Rattle.ice_run.specs.Causes.{SessionCause, FormatCause, HasAttached};
 ghost use Rattle.ice_run.specs.Endings.{EndsAs};
 ghost use Rattle.ice_run.specs.Forms.{form_of, Formats, Runs};
-ghost use Rattle.ice_run.specs.Images.{Starts, Stands, IsEmptyVolume};
+ghost use Rattle.ice_run.specs.Images.{Starts, Stands, IsEmptyVolume, empty_world};
 ghost use Rattle.ice_run.specs.Runs.{Left};
 ghost use Rattle.ice_run.specs.Scripts.{script_lines};
 ghost use Rattle.ice_run.specs.Tops.{FormatsImage, RunsSession};
@@ -30,6 +30,7 @@ fn format_image<D: Disk>(disk: &mut D, sup: &Super) -> Status
     ensures cause { FormatCause sup.now result (D.state disk.old) (D.state disk.new) }
     ensures room { (D.state disk.old).size < total_blocks sup.now.slots sup.now.groups → (result ≡ Status.Small) × (disk.new ≡ disk.old) }
     ensures fresh { (D.state disk.old).tells ≡ true → result ≡ Status.Done → IsFreshImage sup.now (D.state disk.new).now × Settled Everywhere (D.state disk.new) }
+    ensures opens { (D.state disk.old).tells ≡ true → result ≡ Status.Done → Starts (D.state disk.new) (empty_world sup.now) }
 {
     if disk.blocks() < total(sup.slots, sup.groups) {
         return Status::Small;
@@ -47,6 +48,8 @@ fn run_session<H: Host>(alloc: Global, host: &mut H) -> Status
     ensures no_block { (H.state host.old).size ≡ 0 → ((result ≡ Status.Small) ⊎ (result ≡ Status.Memory)) × (host.new ≡ host.old) }
     ensures kept { Kept Everywhere (H.state host.old) (H.state host.new) }
     ensures attached { (H.state host.old).tells ≡ true → HasAttached result → (sup : Geometry) × IsEmptyVolume sup (H.state host.old).now }
+    ensures silent { (HasAttached result → ⊥) → (H.state host.new).streams ≡ (H.state host.old).streams }
+    ensures settled { (H.state host.old).tells ≡ true → HasAttached result → Settled Everywhere (H.state host.new) }
     ensures output { (w : World) → Starts (H.state host.old) w → EndsAs result w (H.state host.old) (H.state host.new) }
     ensures exit { (w : World) → Starts (H.state host.old) w → result ≡ Status.Done → Stands w (H.state host.new) }
     ensures crash { (w : World) → Starts (H.state host.old) w → (image : Image) (out : List ℕ) → H.left host.new (H.state host.old).clock image out
