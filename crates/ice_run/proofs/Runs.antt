@@ -67,9 +67,6 @@ closings-texts (a ∷ rest) tail named none =
 pub front : (xs : List ℕ) (m : ℕ) → m < length xs → IsProperPrefix (take m xs) xs
 front xs m less = (drop m xs, omega (arith, length-drop m xs), sym (take-append-drop m xs))
 
-pub nothing_given : (xs : List ℕ) → 0 < length xs → IsProperPrefix [] xs
-nothing_given xs some = (xs, some, refl)
-
 -- a volume without cubes lists none
 none_listed : (w : World) (slots : List ℕ) → ((slot : ℕ) → w.cube slot ≡ None) → flat_map (λ slot. row_at slot (w.cube slot)) slots ≡ []
 none_listed w [] free = refl

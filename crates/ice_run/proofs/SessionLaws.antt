@@ -10,11 +10,10 @@ use Rattle.tree_spec.specs.Replies.{Response, HasNames}
 use Rattle.tree_spec.specs.World.{World, Step}
 use Rattle.ice_text.specs.Text.{text, closings}
 use Rattle.ice_text.proofs.Closings.{closings-part}
-use Rattle.ice_text.proofs.Laws.{text_some}
 use Rattle.ice_run.specs.Images.{Fits, Stands}
 use Rattle.ice_run.specs.Runs.{Answered, end, lines_of, texts, Left}
 use Rattle.ice_run.specs.Sessions.{Gave, SoFar, CutShort}
-use Rattle.ice_run.proofs.Runs.{push, named-push, closings-texts, closings-none, runs-push, end-push, lines_of-push, texts-push, front, nothing_given}
+use Rattle.ice_run.proofs.Runs.{push, named-push, closings-texts, closings-none, runs-push, end-push, lines_of-push, texts-push, front}
 
 pub on_ok : {T E P Q : Type 0} (r : Result T E) → (P → Q) → OnOk r P → OnOk r Q
 on_ok (Ok x) f p = f p
@@ -86,8 +85,10 @@ module _ (w : World) (script lines ahead : List Line) (line : Line) (r : Respons
       tail = take m (text r);
       gives = refl;
       count = closings-texts gave.steps (take m (text r)) gave.named (part_none r m less names);
-      further = inr (r, w, record { line = line; ahead = ahead; lines = first_lines; step = step_on }, front (text r) m less);
-      here = inl (subst (λ v. Fits v image) (sym gave.stays) fits);
+      front = inr (r, w, record { line = line; ahead = ahead; lines = first_lines; step = step_on }, front (text r) m less);
+      world = end w gave.steps;
+      reached = inl refl;
+      holds = subst (λ v. Fits v image) (sym gave.stays) fits;
     },
   )
 
@@ -106,8 +107,10 @@ module _ (w : World) (script lines ahead : List Line) (line : Line) (r : Respons
       tail = [];
       gives = sym (append_nil (texts more_steps));
       count = ap closings (sym (append_nil (texts more_steps))) ∙ closings-texts more_steps [] (named-push gave.steps line r w gave.named names) closings-none;
-      further = inl refl;
-      here = inl (subst (λ v. Fits v image) (sym (end-push w gave.steps line r w)) fits);
+      front = inl refl;
+      world = end w more_steps;
+      reached = inl refl;
+      holds = subst (λ v. Fits v image) (sym (end-push w gave.steps line r w)) fits;
     },
   )
 

@@ -25,10 +25,6 @@ pub record Fits (w : World) (image : Image) : Type 0 where
   pub groups : sup.groups ≡ w.groups
   pub free : (slot : ℕ) → w.cube slot ≡ None
 
--- the world of a fresh image: no cube
-abbrev pub empty_world : Super → World
-empty_world sup = record { slots = sup.slots; groups = sup.groups; cube = λ slot. None }
-
 -- the disk is settled, and what reads give is a volume of this world
 pub record Starts (s : DiskState) (w : World) : Type 0 where
   pub settled : Settled Everywhere s

@@ -54,17 +54,26 @@ pub record Next (w : World) (script : List Line) (steps : List Answered) (r : Re
   pub lines : script ≡ lines_of steps ++ line ∷ ahead
   pub step : Step (end w steps) line r v
 
--- After whole replies and the front of a further one, the world then fits, or the one after the line in work.
+-- nothing, or the front of a reply that the line in work may have
+abbrev pub IsFront : World → List Line → List Answered → List ℕ → Type 0
+IsFront w script steps tail = (tail ≡ []) ⊎ ((r : Response) × (v : World) × Next w script steps r v × IsProperPrefix tail (text r))
+
+-- the world after these lines, or one after the line in work, of which an Ok reply begins with these bytes
+abbrev pub Reached : World → List Line → List Answered → List ℕ → World → Type 0
+Reached w script steps tail v = (v ≡ end w steps) ⊎ ((r : Response) × Next w script steps r v × IsOk r × IsProperPrefix tail (text r))
+
+-- What was given is the text of as many replies as it has closing lines, those of a run of the first lines, and the front of a further one.
+-- The world after these lines, or one after the line in work, fits.
 pub record After (fits : World → Type 0) (w : World) (script : List Line) (out : List ℕ) : Type 0 where
   pub steps : List Answered
   pub runs : RunsFirst w script steps
   pub tail : List ℕ
   pub gives : out ≡ texts steps ++ tail
   pub count : closings out ≡ length steps
-  -- no byte of a further reply, or the front of one to the next line
-  pub further : (tail ≡ []) ⊎ ((r : Response) × (v : World) × Next w script steps r v × IsProperPrefix tail (text r))
-  pub here : fits (end w steps)
-      ⊎ ((r : Response) × (v : World) × Next w script steps r v × IsOk r × fits v × IsProperPrefix tail (text r))
+  pub front : IsFront w script steps tail
+  pub world : World
+  pub reached : Reached w script steps tail world
+  pub holds : fits world
 
 -- what a crash in a run may leave, where these bytes had been given before
 abbrev pub Left : List ℕ → World → List Line → Image → List ℕ → Type 0
