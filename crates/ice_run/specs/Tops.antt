@@ -22,7 +22,7 @@ pub record FormatsImage {D : Type 0} (state : D → DiskState) (left : D → ℕ
   pub opens : (state old).tells ≡ true → status ≡ Done → Opens (state new).now (empty_world sup)
 
 -- A session. No line changes the disk yet. A disk without a block is Small before any call on it.
--- Where the volume did not attach, nothing was taken, given or written; where it attached, all is settled.
+-- Where the volume did not attach, nothing was taken or given and no block changed; where it attached, all is settled.
 pub record RunsSession {D : Type 0} (state : D → DiskState) (left : D → ℕ → Image → List ℕ → Type 0) (status : Status) (old new : D) : Type 0 where
   pub cause : SessionCause status (state old) (state new)
   pub kept : Kept Everywhere (state old) (state new)
