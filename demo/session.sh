@@ -3,10 +3,12 @@
 set -eu
 top=$(cd "$(dirname "$0")/.." && pwd)
 program=$top/crates/icefs/out/icefs
-[ -x "$program" ] || (cd "$top/crates/icefs" && rt run -- --version >/dev/null 2>&1 || true)
-[ -x "$program" ] || { echo "the program did not build: run 'rt run' in crates/icefs" >&2; exit 1; }
 folder=$(mktemp -d)
 trap 'rm -rf "$folder"' EXIT
+if [ ! -x "$program" ]; then
+    echo "building the program, which is proved first: about ten minutes" >&2
+    (cd "$top/crates/icefs" && rt run -- format "$folder/built" --slots 1 --groups 1) >&2
+fi
 cd "$folder"
 "$program" format img --slots 4 --groups 16
 echo "formatted img: $(stat -c %s img) bytes"

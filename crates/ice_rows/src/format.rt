@@ -23,11 +23,10 @@ fn a_disk_of_1312_blocks_gets_the_image_and_one_of_1311_stays(rt: HostRuntime) -
     assert_eq!(rt; host.barriers(), 1);
     assert_eq!(rt; host.calls(), 33);
     assert!(rt; host.output().is_empty());
-    if host.blocks() == 1312 {
-        let first = host.block(0);
-        assert_eq!(rt; first[..20], START[..]);
-        assert!(rt; first[20..].iter().all(|byte| *byte == 0));
-    }
+    assert_eq!(rt; host.blocks(), 1312);
+    let first = host.block(0);
+    assert_eq!(rt; first[..20], START[..]);
+    assert!(rt; first[20..].iter().all(|byte| *byte == 0));
     let mut small = MemHost::new(alloc, 1311)?;
     assert_eq!(rt; run(alloc, &words, &mut small), Status::Small);
     assert_eq!(rt; small.calls(), 0);
@@ -41,12 +40,11 @@ fn a_file_of_1312_blocks_gets_the_image_and_one_of_1311_stays(rt: HostRuntime) -
     let mut host = FileHost::attach(&rt, "img", 1312)?;
     assert_eq!(rt; run(alloc, &words, &mut host), Status::Done);
     let mut block = [7; 1024];
-    if host.blocks() == 1312 {
-        host.read(0, &mut block)?;
-        assert_eq!(rt; block[..20], START[..]);
-        host.read(31, &mut block)?;
-        assert!(rt; block.iter().all(|byte| *byte == 0));
-    }
+    assert_eq!(rt; host.blocks(), 1312);
+    host.read(0, &mut block)?;
+    assert_eq!(rt; block[..20], START[..]);
+    host.read(31, &mut block)?;
+    assert!(rt; block.iter().all(|byte| *byte == 0));
     let mut small = FileHost::attach(&rt, "small", 1311)?;
     assert_eq!(rt; run(alloc, &words, &mut small), Status::Small);
     Ok(())

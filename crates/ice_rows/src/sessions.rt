@@ -125,12 +125,11 @@ fn each_crash_of_a_session_leaves_a_volume(rt: HostRuntime) -> Result<(), Fail> 
     assert_eq!(rt; session(alloc, &mut host, b"cubes\n")?, Status::Done);
     let end = host.calls().saturating_add(1);
     for moment in 0..end {
-        if moment <= host.calls() {
-            let mut after = host.crashed(alloc, moment, 2)?;
-            after.reserve(100, 100)?;
-            assert_eq!(rt; session(alloc, &mut after, b"cubes\n")?, Status::Done);
-            assert_eq!(rt; after.output(), b"ok 0\n".as_slice());
-        }
+        assert!(rt; moment <= host.calls());
+        let mut after = host.crashed(alloc, moment, 2)?;
+        after.reserve(100, 100)?;
+        assert_eq!(rt; session(alloc, &mut after, b"cubes\n")?, Status::Done);
+        assert_eq!(rt; after.output(), b"ok 0\n".as_slice());
     }
     Ok(())
 }

@@ -1,5 +1,5 @@
 -- Runs that grow by a line.
-use Rattle.std.proofs.Common.{◌≡◌, ◌∙◌, ◌<◌, ℕ, List, [], ◌∷◌, ◌++◌, length, take, drop, refl, sym, ap, subst, append_assoc, length-drop, arith, None, Ok}
+use Rattle.std.proofs.Common.{◌≡◌, ◌∙◌, ◌<◌, ℕ, suc, List, [], ◌∷◌, ◌++◌, length, take, drop, refl, sym, ap, subst, append_assoc, length-drop, arith, None, Ok}
 use Rattle.std.specs.List.{range_with_len, flat_map}
 use Rattle.std.proofs.lemmas.List.{take-append-drop}
 use Rattle.tree_spec.specs.declared.command.Command.{Command}
@@ -8,10 +8,11 @@ use Rattle.tree_spec.specs.declared.reply.Entry.{Entry}
 use Rattle.tree_spec.specs.declared.reply.CubeRow.{CubeRow}
 use Rattle.tree_spec.specs.Lines.{Line, Asks, asked}
 use Rattle.tree_spec.specs.Lines as request
-use Rattle.tree_spec.specs.Replies.{Response, Listed}
+use Rattle.tree_spec.specs.Replies.{Response, Listed, HasNames}
 use Rattle.tree_spec.specs.World.{World, Step, rows_of, row_at}
-use Rattle.ice_text.specs.Text.{text}
-use Rattle.ice_run.specs.Runs.{Answered, Runs, end, lines_of, texts, IsProperPrefix}
+use Rattle.ice_text.specs.Text.{text, closings, lines_in}
+use Rattle.ice_text.proofs.Closings.{closings-text-append}
+use Rattle.ice_run.specs.Runs.{Answered, AllNamed, Runs, end, lines_of, texts, IsProperPrefix}
 
 -- one more line
 pub push : List Answered → Line → Response → World → List Answered
@@ -41,12 +42,30 @@ texts-push [] line r v = append_nil (text r)
     append_nil (x ∷ xs) = ap (λ (y : List ℕ). x ∷ y) (append_nil xs)
 texts-push (a ∷ rest) line r v = ap (λ (x : List ℕ). text a.reply ++ x) (texts-push rest line r v) ∙ sym (append_assoc (text a.reply) (texts rest) (text r))
 
+pub named-push : (steps : List Answered) (line : Line) (r : Response) (v : World) → AllNamed steps → HasNames r → AllNamed (push steps line r v)
+unfolding push
+named-push [] line r v named has_names = (has_names, tt)
+named-push (a ∷ rest) line r v named has_names = (named.0, named-push rest line r v named.1 has_names)
+
+pub length-push : (steps : List Answered) (line : Line) (r : Response) (v : World) → length (push steps line r v) ≡ suc (length steps)
+unfolding push
+length-push [] line r v = refl
+length-push (a ∷ rest) line r v = ap suc (length-push rest line r v)
+
+-- no byte has no closing line
+pub closings-none : closings [] ≡ 0
+unfolding lines_in
+closings-none = refl
+
+-- as many closing lines as whole replies
+pub closings-texts : (steps : List Answered) (tail : List ℕ) → AllNamed steps → closings tail ≡ 0 → closings (texts steps ++ tail) ≡ length steps
+closings-texts [] tail named none = none
+closings-texts (a ∷ rest) tail named none =
+    ap closings (append_assoc (text a.reply) (texts rest) tail) ∙ closings-text-append a.reply (texts rest ++ tail) named.0 ∙ ap suc (closings-texts rest tail named.1 none)
+
 -- a front of a text that is shorter than it
 pub front : (xs : List ℕ) (m : ℕ) → m < length xs → IsProperPrefix (take m xs) xs
 front xs m less = (drop m xs, omega (arith, length-drop m xs), sym (take-append-drop m xs))
-
-pub nothing_given : (xs : List ℕ) → 0 < length xs → IsProperPrefix [] xs
-nothing_given xs some = (xs, some, refl)
 
 -- a volume without cubes lists none
 none_listed : (w : World) (slots : List ℕ) → ((slot : ℕ) → w.cube slot ≡ None) → flat_map (λ slot. row_at slot (w.cube slot)) slots ≡ []

@@ -8,18 +8,15 @@ use Rattle.ice_base.specs.declared.status.Status.TheVariants.{Done, Source, Sink
 use Rattle.tree_spec.specs.Lines.{Line}
 use Rattle.tree_spec.specs.World.{World}
 use Rattle.ice_script.specs.Reading.{Gathered}
-use Rattle.ice_text.specs.Text.{text}
-use Rattle.ice_text.proofs.Laws.{text_some}
-use Rattle.tree_spec.specs.Replies.{Response, Plain}
+use Rattle.ice_text.specs.Text.{closings}
 use Rattle.ice_run.specs.Images.{Fits, Stands}
-use Rattle.ice_run.specs.Runs.{texts, Left}
+use Rattle.ice_run.specs.Runs.{end, texts, Left}
 use Rattle.ice_run.specs.Scripts.{script_lines, ended_lines, longest_script, cut_of}
 use Rattle.ice_run.specs.Pieces.{TookOnly, TookPiece}
 use Rattle.ice_run.specs.Sessions.{Gave, SoFar, CutShort, Serving}
 use Rattle.ice_run.specs.Servings.{Fed, Served}
-use Rattle.ice_run.proofs.Runs.{nothing_given}
+use Rattle.ice_run.proofs.Runs.{closings-texts, closings-none}
 use Rattle.ice_run.proofs.Scripts.{lines_ahead}
-use Rattle.std.specs.Prelude.{Ok}
 
 append_nil : (xs : List ℕ) → xs ++ [] ≡ xs
 append_nil [] = refl
@@ -28,7 +25,7 @@ append_nil (x ∷ xs) = ap (λ (y : List ℕ). x ∷ y) (append_nil xs)
 -- whole replies were given, and the image is a volume of the world that they lead to
 pub between_lines : (w : World) (script lines ahead : List Line) (old mid : DiskState) (image : Image) (out : List ℕ) → Gave w lines [] old mid → script ≡ lines ++ ahead → Fits w image → out ≡ mid.streams.aside
     → Left old.streams.aside w script image out
-between_lines w script lines ahead old mid image out gave is fits same = let some : Response = Ok Plain in (
+between_lines w script lines ahead old mid image out gave is fits same = (
   texts gave.steps,
   same ∙ gave.gives ∙ append_nil (old.streams.aside ++ texts gave.steps),
   record {
@@ -36,18 +33,22 @@ between_lines w script lines ahead old mid image out gave is fits same = let som
     runs = record { runs = gave.runs; ahead = ahead; lines = is ∙ ap (λ (x : List Line). x ++ ahead) (sym gave.asked) };
     tail = [];
     gives = sym (append_nil (texts gave.steps));
-    here = inl (subst (λ v. Fits v image) (sym gave.stays) fits, (some, nothing_given (text some) (text_some some)));
+    count = ap closings (sym (append_nil (texts gave.steps))) ∙ closings-texts gave.steps [] gave.named closings-none;
+    front = inl refl;
+    world = end w gave.steps;
+    reached = inl refl;
+    holds = subst (λ v. Fits v image) (sym gave.stays) fits;
   },
 )
 
 gave_still : (w : World) (lines : List Line) (tail : List ℕ) (old mid new : DiskState) → Gave w lines tail old mid → new.streams.aside ≡ mid.streams.aside → Gave w lines tail old new
-gave_still w lines tail old mid new gave same = record { steps = gave.steps; runs = gave.runs; asked = gave.asked; gives = same ∙ gave.gives; stays = gave.stays }
+gave_still w lines tail old mid new gave same = record { steps = gave.steps; runs = gave.runs; asked = gave.asked; named = gave.named; gives = same ∙ gave.gives; stays = gave.stays }
 
 module _ {D : Type 0} (state : D → DiskState) (left : D → ℕ → Image → List ℕ → Type 0) (w : World) where
   -- nothing is answered yet
   pub so_far_none : (script : List Line) (d : D) → SoFar state left w script [] d d
   so_far_none script d = record {
-    gave = record { steps = []; runs = tt; asked = refl; gives = sym (append_nil ((state d).streams.aside ++ []) ∙ append_nil (state d).streams.aside); stays = refl };
+    gave = record { steps = []; runs = tt; asked = refl; named = tt; gives = sym (append_nil ((state d).streams.aside ++ []) ∙ append_nil (state d).streams.aside); stays = refl };
     kept = kept_refl Everywhere (state d);
     crash = record { each = λ t i o l. inl l };
   }

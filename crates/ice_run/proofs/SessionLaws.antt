@@ -6,14 +6,14 @@ use Rattle.ice_base.specs.Frames.{Kept, LeavesOnly}
 use Rattle.ice_base.specs.Host.{SameDisk, Leaves, FirstOf, CutOf}
 use Rattle.ice_base.proofs.Kept.{kept_then, kept_same, every_kept}
 use Rattle.tree_spec.specs.Lines.{Line}
-use Rattle.tree_spec.specs.Replies.{Response}
+use Rattle.tree_spec.specs.Replies.{Response, HasNames}
 use Rattle.tree_spec.specs.World.{World, Step}
-use Rattle.ice_text.specs.Text.{text}
-use Rattle.ice_text.proofs.Laws.{text_some}
+use Rattle.ice_text.specs.Text.{text, closings}
+use Rattle.ice_text.proofs.Closings.{closings-part}
 use Rattle.ice_run.specs.Images.{Fits, Stands}
 use Rattle.ice_run.specs.Runs.{Answered, end, lines_of, texts, Left}
 use Rattle.ice_run.specs.Sessions.{Gave, SoFar, CutShort}
-use Rattle.ice_run.proofs.Runs.{push, runs-push, end-push, lines_of-push, texts-push, front, nothing_given}
+use Rattle.ice_run.proofs.Runs.{push, named-push, closings-texts, closings-none, runs-push, end-push, lines_of-push, texts-push, front}
 
 pub on_ok : {T E P Q : Type 0} (r : Result T E) → (P → Q) → OnOk r P → OnOk r Q
 on_ok (Ok x) f p = f p
@@ -31,13 +31,17 @@ append_nil (x ∷ xs) = ap (λ (y : List ℕ). x ∷ y) (append_nil xs)
 shifted : (aside given mid more out : List ℕ) → mid ≡ aside ++ given ++ [] → out ≡ mid ++ more → out ≡ aside ++ (given ++ more)
 shifted aside given mid more out is was = was ∙ ap (λ (x : List ℕ). x ++ more) (is ∙ append_nil (aside ++ given)) ∙ append_assoc aside given more
 
+-- the front of a reply has no closing line
+part_none : (r : Response) (m : ℕ) → m < length (text r) → HasNames r → closings (take m (text r)) ≡ 0
+part_none r m less names = let p = front (text r) m less in closings-part r (take m (text r)) p.0 names p.2 p.1
+
 take_same : (xs : List ℕ) (n : ℕ) → n ≡ length xs → take n xs ≡ xs
 take_same xs n is = grind (arith, take_all)
 
 same_or_less : (m n : ℕ) → m ≤ n → (m < n) ⊎ (m ≡ n)
 same_or_less m n le = grind arith
 
-module _ (w : World) (script lines ahead : List Line) (line : Line) (r : Response) (old mid : DiskState) (gave : Gave w lines [] old mid) (is : script ≡ lines ++ line ∷ ahead) (step : Step w line r w) where
+module _ (w : World) (script lines ahead : List Line) (line : Line) (r : Response) (old mid : DiskState) (gave : Gave w lines [] old mid) (is : script ≡ lines ++ line ∷ ahead) (step : Step w line r w) (names : HasNames r) where
   more_steps : List Answered
   more_steps = push gave.steps line r w
 
@@ -53,6 +57,7 @@ module _ (w : World) (script lines ahead : List Line) (line : Line) (r : Respons
   gave_more new all = record {
     steps = more_steps;
     runs = runs-push w gave.steps line r w gave.runs step_on;
+    named = named-push gave.steps line r w gave.named names;
     asked = lines_of-push gave.steps line r w ∙ ap (λ (x : List Line). x ++ line ∷ []) gave.asked;
     gives = shifted old.streams.aside (texts gave.steps) mid.streams.aside (text r) new.streams.aside gave.gives all
         ∙ ap (λ (x : List ℕ). old.streams.aside ++ x) (sym (texts-push gave.steps line r w)) ∙ sym (append_nil (old.streams.aside ++ texts more_steps));
@@ -65,6 +70,7 @@ module _ (w : World) (script lines ahead : List Line) (line : Line) (r : Respons
     steps = gave.steps;
     runs = gave.runs;
     asked = gave.asked;
+    named = gave.named;
     gives = shifted old.streams.aside (texts gave.steps) mid.streams.aside (take m (text r)) new.streams.aside gave.gives part ∙ sym (append_assoc old.streams.aside (texts gave.steps) (take m (text r)));
     stays = gave.stays;
   }
@@ -78,7 +84,11 @@ module _ (w : World) (script lines ahead : List Line) (line : Line) (r : Respons
       runs = record { runs = gave.runs; ahead = line ∷ ahead; lines = first_lines };
       tail = take m (text r);
       gives = refl;
-      here = inl (subst (λ v. Fits v image) (sym gave.stays) fits, (r, front (text r) m less));
+      count = closings-texts gave.steps (take m (text r)) gave.named (part_none r m less names);
+      front = inr (r, w, record { line = line; ahead = ahead; lines = first_lines; step = step_on }, front (text r) m less);
+      world = end w gave.steps;
+      reached = inl refl;
+      holds = subst (λ v. Fits v image) (sym gave.stays) fits;
     },
   )
 
@@ -96,7 +106,11 @@ module _ (w : World) (script lines ahead : List Line) (line : Line) (r : Respons
       };
       tail = [];
       gives = sym (append_nil (texts more_steps));
-      here = inl (subst (λ v. Fits v image) (sym (end-push w gave.steps line r w)) fits, (r, nothing_given (text r) (text_some r)));
+      count = ap closings (sym (append_nil (texts more_steps))) ∙ closings-texts more_steps [] (named-push gave.steps line r w gave.named names) closings-none;
+      front = inl refl;
+      world = end w more_steps;
+      reached = inl refl;
+      holds = subst (λ v. Fits v image) (sym (end-push w gave.steps line r w)) fits;
     },
   )
 
@@ -108,13 +122,13 @@ module _ (w : World) (script lines ahead : List Line) (line : Line) (r : Respons
       (same_or_less first.0 (length (text r)) first.1)
 
 module _ {D : Type 0} (state : D → DiskState) (left : D → ℕ → Image → List ℕ → Type 0) (w : World) (script lines ahead : List Line) (line : Line) (r : Response) (start mid new : D)
-    (stands : Stands w (state start)) (so_far : SoFar state left w script lines start mid) (is : script ≡ lines ++ line ∷ ahead) (step : Step w line r w)
+    (stands : Stands w (state start)) (so_far : SoFar state left w script lines start mid) (is : script ≡ lines ++ line ∷ ahead) (step : Step w line r w) (names : HasNames r)
     (same : SameDisk (state mid) (state new)) (leaves : Leaves state left (FirstOf (state mid).streams.aside (text r) (length (text r))) mid new) where
   crash_more : LeavesOnly left start new (Left (state start).streams.aside w script)
   crash_more = record {
     each = λ t image out l. ⊎_elim
         (λ before. so_far.crash.each t image out before)
-        (λ here. inr (left_in_reply w script lines ahead line r (state start) (state mid) so_far.gave is step image out
+        (λ here. inr (left_in_reply w script lines ahead line r (state start) (state mid) so_far.gave is step names image out
         (every_kept Everywhere (Fits w) (state start) (state mid) so_far.kept stands.fits image here.0) here.1))
         (leaves.left_new t image out l);
   }
@@ -123,24 +137,24 @@ module _ {D : Type 0} (state : D → DiskState) (left : D → ℕ → Image → 
   kept_more = kept_then Everywhere (state start) (state mid) (state new) so_far.kept (kept_same Everywhere (state mid) (state new) same)
 
   pub answered_more : (state new).streams.aside ≡ (state mid).streams.aside ++ text r → SoFar state left w script (lines ++ line ∷ []) start new
-  answered_more all = record { gave = gave_more w script lines ahead line r (state start) (state mid) so_far.gave is step (state new) all; kept = kept_more; crash = crash_more }
+  answered_more all = record { gave = gave_more w script lines ahead line r (state start) (state mid) so_far.gave is step names (state new) all; kept = kept_more; crash = crash_more }
 
   pub cut_short : CutOf (state mid).streams.aside (text r) (state new).streams.aside → CutShort state left w script start new
   unfolding gave_part
   cut_short cut = record {
     lines = lines;
     tail = take cut.0 (text r);
-    gave = gave_part w script lines ahead line r (state start) (state mid) so_far.gave is step (state new) cut.0 cut.2;
+    gave = gave_part w script lines ahead line r (state start) (state mid) so_far.gave is step names (state new) cut.0 cut.2;
     reply = r;
     then = w;
-    next = record { line = line; ahead = ahead; lines = first_lines w script lines ahead line r (state start) (state mid) so_far.gave is step; step = step_on w script lines ahead line r (state start) (state mid) so_far.gave is step };
+    next = record { line = line; ahead = ahead; lines = first_lines w script lines ahead line r (state start) (state mid) so_far.gave is step names; step = step_on w script lines ahead line r (state start) (state mid) so_far.gave is step names };
     part = front (text r) cut.0 cut.1;
     kept = kept_more;
     crash = crash_more;
   }
 
 module _ {D T E : Type 0} (state : D → DiskState) (left : D → ℕ → Image → List ℕ → Type 0) (w : World) (script lines ahead : List Line) (line : Line) (r : Response) (start mid new : D)
-    (stands : Stands w (state start)) (so_far : SoFar state left w script lines start mid) (is : script ≡ lines ++ line ∷ ahead) (step : Step w line r w)
+    (stands : Stands w (state start)) (so_far : SoFar state left w script lines start mid) (is : script ≡ lines ++ line ∷ ahead) (step : Step w line r w) (names : HasNames r)
     (same : SameDisk (state mid) (state new)) (bytes : List ℕ) (whole : bytes ≡ text r)
     (leaves : (state mid).tells ≡ true → Leaves state left (FirstOf (state mid).streams.aside bytes (length bytes)) mid new) (result : Result T E) where
   tells_on : (state mid).tells ≡ true
@@ -152,10 +166,10 @@ module _ {D T E : Type 0} (state : D → DiskState) (left : D → ℕ → Image 
   -- the reply's bytes were given, all of them or a front
   pub answered_ok : ((state mid).tells ≡ true → OnOk result ((state new).streams.aside ≡ (state mid).streams.aside ++ bytes)) → OnOk result (SoFar state left w script (lines ++ line ∷ []) start new)
   answered_ok all = on_ok result
-      (λ given. answered_more state left w script lines ahead line r start mid new stands so_far is step same leaves_on (given ∙ ap (λ (x : List ℕ). (state mid).streams.aside ++ x) whole))
+      (λ given. answered_more state left w script lines ahead line r start mid new stands so_far is step names same leaves_on (given ∙ ap (λ (x : List ℕ). (state mid).streams.aside ++ x) whole))
       (all tells_on)
 
   pub answered_err : ((state mid).tells ≡ true → OnErr result (CutOf (state mid).streams.aside bytes (state new).streams.aside)) → OnErr result (CutShort state left w script start new)
   answered_err cut = on_err result
-      (λ given. cut_short state left w script lines ahead line r start mid new stands so_far is step same leaves_on (subst (λ (x : List ℕ). CutOf (state mid).streams.aside x (state new).streams.aside) whole given))
+      (λ given. cut_short state left w script lines ahead line r start mid new stands so_far is step names same leaves_on (subst (λ (x : List ℕ). CutOf (state mid).streams.aside x (state new).streams.aside) whole given))
       (cut tells_on)

@@ -55,7 +55,7 @@ ends_map P R Q U Volume old new f h e = e
 ends_map P R Q U Small old new f h e = e
 
 gave_from : (w : World) (lines : List Line) (tail : List ℕ) (old mid new : DiskState) → mid.streams ≡ old.streams → Gave w lines tail mid new → Gave w lines tail old new
-gave_from w lines tail old mid new same gave = record { steps = gave.steps; runs = gave.runs; asked = gave.asked; gives = subst (λ (x : Streams). new.streams.aside ≡ x.aside ++ texts gave.steps ++ tail) same gave.gives; stays = gave.stays }
+gave_from w lines tail old mid new same gave = record { steps = gave.steps; runs = gave.runs; asked = gave.asked; named = gave.named; gives = subst (λ (x : Streams). new.streams.aside ≡ x.aside ++ texts gave.steps ++ tail) same gave.gives; stays = gave.stays }
 
 part_from : {D : Type 0} (state : D → DiskState) (left : D → ℕ → Image → List ℕ → Type 0) (w : World) (old mid new : D) → (state mid).streams ≡ (state old).streams
     → CutShort state left w (script_lines (state mid).streams.intake) mid new → PartOf w (script_lines (state old).streams.intake) (state old) (state new)

@@ -30,5 +30,5 @@ ReadGives (Err Disk) s = ⊤
 abbrev pub AttachGives : Result Super AttachFault → DiskState → Type 0
 AttachGives (Ok sup) s = IsEmptyVolume sup s.now
 AttachGives (Err Small) s = (s.size ≡ 0) ⊎ TooSmall s.size s.now
-AttachGives (Err Layout) s = NoVolume s.now
+AttachGives (Err Layout) s = NoVolume s.now × (TooSmall s.size s.now → ⊥)
 AttachGives (Err Disk) s = ⊤

@@ -2,9 +2,9 @@
 use Rattle.std.specs.Prelude.{◌≡◌, ◌<◌, ◌⊎◌, ℕ, List, [], ◌∷◌, ◌++◌, length, map, IsOk, ⊤}
 use Rattle.ice_base.specs.Disk.{Image}
 use Rattle.tree_spec.specs.Lines.{Line}
-use Rattle.tree_spec.specs.Replies.{Response}
+use Rattle.tree_spec.specs.Replies.{Response, HasNames}
 use Rattle.tree_spec.specs.World.{World, Step}
-use Rattle.ice_text.specs.Text.{text}
+use Rattle.ice_text.specs.Text.{text, closings}
 use Rattle.ice_run.specs.Images.{Fits}
 
 -- a line with its reply and the world after it
@@ -32,6 +32,11 @@ abbrev pub texts : List Answered → List ℕ
 texts [] = []
 texts (a ∷ rest) = text a.reply ++ texts rest
 
+-- the names in the replies are names
+abbrev pub AllNamed : List Answered → Type 0
+AllNamed [] = ⊤
+AllNamed (a ∷ rest) = HasNames a.reply × AllNamed rest
+
 -- the first bytes, but not all
 abbrev pub IsProperPrefix : List ℕ → List ℕ → Type 0
 IsProperPrefix xs ys = (rest : List ℕ) × (0 < length rest) × (ys ≡ xs ++ rest)
@@ -49,14 +54,26 @@ pub record Next (w : World) (script : List Line) (steps : List Answered) (r : Re
   pub lines : script ≡ lines_of steps ++ line ∷ ahead
   pub step : Step (end w steps) line r v
 
--- After whole replies and the front of a further one, the world then fits, or the one after the line in work.
+-- nothing, or the front of a reply that the line in work may have
+abbrev pub IsFront : World → List Line → List Answered → List ℕ → Type 0
+IsFront w script steps tail = (tail ≡ []) ⊎ ((r : Response) × (v : World) × Next w script steps r v × IsProperPrefix tail (text r))
+
+-- the world after these lines, or one after the line in work, of which an Ok reply begins with these bytes
+abbrev pub Reached : World → List Line → List Answered → List ℕ → World → Type 0
+Reached w script steps tail v = (v ≡ end w steps) ⊎ ((r : Response) × Next w script steps r v × IsOk r × IsProperPrefix tail (text r))
+
+-- What was given is the text of as many replies as it has closing lines, those of a run of the first lines, and the front of a further one.
+-- The world after these lines, or one after the line in work, fits.
 pub record After (fits : World → Type 0) (w : World) (script : List Line) (out : List ℕ) : Type 0 where
   pub steps : List Answered
   pub runs : RunsFirst w script steps
   pub tail : List ℕ
   pub gives : out ≡ texts steps ++ tail
-  pub here : (fits (end w steps) × ((r : Response) × IsProperPrefix tail (text r)))
-      ⊎ ((r : Response) × (v : World) × Next w script steps r v × IsOk r × fits v × IsProperPrefix tail (text r))
+  pub count : closings out ≡ length steps
+  pub front : IsFront w script steps tail
+  pub world : World
+  pub reached : Reached w script steps tail world
+  pub holds : fits world
 
 -- what a crash in a run may leave, where these bytes had been given before
 abbrev pub Left : List ℕ → World → List Line → Image → List ℕ → Type 0

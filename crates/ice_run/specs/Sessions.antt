@@ -8,13 +8,14 @@ use Rattle.tree_spec.specs.World.{World}
 use Rattle.ice_text.specs.Text.{text}
 use Rattle.ice_script.specs.Reading.{Gathered}
 use Rattle.ice_run.specs.Scripts.{cut_of, ended_lines, script_lines}
-use Rattle.ice_run.specs.Runs.{Answered, Runs, end, lines_of, texts, IsProperPrefix, Next, Left}
+use Rattle.ice_run.specs.Runs.{Answered, AllNamed, Runs, end, lines_of, texts, IsProperPrefix, Next, Left}
 
 -- what was given from one state to another: the replies of a run of these lines, and the front of a further one
 pub record Gave (w : World) (lines : List Line) (tail : List ℕ) (old new : DiskState) : Type 0 where
   pub steps : List Answered
   pub runs : Runs w steps
   pub asked : lines_of steps ≡ lines
+  pub named : AllNamed steps
   pub gives : new.streams.aside ≡ old.streams.aside ++ texts steps ++ tail
   -- no line changes the world yet
   pub stays : end w steps ≡ w

@@ -1,7 +1,7 @@
 //! Opening a volume. Until there are tables to read, it has no cube.
-ghost use Rattle.std.specs.Prelude.{◌≡◌, ◌≤◌, ◌<◌, ◌↔◌, true, IfOk, IfErr, Err, IsTrue};
-ghost use Rattle.ice_base.specs.Disk.{Nowhere, HasCause, block};
-ghost use Rattle.ice_base.specs.Frames.{Within};
+ghost use Rattle.std.specs.Prelude.{◌≡◌, ◌≤◌, ◌<◌, ◌↔◌, true, IfOk, IfErr, OnOk, Err, IsTrue};
+ghost use Rattle.ice_base.specs.Disk.{Nowhere, Everywhere, HasCause, block};
+ghost use Rattle.ice_base.specs.Frames.{Within, Settled};
 ghost use Rattle.ice_layout.specs.Geometry.{total_blocks, zero_block};
 ghost use Rattle.ice_run.specs.Attaching.{AttachGives, AttachCause, ReadGives, Tables};
 
@@ -79,6 +79,7 @@ pub(crate) fn attach<D: Disk>(disk: &mut D) -> Result<Super, AttachFault>
     ensures within { Within D.state D.left Nowhere disk.old disk.new }
     ensures cause { IfErr result (λ fault. AttachCause fault (D.state disk.old) (D.state disk.new)) }
     ensures gives { (D.state disk.old).tells ≡ true → AttachGives result (D.state disk.old) }
+    ensures settled { (D.state disk.old).tells ≡ true → OnOk result (Settled Everywhere (D.state disk.new)) }
     ensures no_block { (D.state disk.old).size ≡ 0 → (result ≡ Err AttachFault.Small) × (disk.new ≡ disk.old) }
 {
     if disk.blocks() == 0 {

@@ -1,6 +1,6 @@
 //! The top call.
 ghost use Rattle.std.specs.Prelude.{◌≡◌, ◌⊎◌, ◌<◌, ◌↔◌, ℕ, List, true, None, Some};
-ghost use Rattle.ice_base.specs.Disk.{Image, Below, Everywhere};
+ghost use Rattle.ice_base.specs.Disk.{Image, Below, Everywhere, Nowhere};
 ghost use Rattle.ice_base.specs.Frames.{Within, Kept, Settled};
 ghost use Rattle.ice_layout.specs.Geometry.{total_blocks};
 ghost use Rattle.ice_layout.specs.Supers.{is_geometry, IsFreshImage};
@@ -9,6 +9,7 @@ ghost use Rattle.tree_spec.specs.World.{World};
 ghost use Rattle.ice_run.specs.Causes.{SessionCause, FormatCause, HasAttached};
 ghost use Rattle.ice_run.specs.Endings.{EndsAs};
 ghost use Rattle.ice_run.specs.Forms.{form_of, Formats, Runs};
+ghost use Rattle.ice_images.specs.Opening.{Opens, empty_world};
 ghost use Rattle.ice_run.specs.Images.{Starts, Stands, IsEmptyVolume};
 ghost use Rattle.ice_run.specs.Runs.{Left};
 ghost use Rattle.ice_run.specs.Scripts.{script_lines};
@@ -30,6 +31,8 @@ fn format_image<D: Disk>(disk: &mut D, sup: &Super) -> Status
     ensures cause { FormatCause sup.now result (D.state disk.old) (D.state disk.new) }
     ensures room { (D.state disk.old).size < total_blocks sup.now.slots sup.now.groups → (result ≡ Status.Small) × (disk.new ≡ disk.old) }
     ensures fresh { (D.state disk.old).tells ≡ true → result ≡ Status.Done → IsFreshImage sup.now (D.state disk.new).now × Settled Everywhere (D.state disk.new) }
+    ensures starts { (D.state disk.old).tells ≡ true → result ≡ Status.Done → Starts (D.state disk.new) (empty_world sup.now) }
+    ensures opens { (D.state disk.old).tells ≡ true → result ≡ Status.Done → Opens (D.state disk.new).now (empty_world sup.now) }
 {
     if disk.blocks() < total(sup.slots, sup.groups) {
         return Status::Small;
@@ -47,6 +50,8 @@ fn run_session<H: Host>(alloc: Global, host: &mut H) -> Status
     ensures no_block { (H.state host.old).size ≡ 0 → ((result ≡ Status.Small) ⊎ (result ≡ Status.Memory)) × (host.new ≡ host.old) }
     ensures kept { Kept Everywhere (H.state host.old) (H.state host.new) }
     ensures attached { (H.state host.old).tells ≡ true → HasAttached result → (sup : Geometry) × IsEmptyVolume sup (H.state host.old).now }
+    ensures silent { (HasAttached result → ⊥) → Within H.state H.left Nowhere host.old host.new }
+    ensures settled { (H.state host.old).tells ≡ true → HasAttached result → Settled Everywhere (H.state host.new) }
     ensures output { (w : World) → Starts (H.state host.old) w → EndsAs result w (H.state host.old) (H.state host.new) }
     ensures exit { (w : World) → Starts (H.state host.old) w → result ≡ Status.Done → Stands w (H.state host.new) }
     ensures crash { (w : World) → Starts (H.state host.old) w → (image : Image) (out : List ℕ) → H.left host.new (H.state host.old).clock image out
@@ -73,7 +78,7 @@ pub fn run<H: Host>(alloc: Global, words: &Words, host: &mut H) -> Status
     ensures usage { (result ≡ Status.Usage) ↔ (form_of words.now ≡ None) }
     ensures untouched { (result ≡ Status.Usage) ⊎ (result ≡ Status.Memory) → host.new ≡ host.old }
     ensures format { (image : List ℕ) (sup : Geometry) → form_of words.now ≡ Some (Formats image sup) → FormatsImage H.state H.left sup result host.old host.new }
-    ensures session { (image : List ℕ) → form_of words.now ≡ Some (Runs image) → RunsSession H.state result host.old host.new }
+    ensures session { (image : List ℕ) → form_of words.now ≡ Some (Runs image) → RunsSession H.state H.left result host.old host.new }
     ensures output { (image : List ℕ) (w : World) → form_of words.now ≡ Some (Runs image) → Starts (H.state host.old) w → EndsAs result w (H.state host.old) (H.state host.new) }
     ensures crash { (image : List ℕ) (w : World) → form_of words.now ≡ Some (Runs image) → Starts (H.state host.old) w → (crashed : Image) (out : List ℕ) → H.left host.new (H.state host.old).clock crashed out
         → Left (H.state host.old).streams.aside w (script_lines (H.state host.old).streams.intake) crashed out }

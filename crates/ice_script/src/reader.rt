@@ -1,5 +1,5 @@
 //! A line that is gathered byte by byte.
-ghost use Rattle.std.specs.Prelude.{◌≡◌, ◌==◌, ◌++◌, ◌∷◌, [], IfOk, IfErr, take, false, if◌then◌else◌, not, length};
+ghost use Rattle.std.specs.Prelude.{◌≡◌, ◌==◌, ◌&&◌, ◌++◌, ◌∷◌, [], IfOk, IfErr, take, false, if◌then◌else◌, not, length};
 ghost use Rattle.tree_spec.specs.Lines.{Asks, asked};
 ghost use Rattle.ice_script.specs.Grammar.{line_of};
 ghost use Rattle.ice_script.specs.Reading.{IsRefusedAs};
@@ -57,13 +57,12 @@ impl LineReader {
         false
     }
 
-    /// Whether bytes stand after the last LF.
+    /// Whether bytes stand after the last LF. Where an LF ended the line, none do.
     pub fn finish(&mut self) -> bool
-        requires { self.old.ended ≡ false }
-        ensures some { result ≡ not (length self.old.text == 0) }
+        ensures some { result ≡ (not self.old.ended && not (length self.old.text == 0)) }
         ensures same { self.new ≡ self.old }
     {
-        !self.line.is_empty()
+        !self.ended && !self.line.is_empty()
     }
 
     /// The command of the line, or its refusal. The bytes of a command stay in the reader. What the reader holds afterwards is left open until `clear`.

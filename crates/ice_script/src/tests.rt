@@ -77,6 +77,7 @@ fn an_lf_ends_a_line_and_the_end_of_input_a_last_one(rt: HostRuntime) -> Result<
     assert!(rt; !reader.push(b'c'));
     assert!(rt; reader.finish());
     assert!(rt; reader.push(b'\n'));
+    assert!(rt; !reader.finish());
     reader.clear();
     assert!(rt; !reader.finish());
     assert!(rt; reader.push(b'\n'));

@@ -1,6 +1,7 @@
 //! The text of a reply.
-ghost use Rattle.std.specs.Prelude.{◌≡◌, ◌≤◌, ◌+◌, ◌*◌, ◌++◌, ◌∷◌, [], length, map, decimal};
-ghost use Rattle.tree_spec.specs.Replies.{accepted_of, meant, refused_of, Checked, Listed};
+ghost use Rattle.std.specs.Prelude.{◌≡◌, ◌≤◌, ◌+◌, ◌*◌, ◌++◌, ◌∷◌, [], length, map, decimal, true, All};
+ghost use Rattle.tree_spec.specs.Names.{is_name, IsNameList};
+ghost use Rattle.tree_spec.specs.Replies.{accepted_of, meant, refused_of, Checked, Listed, HasNames};
 ghost use Rattle.tree_spec.specs.Held.{most_bytes, most_entries, most_rows};
 ghost use Rattle.ice_text.specs.Text.{closing_line, ended, entry_line, hex_token, most_entry_line, most_row_line, most_text, number_words, refused_words, row_line, state_word, text};
 
@@ -43,6 +44,7 @@ fn word_of(state: StateWord) -> &'static [u8]
 fn write_entry(entry: &Entry, out: &mut Out)
     requires { length out.old + most_entry_line ≤ most_text }
     ensures text { out.new ≡ out.old ++ entry_line entry.now ++ 10 ∷ [] }
+    ensures name { is_name entry.now.name ≡ true }
     ensures short { length out.new ≤ length out.old + most_entry_line }
 {
     if entry.dir {
@@ -57,6 +59,7 @@ fn write_entry(entry: &Entry, out: &mut Out)
 fn write_row(row: &CubeRow, out: &mut Out)
     requires { length out.old + most_row_line ≤ most_text }
     ensures text { out.new ≡ out.old ++ row_line row.now ++ 10 ∷ [] }
+    ensures names { IsNameList row.now.path }
     ensures short { length out.new ≤ length out.old + most_row_line }
 {
     out.add_number(u64::from(row.slot));
@@ -73,6 +76,7 @@ fn write_entries(entries: &[Entry], out: &mut Out)
     requires few { length entries.now ≤ most_entries }
     requires empty { out.old ≡ [] }
     ensures text { out.new ≡ ended (map entry_line entries.now) }
+    ensures names { All (λ e. is_name e.name ≡ true) entries.now }
     ensures short { length out.new ≤ most_entry_line * length entries.now }
 {
     for entry in entries {
@@ -84,6 +88,7 @@ fn write_rows(rows: &[CubeRow], out: &mut Out)
     requires few { length rows.now ≤ most_rows }
     requires room { length out.old ≤ most_entry_line * most_entries }
     ensures text { out.new ≡ out.old ++ ended (map row_line rows.now) }
+    ensures names { All (λ row. IsNameList row.path) rows.now }
     ensures short { length out.new ≤ length out.old + most_row_line * length rows.now }
 {
     for row in rows {
@@ -104,7 +109,8 @@ fn write_count(words: &[u8], count: u64, out: &mut Out)
 #[tactic(auto, unfolding(crate::specs::Text::text))]
 fn write_listing(room: &Room, out: &mut Out)
     requires { out.old ≡ [] }
-    ensures { out.new ≡ text (Ok (Listed room.now.entries room.now.rows)) }
+    ensures text { out.new ≡ text (Ok (Listed room.now.entries room.now.rows)) }
+    ensures names { HasNames (Ok (Listed room.now.entries room.now.rows)) }
 {
     let entries = room.entries();
     let rows = room.rows();
@@ -186,7 +192,8 @@ fn write_checked(blocks: u32, nodes: u32, done: u64, out: &mut Out)
 #[tactic(auto, unfolding(crate::specs::Text::text))]
 fn write_value(value: &Value, room: &Room, out: &mut Out)
     requires { out.old ≡ [] }
-    ensures { out.new ≡ text (Ok (accepted_of value.now room.now)) }
+    ensures text { out.new ≡ text (Ok (accepted_of value.now room.now)) }
+    ensures names { HasNames (Ok (accepted_of value.now room.now)) }
 {
     match value {
         Value::Plain => out.add(b"ok\n"),
@@ -210,7 +217,8 @@ fn write_value(value: &Value, room: &Room, out: &mut Out)
 /// Writes the data lines and the closing line of a reply, each ended by an LF.
 pub fn write_reply(reply: &Reply, room: &Room, out: &mut Out)
     requires { out.old ≡ [] }
-    ensures { out.new ≡ text (meant reply.now room.now) }
+    ensures text { out.new ≡ text (meant reply.now room.now) }
+    ensures names { HasNames (meant reply.now room.now) }
 {
     match reply {
         Ok(value) => write_value(value, room, out),

@@ -1,7 +1,12 @@
-use Rattle.std.proofs.Common.{◌≡◌, ◌∙◌, sym, refl, not, Bool, true, false}
+use Rattle.std.proofs.Common.{◌≡◌, ◌∙◌, sym, refl, ap, not, Bool, true, false}
+use Rattle.std.specs.Prelude.{◌&&◌}
 use Rattle.ice_run.specs.Scripts.{script_lines, ended_lines}
 use Rattle.ice_run.proofs.Feeding.{closed_ok, closed_err, closed_none}
 use Rattle.ice_run.proofs.session.close.Goals as goal
+
+-- no LF has ended the line, so whether it has bytes decides
+open_line : (ended b t : Bool) → ended ≡ false → t ≡ (not ended && not b) → t ≡ not b
+open_line ended b t h is = is ∙ ap (λ x. not x && not b) h
 
 true_of : (b t : Bool) → t ≡ not b → t ≡ true → b ≡ false
 true_of true t is was = sym was ∙ is
@@ -13,14 +18,14 @@ false_of false t is was = sym was ∙ is
 
 pub returns-then-finish-clause-served : goal.returns-then-finish-clause-served
 returns-then-finish-clause-served g c = λ w input start stands serving.
-    closed_ok g.H.Disk.state g.H.Disk.left w input start c.args.host.now c.answer.new.host c.args.session.now.reader c.finish.new.self c.answer.result serving c.finish.ensures.same (true_of _ c.finish.result c.finish.ensures.some c.if-finish.true)
+    closed_ok g.H.Disk.state g.H.Disk.left w input start c.args.host.now c.answer.new.host c.args.session.now.reader c.finish.new.self c.answer.result serving c.finish.ensures.same (true_of _ c.finish.result (open_line _ _ _ c.requires c.finish.ensures.some) c.if-finish.true)
     (λ more next. c.answer.ensures.answered w (script_lines input) (ended_lines input) more start stands next serving.so_far)
 
 pub returns-then-finish-clause-cut : goal.returns-then-finish-clause-cut
 returns-then-finish-clause-cut g c = λ w input start stands serving.
-    closed_err g.H.Disk.state g.H.Disk.left w input start c.args.host.now c.answer.new.host c.args.session.now.reader c.finish.new.self c.answer.result serving c.finish.ensures.same (true_of _ c.finish.result c.finish.ensures.some c.if-finish.true)
+    closed_err g.H.Disk.state g.H.Disk.left w input start c.args.host.now c.answer.new.host c.args.session.now.reader c.finish.new.self c.answer.result serving c.finish.ensures.same (true_of _ c.finish.result (open_line _ _ _ c.requires c.finish.ensures.some) c.if-finish.true)
     (λ more next. c.answer.ensures.cut w (script_lines input) (ended_lines input) more start stands next serving.so_far)
 
 pub returns-else-finish-clause-served : goal.returns-else-finish-clause-served
 returns-else-finish-clause-served g c = λ w input start stands serving.
-    closed_none g.H.Disk.state g.H.Disk.left w input start c.args.host.now c.args.session.now.reader serving (false_of _ c.finish.result c.finish.ensures.some c.if-finish.false)
+    closed_none g.H.Disk.state g.H.Disk.left w input start c.args.host.now c.args.session.now.reader serving (false_of _ c.finish.result (open_line _ _ _ c.requires c.finish.ensures.some) c.if-finish.false)

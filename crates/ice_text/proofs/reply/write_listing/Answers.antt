@@ -12,8 +12,8 @@ text-Listed : (es es2 : List Entry) (rows rows2 : List CubeRow) → es2 ≡ es �
 unfolding text
 text-Listed es es2 rows rows2 e r = rw (e, r) (sym (ended-two (map entry_line es) (map row_line rows) (codes "ok " ++ decimal (length es + length rows))))
 
-pub returns : goal.returns
-returns c =
+pub returns-clause-text : goal.returns-clause-text
+returns-clause-text c =
     c.write_count.ensures ∙ ap (λ t. t ++ (codes "ok " ++ decimal (length c.entries-entries.result.now + length c.rows-rows.result.now) ++ 10 ∷ []))
     (c.write_rows.ensures.text ∙ ap (λ t. t ++ ended (map row_line c.rows-rows.result.now)) c.write_entries.ensures.text)
     ∙ text-Listed _ c.entries-entries.result.now _ c.rows-rows.result.now c.entries-entries.ensures.value c.rows-rows.ensures.value
