@@ -1,11 +1,12 @@
 //! A stored session on a real file: formats a new image as `icefs format` does, and answers standard input as `icefs run` does.
 #![tactic(auto)]
 
-ghost use Rattle.std.specs.Prelude.{◌≡◌, false, true};
+ghost use Rattle.std.specs.Prelude.{◌≡◌, [], false, true};
 
 use disk_file::{FileHost, OpenFault};
 use ice_base::{Status, Words};
 use ice_run::{image_of, run};
+use std::alloc::Global;
 use std::process::ExitCode;
 
 const FORMAT: [&str; 6] = ["format", "img", "--slots", "4", "--groups", "16"];
@@ -23,21 +24,19 @@ fn work(rt: &HostRuntime, texts: &[&str]) -> Status {
         return Status::Usage;
     };
     match FileHost::attach(rt, image.name, image.least) {
-        Ok(mut host) => ended(run(rt.alloc(), &words, &mut host), &mut host),
+        Ok(mut host) => answered(rt.alloc(), &words, &mut host),
         Err(OpenFault::Memory) => Status::Memory,
         Err(OpenFault::Failed) => Status::Disk,
     }
 }
 
-/// The status once all replies that were held back are sent.
-fn ended(status: Status, host: &mut FileHost) -> Status
-    ensures sent { host.new.lost ≡ false → result ≡ status }
+/// Runs the words on the host, and sends all replies that were held back.
+fn answered(alloc: Global, words: &Words, host: &mut FileHost) -> Status
+    ensures sent { host.new.lost ≡ false → host.new.held ≡ [] }
     ensures lost { host.new.lost ≡ true → result ≡ Status.Sink }
 {
-    match host.finish() {
-        Ok(()) => status,
-        Err(_) => Status::Sink,
-    }
+    let status = run(alloc, words, host);
+    host.ended(status)
 }
 
 fn main(rt: HostRuntime) -> ExitCode {

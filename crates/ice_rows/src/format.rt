@@ -4,6 +4,7 @@ use disk_file::FileHost;
 use disk_mem::MemHost;
 use ice_base::{Disk, ImageFault, Status, Words};
 use ice_run::{image_of, run};
+use std::fs;
 use std::test::Fail;
 
 const FORMAT: [&str; 6] = ["format", "img", "--slots", "2", "--groups", "3"];
@@ -47,6 +48,8 @@ fn a_file_of_1312_blocks_gets_the_image_and_one_of_1311_stays(rt: HostRuntime) -
     assert!(rt; block.iter().all(|byte| *byte == 0));
     let mut small = FileHost::attach(&rt, "small", 1311)?;
     assert_eq!(rt; run(alloc, &words, &mut small), Status::Small);
+    fs::remove_file(&rt, "img")?;
+    fs::remove_file(&rt, "small")?;
     Ok(())
 }
 

@@ -1,9 +1,12 @@
 //! Sessions in a volume without cubes.
+ghost use Rattle.std.specs.Prelude.{◌<◌};
+
 use crate::hosts::{formatted, session, words_of};
 use disk_mem::{MemHost, MuteHost};
 use ice_base::{Disk, Status};
 use ice_run::run;
 use std::alloc::Global;
+use std::process::Abort;
 use std::test::Fail;
 
 #[test]
@@ -118,20 +121,37 @@ fn faults_end_a_run_with_their_status(rt: HostRuntime) -> Result<(), Fail> {
     Ok(())
 }
 
-#[test]
-fn each_crash_of_a_session_leaves_a_volume(rt: HostRuntime) -> Result<(), Fail> {
-    let alloc = rt.alloc();
+// Each crash of a session with pieces of so many bytes leaves a volume, and of the reply as many different fronts.
+fn crash_each(rt: &impl Abort, alloc: Global, piece: usize, fronts: u64) -> Result<(), Fail>
+    requires { 0 < piece }
+{
     let mut host = formatted(alloc)?;
+    host.set_piece(piece);
     assert_eq!(rt; session(alloc, &mut host, b"cubes\n")?, Status::Done);
+    let mut seen: u64 = 0;
+    let mut last = usize::MAX;
     let end = host.calls().saturating_add(1);
     for moment in 0..end {
         assert!(rt; moment <= host.calls());
+        let given = host.output_at(moment);
+        assert!(rt; b"ok 0\n".starts_with(given), "moment {moment}");
+        if given.len() != last {
+            seen = seen.saturating_add(1);
+            last = given.len();
+        }
         let mut after = host.crashed(alloc, moment, 2)?;
         after.reserve(100, 100)?;
         assert_eq!(rt; session(alloc, &mut after, b"cubes\n")?, Status::Done);
         assert_eq!(rt; after.output(), b"ok 0\n".as_slice());
     }
+    assert_eq!(rt; seen, fronts);
     Ok(())
+}
+
+#[test]
+fn each_crash_of_a_session_leaves_a_volume(rt: HostRuntime) -> Result<(), Fail> {
+    crash_each(&rt, rt.alloc(), 4096, 2)?;
+    crash_each(&rt, rt.alloc(), 1, 6)
 }
 
 #[test]

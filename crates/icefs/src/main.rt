@@ -1,11 +1,12 @@
 //! The program: its words, the file that they name, and the status of the run.
 #![tactic(auto)]
 
-ghost use Rattle.std.specs.Prelude.{◌≡◌, false, true};
+ghost use Rattle.std.specs.Prelude.{◌≡◌, [], false, true};
 
 use disk_file::{FileHost, OpenFault};
 use ice_base::{ImageFault, Status, Words};
 use ice_run::{image_of, run};
+use std::alloc::Global;
 use std::process::ExitCode;
 use std::{env, io};
 use thiserror::Error;
@@ -65,8 +66,7 @@ fn host_of(rt: &HostRuntime, words: &Words) -> Result<FileHost, Status> {
     match image_of(rt.alloc(), words) {
         Ok(image) => match FileHost::attach(rt, image.name, image.least) {
             Ok(host) => Ok(host),
-            Err(OpenFault::Memory) => Err(Status::Memory),
-            Err(OpenFault::Failed) => Err(Status::Disk),
+            Err(fault) => Err(status_of(fault)),
         },
         Err(ImageFault::Memory) => Err(Status::Memory),
         Err(ImageFault::Usage) => Ok(FileHost::missing(rt)),
@@ -79,20 +79,28 @@ fn work(rt: &HostRuntime) -> Status {
         return status;
     }
     match host_of(rt, &words) {
-        Ok(mut host) => ended(run(rt.alloc(), &words, &mut host), &mut host),
+        Ok(mut host) => answered(rt.alloc(), &words, &mut host),
         Err(status) => status,
     }
 }
 
-/// The status once all replies that were held back are sent. Where that fails the run ended by it: whatever else it met came
-/// after those replies.
-fn ended(status: Status, host: &mut FileHost) -> Status
-    ensures sent { host.new.lost ≡ false → result ≡ status }
+/// Runs the words on the host, and sends all replies that were held back.
+fn answered(alloc: Global, words: &Words, host: &mut FileHost) -> Status
+    ensures sent { host.new.lost ≡ false → host.new.held ≡ [] }
     ensures lost { host.new.lost ≡ true → result ≡ Status.Sink }
 {
-    match host.finish() {
-        Ok(()) => status,
-        Err(_) => Status::Sink,
+    let status = run(alloc, words, host);
+    host.ended(status)
+}
+
+/// Why the host of an image is none.
+fn status_of(fault: OpenFault) -> Status
+    ensures memory { fault ≡ OpenFault.Memory → result ≡ Status.Memory }
+    ensures failed { fault ≡ OpenFault.Failed → result ≡ Status.Disk }
+{
+    match fault {
+        OpenFault::Memory => Status::Memory,
+        OpenFault::Failed => Status::Disk,
     }
 }
 
@@ -102,4 +110,34 @@ fn main(rt: HostRuntime) -> ExitCode {
         let _ = eprintln!(rt; "{fault}");
     }
     ExitCode::from(status as u8)
+}
+
+#[cfg(test)]
+mod tests {
+    use super::*;
+    use std::test::Fail;
+
+    #[test]
+    fn each_status_has_its_number_and_its_line(rt: HostRuntime) -> Result<(), Fail> {
+        assert_eq!(rt; Status::Done as u8, 0);
+        assert!(rt; fault_of(Status::Done).is_none());
+        for (status, number, line) in [
+            (Status::Usage, 1, "icefs: Usage"),
+            (Status::Memory, 2, "icefs: Memory"),
+            (Status::Source, 3, "icefs: Source"),
+            (Status::Sink, 4, "icefs: Sink"),
+            (Status::Disk, 5, "icefs: Disk"),
+            (Status::Volume, 6, "icefs: Volume"),
+            (Status::Script, 7, "icefs: Script"),
+            (Status::Small, 8, "icefs: Small"),
+        ] {
+            assert_eq!(rt; status as u8, number);
+            let Some(fault) = fault_of(status) else {
+                return Err(Fail::new("no line"));
+            };
+            let text = format!(in rt.alloc(); "{fault}")?;
+            assert_eq!(rt; text.as_str(), line);
+        }
+        Ok(())
+    }
 }
