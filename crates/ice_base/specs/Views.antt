@@ -21,6 +21,14 @@ pub record Spent {V D : Type 0} (d : disk.Ghosts D) (k : view.Ghosts V D) (lot :
   pub later : (d.state e).faults ≤ (d.state f).faults
   pub steady : (u : V) (g : D) → k.steady lot u g v e → k.steady lot u g w f
 
+-- where the view shows what the lot holds, this holds of it
+abbrev pub IfShown : {V D : Type 0} → view.Ghosts V D → LotView → V → D → ((ℕ → List ℕ) → Type 0) → Type 0
+IfShown k lot v e P = k.shows lot v e → P (k.map v e lot)
+
+-- the same of what the view showed at one moment and shows at a later one
+abbrev pub AsShown : {V D : Type 0} → view.Ghosts V D → LotView → V → D → V → D → ((ℕ → List ℕ) → (ℕ → List ℕ) → Type 0) → Type 0
+AsShown k lot v e w f P = k.shows lot v e → P (k.map v e lot) (k.map w f lot)
+
 -- only these addresses were put
 pub record Puts {V D : Type 0} (k : view.Ghosts V D) (lot : LotView) (ok : Bool) (puts : List ℕ) (v : V) (e : D) (w : V) (f : D) : Type 0 where
   pub only : (a : ℕ) → Except a puts (k.map w f lot a ≡ k.map v e lot a)

@@ -33,7 +33,8 @@ pub trait Disk {
         ensures within { Within state left Nowhere self.old self.new }
         ensures cause { HasCause (state self.old) (state self.new) result }
         ensures calm { OnOk result ((state self.new).faults ≡ (state self.old).faults) }
-        ensures bytes { (state self.old).tells ≡ true → OnOk result (into.new ≡ block (state self.old).now at) }
+        ensures bytes { (state self.old).tells ≡ true
+            → OnOk result (into.new ≡ block (state self.old).now at) }
         ensures counts { (state self.old).tells ≡ true → ReadCounts (state self.old) (state self.new) };
 
     /// Writes a block, which is then loose. After an `Err` it is loose and may read as anything.
@@ -42,15 +43,18 @@ pub trait Disk {
         ensures within { Within state left (λ k. k ≡ at) self.old self.new }
         ensures cause { HasCause (state self.old) (state self.new) result }
         ensures calm { OnOk result ((state self.new).faults ≡ (state self.old).faults) }
-        ensures bytes { (state self.old).tells ≡ true → OnOk result (block (state self.new).now at ≡ from.now) }
-        ensures counts { (state self.old).tells ≡ true → WriteCounts at (is_ok result) (state self.old) (state self.new) };
+        ensures bytes { (state self.old).tells ≡ true
+            → OnOk result (block (state self.new).now at ≡ from.now) }
+        ensures counts { (state self.old).tells ≡ true
+            → WriteCounts at (is_ok result) (state self.old) (state self.new) };
 
     /// Settles every block. After an `Err` all is as it was.
     fn barrier(&mut self) -> Result<(), DiskFault>
         ensures within { Within state left Nowhere self.old self.new }
         ensures cause { HasCause (state self.old) (state self.new) result }
         ensures calm { OnOk result ((state self.new).faults ≡ (state self.old).faults) }
-        ensures counts { (state self.old).tells ≡ true → BarrierCounts (is_ok result) (state self.old) (state self.new) };
+        ensures counts { (state self.old).tells ≡ true
+            → BarrierCounts (is_ok result) (state self.old) (state self.new) };
 
     /// At each moment a crash leaves what reads give, but for the loose blocks, and the bytes given out by then.
     ghost agrees_now: { (d : Self) (image : Image) (out : List ℕ) → left d (state d).clock image out → AgreesOn Everywhere (state d) image × (out ≡ (state d).streams.aside) };

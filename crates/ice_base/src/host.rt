@@ -23,7 +23,8 @@ pub trait Host: Disk {
     fn take(&mut self, into: &mut [u8]) -> Result<usize, SourceFault>
         requires { 0 < length into.old }
         ensures disk { SameDisk (Self.state self.old) (Self.state self.new) }
-        ensures ticks { (Self.state self.old).tells ≡ true → Rose (Self.state self.old).clock (Self.state self.new).clock }
+        ensures ticks { (Self.state self.old).tells ≡ true
+            → Rose (Self.state self.old).clock (Self.state self.new).clock }
         ensures leaves { Leaves Self.state Self.left (λ out. out ≡ (Self.state self.old).streams.aside) self.old self.new }
         ensures takes { Takes (Self.state self.old).tells (Self.state self.old).streams (Self.state self.new).streams into.new result }
         ensures calm { OnOk result ((Self.state self.new).streams.source_faults ≡ (Self.state self.old).streams.source_faults) };
@@ -32,7 +33,8 @@ pub trait Host: Disk {
     fn give(&mut self, bytes: &[u8]) -> Result<usize, SinkFault>
         requires { 0 < length bytes.now }
         ensures disk { SameDisk (Self.state self.old) (Self.state self.new) }
-        ensures ticks { (Self.state self.old).tells ≡ true → Rose (Self.state self.old).clock (Self.state self.new).clock }
+        ensures ticks { (Self.state self.old).tells ≡ true
+            → Rose (Self.state self.old).clock (Self.state self.new).clock }
         ensures leaves { Leaves Self.state Self.left (FirstOf (Self.state self.old).streams.aside bytes.now (moved result)) self.old self.new }
         ensures gives { Gives (Self.state self.old).tells (Self.state self.old).streams (Self.state self.new).streams bytes.now result }
         ensures calm { OnOk result ((Self.state self.new).streams.sink_faults ≡ (Self.state self.old).streams.sink_faults) };
@@ -42,12 +44,15 @@ pub trait Host: Disk {
 /// Each crash leaves the disk as it was, with some first bytes given.
 pub fn give_all<H: Host>(host: &mut H, bytes: &[u8]) -> Result<(), SinkFault>
     ensures disk { SameDisk (H.state host.old) (H.state host.new) }
-    ensures leaves { (H.state host.old).tells ≡ true → Leaves H.state H.left (FirstOf (H.state host.old).streams.aside bytes.now (length bytes.now)) host.old host.new }
-    ensures all { (H.state host.old).tells ≡ true → OnOk result ((H.state host.new).streams.aside ≡ (H.state host.old).streams.aside ++ bytes.now) }
+    ensures leaves { (H.state host.old).tells ≡ true
+        → Leaves H.state H.left (FirstOf (H.state host.old).streams.aside bytes.now (length bytes.now)) host.old host.new }
+    ensures all { (H.state host.old).tells ≡ true
+        → OnOk result ((H.state host.new).streams.aside ≡ (H.state host.old).streams.aside ++ bytes.now) }
     ensures calm { OnOk result ((H.state host.new).streams.sink_faults ≡ (H.state host.old).streams.sink_faults) }
     ensures cause { OnErr result (Rose (H.state host.old).streams.sink_faults (H.state host.new).streams.sink_faults) }
     ensures only { GaveOnly (H.state host.old).streams (H.state host.new).streams }
-    ensures cut { (H.state host.old).tells ≡ true → OnErr result (CutOf (H.state host.old).streams.aside bytes.now (H.state host.new).streams.aside) }
+    ensures cut { (H.state host.old).tells ≡ true
+        → OnErr result (CutOf (H.state host.old).streams.aside bytes.now (H.state host.new).streams.aside) }
 {
     let mut at = 0;
     while at < bytes.len() {

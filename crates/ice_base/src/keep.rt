@@ -14,7 +14,8 @@ pub trait Keep<D: Disk>: View<D> {
     fn put(&mut self, disk: &mut D, lot: &Lot, at: u32, from: &Block) -> Result<(), BlockFault>
         requires sited { is_sited lot.now (D.state disk.old).size ≡ true }
         requires room { Self.held self.old at ≡ false → 1 ≤ Self.room self.old }
-        ensures content { Self.shows lot.now self.old disk.old → OnOk result (Self.map self.new disk.new lot.now at ≡ from.now) }
+        ensures content { Self.shows lot.now self.old disk.old
+            → OnOk result (Self.map self.new disk.new lot.now at ≡ from.now) }
         ensures puts { Puts Self.View lot.now (is_ok result) (at ∷ []) self.old disk.old self.new disk.new }
         ensures spent { Spent D.Disk Self.View lot.now 1 self.old disk.old self.new disk.new }
         ensures home { PutsHome D.state D.left lot.now at disk.old disk.new }
@@ -22,9 +23,11 @@ pub trait Keep<D: Disk>: View<D> {
         ensures free { Self.held self.old at ≡ true → Self.room self.old ≤ Self.room self.new }
         ensures good { OnOk result (is_address lot.now at ≡ true) }
         ensures range { IsErrOf result Range → is_address lot.now at ≡ false }
-        ensures untouched { IsErrOf result Range → Looked D.Disk Self.View lot.now self.old disk.old self.new disk.new }
+        ensures untouched { IsErrOf result Range
+            → Looked D.Disk Self.View lot.now self.old disk.old self.new disk.new }
         ensures placed { IsErrOf result FaultDisk → is_address lot.now at ≡ true }
-        ensures failed { IsErrOf result FaultDisk → Rose (D.state disk.old).faults (D.state disk.new).faults };
+        ensures failed { IsErrOf result FaultDisk
+            → Rose (D.state disk.old).faults (D.state disk.new).faults };
 
     /// How many further addresses it can hold.
     fn spare(&self) -> u32

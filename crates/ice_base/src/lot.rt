@@ -74,7 +74,8 @@ impl Lot {
     pub fn place(&self, at: u32) -> Option<u32>
         ensures found { SomeIff result (is_address self.now at ≡ true) (place self.now at) }
         ensures below { (n : ℕ) → is_sited self.now n ≡ true → IfSome result (λ p. p < n) }
-        ensures apart { IfSome result (λ p. (b : ℕ) → is_address self.now b ≡ true → place self.now b ≡ p → b ≡ at) }
+        ensures apart { IfSome result (λ p. (b : ℕ) → is_address self.now b ≡ true → place self.now b ≡ p
+            → b ≡ at) }
         ensures extent { IfSome result (extent self.now) }
         ensures lot { IsLot self.now }
     {

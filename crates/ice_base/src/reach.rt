@@ -17,7 +17,8 @@ pub fn fetch<D: Disk, V: View<D>>(
 ) -> Result<(), OpFault>
     requires sited { is_sited lot.now (D.state disk.old).size ≡ true }
     requires address { is_address lot.now at ≡ true }
-    ensures content { V.shows lot.now view.old disk.old → OnOk result (into.new ≡ V.map view.old disk.old lot.now at) }
+    ensures content { V.shows lot.now view.old disk.old
+        → OnOk result (into.new ≡ V.map view.old disk.old lot.now at) }
     ensures looked { Looked D.Disk V.View lot.now view.old disk.old view.new disk.new }
     ensures fault { IfErr result IsDiskFault }
     ensures failed { OnErr result (Rose (D.state disk.old).faults (D.state disk.new).faults) }
@@ -40,7 +41,8 @@ pub fn store<D: Disk, K: Keep<D>>(
     requires sited { is_sited lot.now (D.state disk.old).size ≡ true }
     requires address { is_address lot.now at ≡ true }
     requires room { K.held keep.old at ≡ false → 1 ≤ K.room keep.old }
-    ensures content { K.shows lot.now keep.old disk.old → OnOk result (K.map keep.new disk.new lot.now at ≡ from.now) }
+    ensures content { K.shows lot.now keep.old disk.old
+        → OnOk result (K.map keep.new disk.new lot.now at ≡ from.now) }
     ensures puts { Puts K.View lot.now (is_ok result) (at ∷ []) keep.old disk.old keep.new disk.new }
     ensures holds { OnOk result (K.held keep.new at ≡ true) }
     ensures free { K.held keep.old at ≡ true → K.room keep.old ≤ K.room keep.new }

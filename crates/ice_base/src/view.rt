@@ -28,13 +28,15 @@ pub trait View<D: Disk> {
     /// Reads the block of an address. It leaves the disk as it was. After an `Err` any bytes may stand in `into`.
     fn get(&mut self, disk: &mut D, lot: &Lot, at: u32, into: &mut Block) -> Result<(), BlockFault>
         requires { is_sited lot.now (D.state disk.old).size ≡ true }
-        ensures content { shows lot.now self.old disk.old → OnOk result (into.new ≡ map self.old disk.old lot.now at) }
+        ensures content { shows lot.now self.old disk.old
+            → OnOk result (into.new ≡ map self.old disk.old lot.now at) }
         ensures looked { LookedBy D.state map shows held room steady lot.now self.old disk.old self.new disk.new }
         ensures still { Still D.state D.left disk.old disk.new }
         ensures good { OnOk result (is_address lot.now at ≡ true) }
         ensures range { IsErrOf result Range → is_address lot.now at ≡ false }
         ensures placed { IsErrOf result FaultDisk → is_address lot.now at ≡ true }
-        ensures failed { IsErrOf result FaultDisk → Rose (D.state disk.old).faults (D.state disk.new).faults };
+        ensures failed { IsErrOf result FaultDisk
+            → Rose (D.state disk.old).faults (D.state disk.new).faults };
 
     /// No block stands at an address that isn't the lot's.
     ghost outside: { (v : Self) (d : D) (lot : LotView) (a : ℕ) → is_address lot a ≡ false → map v d lot a ≡ [] };

@@ -4,7 +4,7 @@ ghost use Rattle.ice_base.specs.Disk.{Rose};
 ghost use Rattle.ice_base.specs.Fields.{SameBeside};
 ghost use Rattle.ice_base.specs.Lots.{is_sited, sub_address};
 ghost use Rattle.ice_base.specs.Used.{count_place, counted};
-ghost use Rattle.ice_base.specs.Views.{Looked, Spent};
+ghost use Rattle.ice_base.specs.Views.{Looked, Spent, AsShown, IfShown};
 ghost use Rattle.ice_base.specs.declared.fault.OpFault.TheVariants.{Disk as FaultDisk, Damaged};
 ghost use Rattle.ice_base.specs.declared.fault.Rule.{Rule};
 ghost use Rattle.ice_base.specs.declared.fault.Rule.TheVariants.{Counts, Kind, Pointer, Bitmap};
@@ -31,17 +31,29 @@ pub fn cut_to<D: Disk, K: Keep<D>, P: Pool<D, K>, F: Form>(
     requires sited { is_sited lot.now (D.state disk.old).size ≡ true }
     requires number { number < 64 * length lot.now.groups }
     requires room { 72 ≤ K.room keep.old }
-    ensures cut { K.shows lot.now keep.old disk.old → WellMade lot.now F.ENTRY (K.map keep.old disk.old lot.now) number → OnOk result (FileSet lot.now F.ENTRY (K.map keep.old disk.old lot.now) (K.map keep.new disk.new lot.now) number (take len (file_bytes (own F.ENTRY (K.map keep.old disk.old lot.now) number)))) }
-    ensures reaches { K.shows lot.now keep.old disk.old → OnOk result (ReachesTo len (inode_of (K.map keep.old disk.old lot.now) number)) }
+    ensures cut { AsShown K.View lot.now keep.old disk.old keep.new disk.new (λ old new.
+        WellMade lot.now F.ENTRY old number
+        → OnOk result (FileSet lot.now F.ENTRY old new number (take len (file_bytes (own F.ENTRY old number))))) }
+    ensures reaches { IfShown K.View lot.now keep.old disk.old (λ old.
+        OnOk result (ReachesTo len (inode_of old number))) }
     ensures spent { Spent D.Disk K.View lot.now 72 keep.old disk.old keep.new disk.new }
-    ensures kind { IsErrOf result (Damaged Kind) → K.shows lot.now keep.old disk.old → ¬ ReachesTo len (inode_of (K.map keep.old disk.old lot.now) number) }
-    ensures looked { IsErrOf result (Damaged Kind) → Looked D.Disk K.View lot.now keep.old disk.old keep.new disk.new }
-    ensures zero { IsErrOf result (Damaged Counts) → K.shows lot.now keep.old disk.old → counted false (K.map keep.old disk.old lot.now) + uses_of (blocks_for len) < uses_of (blocks_for (inode_of (K.map keep.old disk.old lot.now) number).size) }
-    ensures unused { IsErrOf result (Damaged Bitmap) → K.shows lot.now keep.old disk.old → FreeOrTwice (K.map keep.old disk.old lot.now) (cut_off (K.map keep.old disk.old lot.now) (inode_of (K.map keep.old disk.old lot.now) number) (blocks_for (inode_of (K.map keep.old disk.old lot.now) number).size) (blocks_for len)) }
-    ensures kept { (rule : Rule) → IsErrOf result (Damaged rule) → K.shows lot.now keep.old disk.old → inode_of (K.map keep.new disk.new lot.now) number ≡ inode_of (K.map keep.old disk.old lot.now) number }
-    ensures misled { IsErrOf result (Damaged Pointer) → K.shows lot.now keep.old disk.old → Misleads lot.now (K.map keep.old disk.old lot.now) (inode_of (K.map keep.old disk.old lot.now) number) (blocks_for (inode_of (K.map keep.old disk.old lot.now) number).size) }
-    ensures sub { K.shows lot.now keep.old disk.old → OnOk result (SameBeside (count_place false) 4 (K.map keep.old disk.old lot.now sub_address) (K.map keep.new disk.new lot.now sub_address)) }
-    ensures file { IfErr result (λ e. (rule : Rule) → e ≡ Damaged rule → rule ≢ Kind → K.shows lot.now keep.old disk.old → ReachesTo len (inode_of (K.map keep.old disk.old lot.now) number)) }
+    ensures kind { IsErrOf result (Damaged Kind) → IfShown K.View lot.now keep.old disk.old (λ old.
+        ¬ ReachesTo len (inode_of old number)) }
+    ensures looked { IsErrOf result (Damaged Kind)
+        → Looked D.Disk K.View lot.now keep.old disk.old keep.new disk.new }
+    ensures zero { IsErrOf result (Damaged Counts) → IfShown K.View lot.now keep.old disk.old (λ old.
+        counted false old + uses_of (blocks_for len) < uses_of (blocks_for (inode_of old number).size)) }
+    ensures unused { IsErrOf result (Damaged Bitmap) → IfShown K.View lot.now keep.old disk.old (λ old.
+        FreeOrTwice old (cut_off old (inode_of old number) (blocks_for (inode_of old number).size) (blocks_for len))) }
+    ensures kept { (rule : Rule) → IsErrOf result (Damaged rule)
+        → AsShown K.View lot.now keep.old disk.old keep.new disk.new (λ old new.
+        inode_of new number ≡ inode_of old number) }
+    ensures misled { IsErrOf result (Damaged Pointer) → IfShown K.View lot.now keep.old disk.old (λ old.
+        Misleads lot.now old (inode_of old number) (blocks_for (inode_of old number).size)) }
+    ensures sub { AsShown K.View lot.now keep.old disk.old keep.new disk.new (λ old new.
+        OnOk result (SameBeside (count_place false) 4 (old sub_address) (new sub_address))) }
+    ensures file { IfErr result (λ e. (rule : Rule) → e ≡ Damaged rule → rule ≢ Kind
+        → IfShown K.View lot.now keep.old disk.old (λ old. ReachesTo len (inode_of old number))) }
     ensures faults { IfErr result IsCutToFault }
     ensures failed { IsErrOf result FaultDisk → Rose (D.state disk.old).faults (D.state disk.new).faults }
 {

@@ -2,7 +2,7 @@
 ghost use Rattle.std.specs.Prelude.{◌≡◌, ◌≤◌, ◌<◌, ◌*◌, true, OnOk, IfOk, IfErr, IsErrOf, length};
 ghost use Rattle.ice_base.specs.Disk.{Rose};
 ghost use Rattle.ice_base.specs.Lots.{is_sited};
-ghost use Rattle.ice_base.specs.Views.{Looked};
+ghost use Rattle.ice_base.specs.Views.{Looked, IfShown};
 ghost use Rattle.ice_base.specs.declared.fault.OpFault.TheVariants.{Disk as FaultDisk, Damaged};
 ghost use Rattle.ice_base.specs.declared.fault.Rule.TheVariants.{Kind};
 ghost use Rattle.ice_map.specs.Inodes.{inode_of};
@@ -35,9 +35,11 @@ pub fn file_inode<D: Disk, V: View<D>, F: Form>(
 ) -> Result<Inode, OpFault>
     requires sited { is_sited lot.now (D.state disk.old).size ≡ true }
     requires number { number < 64 * length lot.now.groups }
-    ensures value { V.shows lot.now view.old disk.old → IfOk result (λ inode. inode ≡ inode_of (V.map view.old disk.old lot.now) number) }
+    ensures value { IfShown V.View lot.now view.old disk.old (λ old.
+        IfOk result (λ inode. inode ≡ inode_of old number)) }
     ensures reaches { IfOk result (ReachesTo at) }
-    ensures kind { IsErrOf result (Damaged Kind) → V.shows lot.now view.old disk.old → ¬ ReachesTo at (inode_of (V.map view.old disk.old lot.now) number) }
+    ensures kind { IsErrOf result (Damaged Kind) → IfShown V.View lot.now view.old disk.old (λ old.
+        ¬ ReachesTo at (inode_of old number)) }
     ensures looked { Looked D.Disk V.View lot.now view.old disk.old view.new disk.new }
     ensures faults { IfErr result IsKindFault }
     ensures failed { IsErrOf result FaultDisk → Rose (D.state disk.old).faults (D.state disk.new).faults }

@@ -4,7 +4,7 @@ ghost use Rattle.ice_base.specs.Disk.{Rose};
 ghost use Rattle.ice_base.specs.Faults.{IsDiskFault};
 ghost use Rattle.ice_base.specs.Lots.{is_sited};
 ghost use Rattle.ice_base.specs.Used.{is_data, counted, free_count, Reserved};
-ghost use Rattle.ice_base.specs.Views.{Spent, Puts};
+ghost use Rattle.ice_base.specs.Views.{Spent, Puts, AsShown, IfShown};
 ghost use Rattle.ice_base.specs.declared.fault.OpFault.TheVariants.{Disk as FaultDisk, Damaged, NoSpace};
 ghost use Rattle.ice_base.specs.declared.fault.Rule.TheVariants.{Counts, Pointer, Bitmap};
 ghost use Rattle.ice_map.specs.Faults.{IsGrowFault};
@@ -31,17 +31,25 @@ fn reach<D: Disk, K: Keep<D>, P: Pool<D, K>, F: Form>(
     requires room { 6 ≤ K.room keep.old }
     requires order { k ≤ count }
     requires short { k < longest }
-    ensures reached { K.shows lot.now keep.old disk.old → MadeOf lot.now (K.map keep.old disk.old lot.now) inode.old count → IfOk result (Reached lot.now (K.map keep.old disk.old lot.now) (K.map keep.new disk.new lot.now) inode.old inode.new count k) }
+    ensures reached { AsShown K.View lot.now keep.old disk.old keep.new disk.new (λ old new.
+        MadeOf lot.now old inode.old count
+        → IfOk result (Reached lot.now old new inode.old inode.new count k)) }
     ensures data { IfOk result (λ a. is_data lot.now a ≡ true) }
-    ensures grew { K.shows lot.now keep.old disk.old → OnOk result (Grew lot.now (K.map keep.old disk.old lot.now) (K.map keep.new disk.new lot.now) inode.old inode.new count (max count (k + 1))) }
-    ensures stays { K.shows lot.now keep.old disk.old → InodesStay (K.map keep.old disk.old lot.now) (K.map keep.new disk.new lot.now) }
+    ensures grew { AsShown K.View lot.now keep.old disk.old keep.new disk.new (λ old new.
+        OnOk result (Grew lot.now old new inode.old inode.new count (max count (k + 1)))) }
+    ensures stays { AsShown K.View lot.now keep.old disk.old keep.new disk.new (λ old new. InodesStay old new) }
     ensures pays { OnOk result (K.room keep.old + due (K.held keep.new) inode.new.single (max count (k + 1)) ≤ K.room keep.new + due (K.held keep.old) inode.old.single count + 1) }
     ensures spent { Spent D.Disk K.View lot.now 6 keep.old disk.old keep.new disk.new }
-    ensures none { IsErrOf result NoSpace → K.shows lot.now keep.old disk.old → (k ≡ count) × (free_count false lot.now (K.map keep.old disk.old lot.now) < needs count) }
-    ensures full { IsErrOf result (Damaged Counts) → K.shows lot.now keep.old disk.old → (k ≡ count) × (2 ^ 32 ≤ counted false (K.map keep.old disk.old lot.now) + needs count) }
-    ensures unreserved { IsErrOf result (Damaged Bitmap) → K.shows lot.now keep.old disk.old → ¬ Reserved lot.now (K.map keep.old disk.old lot.now) }
-    ensures strays { IsErrOf result (Damaged Pointer) → K.shows lot.now keep.old disk.old → Strays lot.now (K.map keep.old disk.old lot.now) inode.old count k }
-    ensures had { K.shows lot.now keep.old disk.old → k < count → IfOk result (λ a. (a ≡ nth_block (K.map keep.old disk.old lot.now) inode.old k) × (K.map keep.new disk.new lot.now ≡ K.map keep.old disk.old lot.now)) }
+    ensures none { IsErrOf result NoSpace → IfShown K.View lot.now keep.old disk.old (λ old.
+        (k ≡ count) × (free_count false lot.now old < needs count)) }
+    ensures full { IsErrOf result (Damaged Counts) → IfShown K.View lot.now keep.old disk.old (λ old.
+        (k ≡ count) × (2 ^ 32 ≤ counted false old + needs count)) }
+    ensures unreserved { IsErrOf result (Damaged Bitmap)
+        → IfShown K.View lot.now keep.old disk.old (λ old. ¬ Reserved lot.now old) }
+    ensures strays { IsErrOf result (Damaged Pointer) → IfShown K.View lot.now keep.old disk.old (λ old.
+        Strays lot.now old inode.old count k) }
+    ensures had { AsShown K.View lot.now keep.old disk.old keep.new disk.new (λ old new.
+        k < count → IfOk result (λ a. (a ≡ nth_block old inode.old k) × (new ≡ old))) }
     ensures faults { IfErr result IsGrowFault }
     ensures failed { IsErrOf result FaultDisk → Rose (D.state disk.old).faults (D.state disk.new).faults }
 {
@@ -55,8 +63,10 @@ fn reach<D: Disk, K: Keep<D>, P: Pool<D, K>, F: Form>(
 
 fn copy_into(block: &mut [u8; 1024], start: usize, bytes: &[u8])
     requires { start + length bytes.now ≤ 1024 }
-    ensures here { (j : ℕ) → start ≤ j → j < start + length bytes.now → slice_index block.new j ≡ slice_index bytes.now (j - start) }
-    ensures rest { (j : ℕ) → (j < start) ⊎ (start + length bytes.now ≤ j) → slice_index block.new j ≡ slice_index block.old j }
+    ensures here { (j : ℕ) → start ≤ j → j < start + length bytes.now
+        → slice_index block.new j ≡ slice_index bytes.now (j - start) }
+    ensures rest { (j : ℕ) → (j < start) ⊎ (start + length bytes.now ≤ j)
+        → slice_index block.new j ≡ slice_index block.old j }
 {
     block[start..start + bytes.len()].copy_from_slice(bytes);
 }
@@ -76,8 +86,12 @@ fn fill<D: Disk, K: Keep<D>>(
     requires data { is_data lot.now at ≡ true }
     requires fits { start + length bytes.now ≤ 1024 }
     requires room { 1 ≤ K.room keep.old }
-    ensures here { K.shows lot.now keep.old disk.old → OnOk result ((j : ℕ) → start ≤ j → j < start + length bytes.now → slice_index (K.map keep.new disk.new lot.now at) j ≡ slice_index bytes.now (j - start)) }
-    ensures rest { K.shows lot.now keep.old disk.old → fresh ≡ false → OnOk result ((j : ℕ) → (j < start) ⊎ (start + length bytes.now ≤ j) → j < 1024 → slice_index (K.map keep.new disk.new lot.now at) j ≡ slice_index (K.map keep.old disk.old lot.now at) j) }
+    ensures here { AsShown K.View lot.now keep.old disk.old keep.new disk.new (λ old new.
+        OnOk result ((j : ℕ) → start ≤ j → j < start + length bytes.now
+        → slice_index (new at) j ≡ slice_index bytes.now (j - start))) }
+    ensures rest { AsShown K.View lot.now keep.old disk.old keep.new disk.new (λ old new.
+        fresh ≡ false → OnOk result ((j : ℕ) → (j < start) ⊎ (start + length bytes.now ≤ j) → j < 1024
+        → slice_index (new at) j ≡ slice_index (old at) j)) }
     ensures puts { Puts K.View lot.now (is_ok result) (at ∷ []) keep.old disk.old keep.new disk.new }
     ensures spent { Spent D.Disk K.View lot.now 1 keep.old disk.old keep.new disk.new }
     ensures faults { IfErr result IsDiskFault }
@@ -110,16 +124,24 @@ pub fn put_piece<D: Disk, K: Keep<D>, P: Pool<D, K>, F: Form>(
     requires order { k ≤ count }
     requires short { k < longest }
     requires fits { start + length bytes.now ≤ 1024 }
-    ensures put { K.shows lot.now keep.old disk.old → MadeOf lot.now (K.map keep.old disk.old lot.now) inode.old count → OnOk result (PutPiece lot.now (K.map keep.old disk.old lot.now) (K.map keep.new disk.new lot.now) inode.old inode.new count k start bytes.now) }
-    ensures grew { K.shows lot.now keep.old disk.old → OnOk result (Grew lot.now (K.map keep.old disk.old lot.now) (K.map keep.new disk.new lot.now) inode.old inode.new count (max count (k + 1))) }
-    ensures stays { K.shows lot.now keep.old disk.old → InodesStay (K.map keep.old disk.old lot.now) (K.map keep.new disk.new lot.now) }
+    ensures put { AsShown K.View lot.now keep.old disk.old keep.new disk.new (λ old new.
+        MadeOf lot.now old inode.old count
+        → OnOk result (PutPiece lot.now old new inode.old inode.new count k start bytes.now)) }
+    ensures grew { AsShown K.View lot.now keep.old disk.old keep.new disk.new (λ old new.
+        OnOk result (Grew lot.now old new inode.old inode.new count (max count (k + 1)))) }
+    ensures stays { AsShown K.View lot.now keep.old disk.old keep.new disk.new (λ old new. InodesStay old new) }
     ensures pays { OnOk result (K.room keep.old + due (K.held keep.new) inode.new.single (max count (k + 1)) ≤ K.room keep.new + due (K.held keep.old) inode.old.single count + 2) }
     ensures spent { Spent D.Disk K.View lot.now 7 keep.old disk.old keep.new disk.new }
-    ensures none { IsErrOf result NoSpace → K.shows lot.now keep.old disk.old → (k ≡ count) × (free_count false lot.now (K.map keep.old disk.old lot.now) < needs count) }
-    ensures full { IsErrOf result (Damaged Counts) → K.shows lot.now keep.old disk.old → (k ≡ count) × (2 ^ 32 ≤ counted false (K.map keep.old disk.old lot.now) + needs count) }
-    ensures unreserved { IsErrOf result (Damaged Bitmap) → K.shows lot.now keep.old disk.old → ¬ Reserved lot.now (K.map keep.old disk.old lot.now) }
-    ensures strays { IsErrOf result (Damaged Pointer) → K.shows lot.now keep.old disk.old → Strays lot.now (K.map keep.old disk.old lot.now) inode.old count k }
-    ensures within { K.shows lot.now keep.old disk.old → k < count → OnOk result ((b : ℕ) → b ≢ nth_block (K.map keep.old disk.old lot.now) inode.old k → K.map keep.new disk.new lot.now b ≡ K.map keep.old disk.old lot.now b) }
+    ensures none { IsErrOf result NoSpace → IfShown K.View lot.now keep.old disk.old (λ old.
+        (k ≡ count) × (free_count false lot.now old < needs count)) }
+    ensures full { IsErrOf result (Damaged Counts) → IfShown K.View lot.now keep.old disk.old (λ old.
+        (k ≡ count) × (2 ^ 32 ≤ counted false old + needs count)) }
+    ensures unreserved { IsErrOf result (Damaged Bitmap)
+        → IfShown K.View lot.now keep.old disk.old (λ old. ¬ Reserved lot.now old) }
+    ensures strays { IsErrOf result (Damaged Pointer) → IfShown K.View lot.now keep.old disk.old (λ old.
+        Strays lot.now old inode.old count k) }
+    ensures within { AsShown K.View lot.now keep.old disk.old keep.new disk.new (λ old new.
+        k < count → OnOk result ((b : ℕ) → b ≢ nth_block old inode.old k → new b ≡ old b)) }
     ensures faults { IfErr result IsGrowFault }
     ensures failed { IsErrOf result FaultDisk → Rose (D.state disk.old).faults (D.state disk.new).faults }
 {

@@ -2,7 +2,7 @@
 ghost use Rattle.std.specs.Prelude.{◌≡◌, ◌≤◌, ◌<◌, ◌+◌, ◌-◌, ◌*◌, ◌++◌, ℕ, true, false, [], OnOk, IfOk, IfErr, IsErrOf, length, take, drop, min};
 ghost use Rattle.ice_base.specs.Disk.{Rose};
 ghost use Rattle.ice_base.specs.Lots.{is_sited};
-ghost use Rattle.ice_base.specs.Views.{Looked};
+ghost use Rattle.ice_base.specs.Views.{Looked, IfShown};
 ghost use Rattle.ice_base.specs.declared.fault.OpFault.TheVariants.{Disk as FaultDisk, Damaged};
 ghost use Rattle.ice_base.specs.declared.fault.Rule.TheVariants.{Kind, Pointer};
 ghost use Rattle.ice_map.specs.Faults.{IsLookFault};
@@ -31,13 +31,15 @@ fn read_piece<D: Disk, V: View<D>, F: Form>(
     requires some { from < end }
     requires short { end ≤ longest_file }
     requires fits { length room.old.bytes + (end - from) ≤ most_at_once }
-    ensures bytes { V.shows lot.now view.old disk.old → IfOk result (λ n. room.new.bytes ≡ room.old.bytes ++ bytes_from (V.map view.old disk.old lot.now) inode.now from n) }
+    ensures bytes { IfShown V.View lot.now view.old disk.old (λ old.
+        IfOk result (λ n. room.new.bytes ≡ room.old.bytes ++ bytes_from old inode.now from n)) }
     ensures long { IfOk result (λ n. length room.new.bytes ≡ length room.old.bytes + n) }
     ensures most { length room.new.bytes ≤ length room.old.bytes + (end - from) }
     ensures moves { IfOk result (λ n. (1 ≤ n) × (from + n ≤ end)) }
     ensures entries { room.new.entries ≡ room.old.entries }
     ensures rows { room.new.rows ≡ room.old.rows }
-    ensures pointer { IsErrOf result (Damaged Pointer) → V.shows lot.now view.old disk.old → (k : ℕ) × (1024 * k < end) × (leads lot.now (V.map view.old disk.old lot.now) inode.now k ≡ false) }
+    ensures pointer { IsErrOf result (Damaged Pointer) → IfShown V.View lot.now view.old disk.old (λ old.
+        (k : ℕ) × (1024 * k < end) × (leads lot.now old inode.now k ≡ false)) }
     ensures looked { Looked D.Disk V.View lot.now view.old disk.old view.new disk.new }
     ensures faults { IfErr result IsLookFault }
     ensures failed { IsErrOf result FaultDisk → Rose (D.state disk.old).faults (D.state disk.new).faults }
@@ -66,14 +68,20 @@ pub fn read_at<D: Disk, V: View<D>, F: Form>(
     requires number { number < 64 * length lot.now.groups }
     requires few { len ≤ most_at_once }
     requires empty { room.old.bytes ≡ [] }
-    ensures bytes { V.shows lot.now view.old disk.old → OnOk result (room.new.bytes ≡ take len (drop at (file_bytes (own F.ENTRY (V.map view.old disk.old lot.now) number)))) }
+    ensures bytes { IfShown V.View lot.now view.old disk.old (λ old.
+        OnOk result (room.new.bytes ≡ take len (drop at (file_bytes (own F.ENTRY old number))))) }
     ensures most { length room.new.bytes ≤ len }
     ensures entries { room.new.entries ≡ room.old.entries }
     ensures rows { room.new.rows ≡ room.old.rows }
-    ensures reaches { V.shows lot.now view.old disk.old → OnOk result (ReachesTo at (inode_of (V.map view.old disk.old lot.now) number)) }
-    ensures kind { IsErrOf result (Damaged Kind) → V.shows lot.now view.old disk.old → ¬ ReachesTo at (inode_of (V.map view.old disk.old lot.now) number) }
-    ensures pointer { IsErrOf result (Damaged Pointer) → V.shows lot.now view.old disk.old → (k : ℕ) × (1024 * k < (inode_of (V.map view.old disk.old lot.now) number).size) × (leads lot.now (V.map view.old disk.old lot.now) (inode_of (V.map view.old disk.old lot.now) number) k ≡ false) }
-    ensures unmade { IsErrOf result (Damaged Pointer) → V.shows lot.now view.old disk.old → ¬ WellMade lot.now F.ENTRY (V.map view.old disk.old lot.now) number }
+    ensures reaches { IfShown V.View lot.now view.old disk.old (λ old.
+        OnOk result (ReachesTo at (inode_of old number))) }
+    ensures kind { IsErrOf result (Damaged Kind) → IfShown V.View lot.now view.old disk.old (λ old.
+        ¬ ReachesTo at (inode_of old number)) }
+    ensures pointer { IsErrOf result (Damaged Pointer) → IfShown V.View lot.now view.old disk.old (λ old.
+        (k : ℕ) × (1024 * k < (inode_of old number).size)
+        × (leads lot.now old (inode_of old number) k ≡ false)) }
+    ensures unmade { IsErrOf result (Damaged Pointer) → IfShown V.View lot.now view.old disk.old (λ old.
+        ¬ WellMade lot.now F.ENTRY old number) }
     ensures looked { Looked D.Disk V.View lot.now view.old disk.old view.new disk.new }
     ensures faults { IfErr result IsReadFault }
     ensures failed { IsErrOf result FaultDisk → Rose (D.state disk.old).faults (D.state disk.new).faults }

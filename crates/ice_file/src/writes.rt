@@ -4,7 +4,7 @@ ghost use Rattle.ice_base.specs.Disk.{Rose};
 ghost use Rattle.ice_base.specs.Fields.{SameBeside};
 ghost use Rattle.ice_base.specs.Lots.{is_sited, sub_address};
 ghost use Rattle.ice_base.specs.Used.{count_place, counted, free_count, Reserved};
-ghost use Rattle.ice_base.specs.Views.{Looked, Spent};
+ghost use Rattle.ice_base.specs.Views.{Looked, Spent, AsShown, IfShown};
 ghost use Rattle.ice_base.specs.declared.fault.OpFault.TheVariants.{Disk as FaultDisk, Damaged, NoSpace};
 ghost use Rattle.ice_base.specs.declared.fault.Rule.{Rule};
 ghost use Rattle.ice_base.specs.declared.fault.Rule.TheVariants.{Counts, Kind, Pointer, Bitmap};
@@ -35,14 +35,21 @@ fn write_blocks<D: Disk, K: Keep<D>, P: Pool<D, K>, F: Form>(
     requires few { length bytes.now ≤ most_at_once }
     requires short { at + length bytes.now ≤ longest_file }
     requires reaches { ReachesTo at inode.old }
-    ensures written { K.shows lot.now keep.old disk.old → MadeOf lot.now (K.map keep.old disk.old lot.now) inode.old (blocks_for inode.old.size) → OnOk result (Written lot.now (K.map keep.old disk.old lot.now) (K.map keep.new disk.new lot.now) inode.old inode.new (blocks_for inode.old.size) (blocks_with inode.old.size (at + length bytes.now)) at (at + length bytes.now) bytes.now) }
-    ensures grew { K.shows lot.now keep.old disk.old → OnOk result (Grew lot.now (K.map keep.old disk.old lot.now) (K.map keep.new disk.new lot.now) inode.old inode.new (blocks_for inode.old.size) (blocks_with inode.old.size (at + length bytes.now))) }
-    ensures stays { K.shows lot.now keep.old disk.old → InodesStay (K.map keep.old disk.old lot.now) (K.map keep.new disk.new lot.now) }
+    ensures written { AsShown K.View lot.now keep.old disk.old keep.new disk.new (λ old new.
+        MadeOf lot.now old inode.old (blocks_for inode.old.size)
+        → OnOk result (Written lot.now old new inode.old inode.new (blocks_for inode.old.size) (blocks_with inode.old.size (at + length bytes.now)) at (at + length bytes.now) bytes.now)) }
+    ensures grew { AsShown K.View lot.now keep.old disk.old keep.new disk.new (λ old new.
+        OnOk result (Grew lot.now old new inode.old inode.new (blocks_for inode.old.size) (blocks_with inode.old.size (at + length bytes.now)))) }
+    ensures stays { AsShown K.View lot.now keep.old disk.old keep.new disk.new (λ old new. InodesStay old new) }
     ensures spent { Spent D.Disk K.View lot.now 44 keep.old disk.old keep.new disk.new }
-    ensures none { IsErrOf result NoSpace → K.shows lot.now keep.old disk.old → free_count false lot.now (K.map keep.old disk.old lot.now) + uses_of (blocks_for inode.old.size) < uses_of (blocks_with inode.old.size (at + length bytes.now)) }
-    ensures full { IsErrOf result (Damaged Counts) → K.shows lot.now keep.old disk.old → 2 ^ 32 + uses_of (blocks_for inode.old.size) ≤ counted false (K.map keep.old disk.old lot.now) + uses_of (blocks_with inode.old.size (at + length bytes.now)) }
-    ensures unreserved { IsErrOf result (Damaged Bitmap) → K.shows lot.now keep.old disk.old → ¬ Reserved lot.now (K.map keep.old disk.old lot.now) }
-    ensures misled { IsErrOf result (Damaged Pointer) → K.shows lot.now keep.old disk.old → Confuses lot.now (K.map keep.old disk.old lot.now) inode.old (blocks_for inode.old.size) }
+    ensures none { IsErrOf result NoSpace → IfShown K.View lot.now keep.old disk.old (λ old.
+        free_count false lot.now old + uses_of (blocks_for inode.old.size) < uses_of (blocks_with inode.old.size (at + length bytes.now))) }
+    ensures full { IsErrOf result (Damaged Counts) → IfShown K.View lot.now keep.old disk.old (λ old.
+        2 ^ 32 + uses_of (blocks_for inode.old.size) ≤ counted false old + uses_of (blocks_with inode.old.size (at + length bytes.now))) }
+    ensures unreserved { IsErrOf result (Damaged Bitmap)
+        → IfShown K.View lot.now keep.old disk.old (λ old. ¬ Reserved lot.now old) }
+    ensures misled { IsErrOf result (Damaged Pointer) → IfShown K.View lot.now keep.old disk.old (λ old.
+        Confuses lot.now old inode.old (blocks_for inode.old.size)) }
     ensures faults { IfErr result IsGrowFault }
     ensures failed { IsErrOf result FaultDisk → Rose (D.state disk.old).faults (D.state disk.new).faults }
 {
@@ -85,18 +92,31 @@ pub fn write_at<D: Disk, K: Keep<D>, P: Pool<D, K>, F: Form>(
     requires room { 48 ≤ K.room keep.old }
     requires few { length bytes.now ≤ most_at_once }
     requires short { at + length bytes.now ≤ longest_file }
-    ensures written { K.shows lot.now keep.old disk.old → WellMade lot.now F.ENTRY (K.map keep.old disk.old lot.now) number → OnOk result (FileSet lot.now F.ENTRY (K.map keep.old disk.old lot.now) (K.map keep.new disk.new lot.now) number (overwritten (file_bytes (own F.ENTRY (K.map keep.old disk.old lot.now) number)) at bytes.now)) }
-    ensures reaches { K.shows lot.now keep.old disk.old → OnOk result (ReachesTo at (inode_of (K.map keep.old disk.old lot.now) number)) }
+    ensures written { AsShown K.View lot.now keep.old disk.old keep.new disk.new (λ old new.
+        WellMade lot.now F.ENTRY old number
+        → OnOk result (FileSet lot.now F.ENTRY old new number (overwritten (file_bytes (own F.ENTRY old number)) at bytes.now))) }
+    ensures reaches { IfShown K.View lot.now keep.old disk.old (λ old.
+        OnOk result (ReachesTo at (inode_of old number))) }
     ensures spent { Spent D.Disk K.View lot.now 48 keep.old disk.old keep.new disk.new }
-    ensures kind { IsErrOf result (Damaged Kind) → K.shows lot.now keep.old disk.old → ¬ ReachesTo at (inode_of (K.map keep.old disk.old lot.now) number) }
-    ensures looked { IsErrOf result (Damaged Kind) → Looked D.Disk K.View lot.now keep.old disk.old keep.new disk.new }
-    ensures none { IsErrOf result NoSpace → K.shows lot.now keep.old disk.old → free_count false lot.now (K.map keep.old disk.old lot.now) + uses_of (blocks_for (inode_of (K.map keep.old disk.old lot.now) number).size) < uses_of (blocks_with (inode_of (K.map keep.old disk.old lot.now) number).size (at + length bytes.now)) }
-    ensures full { IsErrOf result (Damaged Counts) → K.shows lot.now keep.old disk.old → 2 ^ 32 + uses_of (blocks_for (inode_of (K.map keep.old disk.old lot.now) number).size) ≤ counted false (K.map keep.old disk.old lot.now) + uses_of (blocks_with (inode_of (K.map keep.old disk.old lot.now) number).size (at + length bytes.now)) }
-    ensures unreserved { IsErrOf result (Damaged Bitmap) → K.shows lot.now keep.old disk.old → ¬ Reserved lot.now (K.map keep.old disk.old lot.now) }
-    ensures kept { (rule : Rule) → IsErrOf result (Damaged rule) → K.shows lot.now keep.old disk.old → inode_of (K.map keep.new disk.new lot.now) number ≡ inode_of (K.map keep.old disk.old lot.now) number }
-    ensures misled { IsErrOf result (Damaged Pointer) → K.shows lot.now keep.old disk.old → Confuses lot.now (K.map keep.old disk.old lot.now) (inode_of (K.map keep.old disk.old lot.now) number) (blocks_for (inode_of (K.map keep.old disk.old lot.now) number).size) }
-    ensures file { IsErrOf result (Damaged Pointer) → K.shows lot.now keep.old disk.old → ReachesTo at (inode_of (K.map keep.old disk.old lot.now) number) }
-    ensures sub { K.shows lot.now keep.old disk.old → OnOk result (SameBeside (count_place false) 4 (K.map keep.old disk.old lot.now sub_address) (K.map keep.new disk.new lot.now sub_address)) }
+    ensures kind { IsErrOf result (Damaged Kind) → IfShown K.View lot.now keep.old disk.old (λ old.
+        ¬ ReachesTo at (inode_of old number)) }
+    ensures looked { IsErrOf result (Damaged Kind)
+        → Looked D.Disk K.View lot.now keep.old disk.old keep.new disk.new }
+    ensures none { IsErrOf result NoSpace → IfShown K.View lot.now keep.old disk.old (λ old.
+        free_count false lot.now old + uses_of (blocks_for (inode_of old number).size) < uses_of (blocks_with (inode_of old number).size (at + length bytes.now))) }
+    ensures full { IsErrOf result (Damaged Counts) → IfShown K.View lot.now keep.old disk.old (λ old.
+        2 ^ 32 + uses_of (blocks_for (inode_of old number).size) ≤ counted false old + uses_of (blocks_with (inode_of old number).size (at + length bytes.now))) }
+    ensures unreserved { IsErrOf result (Damaged Bitmap)
+        → IfShown K.View lot.now keep.old disk.old (λ old. ¬ Reserved lot.now old) }
+    ensures kept { (rule : Rule) → IsErrOf result (Damaged rule)
+        → AsShown K.View lot.now keep.old disk.old keep.new disk.new (λ old new.
+        inode_of new number ≡ inode_of old number) }
+    ensures misled { IsErrOf result (Damaged Pointer) → IfShown K.View lot.now keep.old disk.old (λ old.
+        Confuses lot.now old (inode_of old number) (blocks_for (inode_of old number).size)) }
+    ensures file { IsErrOf result (Damaged Pointer) → IfShown K.View lot.now keep.old disk.old (λ old.
+        ReachesTo at (inode_of old number)) }
+    ensures sub { AsShown K.View lot.now keep.old disk.old keep.new disk.new (λ old new.
+        OnOk result (SameBeside (count_place false) 4 (old sub_address) (new sub_address))) }
     ensures faults { IfErr result IsWriteFault }
     ensures failed { IsErrOf result FaultDisk → Rose (D.state disk.old).faults (D.state disk.new).faults }
 {

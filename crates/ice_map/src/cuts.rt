@@ -4,7 +4,7 @@ ghost use Rattle.ice_base.specs.Disk.{Rose};
 ghost use Rattle.ice_base.specs.Lots.{is_sited, sub_address};
 ghost use Rattle.ice_base.specs.Spare.{has, bitmaps};
 ghost use Rattle.ice_base.specs.Used.{used_block, is_data, counted};
-ghost use Rattle.ice_base.specs.Views.{Looked, Spent, Puts};
+ghost use Rattle.ice_base.specs.Views.{Looked, Spent, Puts, AsShown, IfShown};
 ghost use Rattle.ice_base.specs.declared.fault.OpFault.TheVariants.{Disk as FaultDisk, Damaged};
 ghost use Rattle.ice_base.specs.declared.fault.Rule.TheVariants.{Counts, Pointer, Bitmap};
 ghost use Rattle.ice_map.specs.Faults.{IsCutFault, IsLookFault};
@@ -43,14 +43,19 @@ fn give_between<D: Disk, K: Keep<D>, P: Pool<D, K>>(
     requires order { rest ≤ count }
     requires short { count ≤ longest }
     requires room { cut_room count rest ≤ K.room keep.old }
-    ensures gave { K.shows lot.now keep.old disk.old → OnOk result (Marked lot.now false (K.map keep.old disk.old lot.now) (K.map keep.new disk.new lot.now) (blocks_between (λ _. block.now) inode.now rest count)) }
+    ensures gave { AsShown K.View lot.now keep.old disk.old keep.new disk.new (λ old new.
+        OnOk result (Marked lot.now false old new (blocks_between (λ _. block.now) inode.now rest count))) }
     ensures puts { Puts K.View lot.now (is_ok result) (given_puts (blocks_between (λ _. block.now) inode.now rest count)) keep.old disk.old keep.new disk.new }
     ensures bitmaps { Puts K.View lot.now (is_ok result) (sub_address ∷ bitmaps (length lot.now.groups)) keep.old disk.old keep.new disk.new }
     ensures spent { Spent D.Disk K.View lot.now (2 * (count - rest)) keep.old disk.old keep.new disk.new }
-    ensures zero { IsErrOf result (Damaged Counts) → K.shows lot.now keep.old disk.old → counted false (K.map keep.old disk.old lot.now) < count - rest }
-    ensures unused { IsErrOf result (Damaged Bitmap) → K.shows lot.now keep.old disk.old → FreeOrTwice (K.map keep.old disk.old lot.now) (blocks_between (λ _. block.now) inode.now rest count) }
-    ensures placed { OnOk result ((b : ℕ) → has (blocks_between (λ _. block.now) inode.now rest count) b ≡ true → is_data lot.now b ≡ true) }
-    ensures pointer { IsErrOf result (Damaged Pointer) → (k : ℕ) × (rest ≤ k) × (k < count) × (is_data lot.now (nth_block (λ _. block.now) inode.now k) ≡ false) }
+    ensures zero { IsErrOf result (Damaged Counts) → IfShown K.View lot.now keep.old disk.old (λ old.
+        counted false old < count - rest) }
+    ensures unused { IsErrOf result (Damaged Bitmap) → IfShown K.View lot.now keep.old disk.old (λ old.
+        FreeOrTwice old (blocks_between (λ _. block.now) inode.now rest count)) }
+    ensures placed { OnOk result ((b : ℕ)
+        → has (blocks_between (λ _. block.now) inode.now rest count) b ≡ true → is_data lot.now b ≡ true) }
+    ensures pointer { IsErrOf result (Damaged Pointer) → (k : ℕ) × (rest ≤ k) × (k < count)
+        × (is_data lot.now (nth_block (λ _. block.now) inode.now k) ≡ false) }
     ensures faults { IfErr result IsCutFault }
     ensures failed { IsErrOf result FaultDisk → Rose (D.state disk.old).faults (D.state disk.new).faults }
 {
@@ -77,7 +82,8 @@ fn read_indirect<D: Disk, V: View<D>>(
     into: &mut Block,
 ) -> Result<(), OpFault>
     requires sited { is_sited lot.now (D.state disk.old).size ≡ true }
-    ensures content { V.shows lot.now view.old disk.old → OnOk result (into.new ≡ V.map view.old disk.old lot.now inode.now.single) }
+    ensures content { IfShown V.View lot.now view.old disk.old (λ old.
+        OnOk result (into.new ≡ old inode.now.single)) }
     ensures data { OnOk result (is_data lot.now inode.now.single ≡ true) }
     ensures pointer { IsErrOf result (Damaged Pointer) → is_data lot.now inode.now.single ≡ false }
     ensures looked { Looked D.Disk V.View lot.now view.old disk.old view.new disk.new }
@@ -103,15 +109,22 @@ fn give_indirect<D: Disk, K: Keep<D>, P: Pool<D, K>>(
     requires long { 12 < count }
     requires short { count ≤ longest }
     requires room { cut_room count rest ≤ K.room keep.old }
-    ensures gave { K.shows lot.now keep.old disk.old → OnOk result (Marked lot.now false (K.map keep.old disk.old lot.now) (K.map keep.new disk.new lot.now) (cut_off (K.map keep.old disk.old lot.now) inode.now count rest)) }
-    ensures puts { K.shows lot.now keep.old disk.old → Puts K.View lot.now (is_ok result) (given_puts (cut_off (K.map keep.old disk.old lot.now) inode.now count rest)) keep.old disk.old keep.new disk.new }
+    ensures gave { AsShown K.View lot.now keep.old disk.old keep.new disk.new (λ old new.
+        OnOk result (Marked lot.now false old new (cut_off old inode.now count rest))) }
+    ensures puts { IfShown K.View lot.now keep.old disk.old (λ old.
+        Puts K.View lot.now (is_ok result) (given_puts (cut_off old inode.now count rest)) keep.old disk.old keep.new disk.new) }
     ensures bitmaps { Puts K.View lot.now (is_ok result) (sub_address ∷ bitmaps (length lot.now.groups)) keep.old disk.old keep.new disk.new }
     ensures single { OnOk result (K.map keep.new disk.new lot.now inode.now.single ≡ K.map keep.old disk.old lot.now inode.now.single) }
     ensures spent { Spent D.Disk K.View lot.now (cut_room count rest) keep.old disk.old keep.new disk.new }
-    ensures zero { IsErrOf result (Damaged Counts) → K.shows lot.now keep.old disk.old → counted false (K.map keep.old disk.old lot.now) < length (cut_off (K.map keep.old disk.old lot.now) inode.now count rest) }
-    ensures unused { IsErrOf result (Damaged Bitmap) → K.shows lot.now keep.old disk.old → FreeOrTwice (K.map keep.old disk.old lot.now) (cut_off (K.map keep.old disk.old lot.now) inode.now count rest) }
-    ensures misled { IsErrOf result (Damaged Pointer) → K.shows lot.now keep.old disk.old → Misleads lot.now (K.map keep.old disk.old lot.now) inode.now count }
-    ensures placed { K.shows lot.now keep.old disk.old → OnOk result ((b : ℕ) → has (cut_off (K.map keep.old disk.old lot.now) inode.now count rest) b ≡ true → is_data lot.now b ≡ true) }
+    ensures zero { IsErrOf result (Damaged Counts) → IfShown K.View lot.now keep.old disk.old (λ old.
+        counted false old < length (cut_off old inode.now count rest)) }
+    ensures unused { IsErrOf result (Damaged Bitmap) → IfShown K.View lot.now keep.old disk.old (λ old.
+        FreeOrTwice old (cut_off old inode.now count rest)) }
+    ensures misled { IsErrOf result (Damaged Pointer) → IfShown K.View lot.now keep.old disk.old (λ old.
+        Misleads lot.now old inode.now count) }
+    ensures placed { IfShown K.View lot.now keep.old disk.old (λ old.
+        OnOk result ((b : ℕ) → has (cut_off old inode.now count rest) b ≡ true
+        → is_data lot.now b ≡ true)) }
     ensures faults { IfErr result IsCutFault }
     ensures failed { IsErrOf result FaultDisk → Rose (D.state disk.old).faults (D.state disk.new).faults }
 {
@@ -170,15 +183,23 @@ fn give_rest<D: Disk, K: Keep<D>, P: Pool<D, K>>(
     requires order { rest ≤ count }
     requires short { count ≤ longest }
     requires room { cut_room count rest ≤ K.room keep.old }
-    ensures gave { K.shows lot.now keep.old disk.old → OnOk result (Marked lot.now false (K.map keep.old disk.old lot.now) (K.map keep.new disk.new lot.now) (cut_off (K.map keep.old disk.old lot.now) inode.now count rest)) }
-    ensures puts { K.shows lot.now keep.old disk.old → Puts K.View lot.now (is_ok result) (given_puts (cut_off (K.map keep.old disk.old lot.now) inode.now count rest)) keep.old disk.old keep.new disk.new }
+    ensures gave { AsShown K.View lot.now keep.old disk.old keep.new disk.new (λ old new.
+        OnOk result (Marked lot.now false old new (cut_off old inode.now count rest))) }
+    ensures puts { IfShown K.View lot.now keep.old disk.old (λ old.
+        Puts K.View lot.now (is_ok result) (given_puts (cut_off old inode.now count rest)) keep.old disk.old keep.new disk.new) }
     ensures bitmaps { Puts K.View lot.now (is_ok result) (sub_address ∷ bitmaps (length lot.now.groups)) keep.old disk.old keep.new disk.new }
-    ensures single { OnOk result (12 < rest → K.map keep.new disk.new lot.now inode.now.single ≡ K.map keep.old disk.old lot.now inode.now.single) }
+    ensures single { OnOk result (12 < rest
+        → K.map keep.new disk.new lot.now inode.now.single ≡ K.map keep.old disk.old lot.now inode.now.single) }
     ensures spent { Spent D.Disk K.View lot.now (cut_room count rest) keep.old disk.old keep.new disk.new }
-    ensures zero { IsErrOf result (Damaged Counts) → K.shows lot.now keep.old disk.old → counted false (K.map keep.old disk.old lot.now) < length (cut_off (K.map keep.old disk.old lot.now) inode.now count rest) }
-    ensures unused { IsErrOf result (Damaged Bitmap) → K.shows lot.now keep.old disk.old → FreeOrTwice (K.map keep.old disk.old lot.now) (cut_off (K.map keep.old disk.old lot.now) inode.now count rest) }
-    ensures misled { IsErrOf result (Damaged Pointer) → K.shows lot.now keep.old disk.old → Misleads lot.now (K.map keep.old disk.old lot.now) inode.now count }
-    ensures placed { K.shows lot.now keep.old disk.old → OnOk result ((b : ℕ) → has (cut_off (K.map keep.old disk.old lot.now) inode.now count rest) b ≡ true → is_data lot.now b ≡ true) }
+    ensures zero { IsErrOf result (Damaged Counts) → IfShown K.View lot.now keep.old disk.old (λ old.
+        counted false old < length (cut_off old inode.now count rest)) }
+    ensures unused { IsErrOf result (Damaged Bitmap) → IfShown K.View lot.now keep.old disk.old (λ old.
+        FreeOrTwice old (cut_off old inode.now count rest)) }
+    ensures misled { IsErrOf result (Damaged Pointer) → IfShown K.View lot.now keep.old disk.old (λ old.
+        Misleads lot.now old inode.now count) }
+    ensures placed { IfShown K.View lot.now keep.old disk.old (λ old.
+        OnOk result ((b : ℕ) → has (cut_off old inode.now count rest) b ≡ true
+        → is_data lot.now b ≡ true)) }
     ensures faults { IfErr result IsCutFault }
     ensures failed { IsErrOf result FaultDisk → Rose (D.state disk.old).faults (D.state disk.new).faults }
 {
@@ -207,18 +228,26 @@ pub fn cut<D: Disk, K: Keep<D>, P: Pool<D, K>, F: Form>(
     requires order { rest ≤ count }
     requires short { count ≤ longest }
     requires room { cut_room count rest ≤ K.room keep.old }
-    ensures cut { K.shows lot.now keep.old disk.old → OnOk result (Cut lot.now (K.map keep.old disk.old lot.now) (K.map keep.new disk.new lot.now) inode.old inode.new count rest) }
+    ensures cut { AsShown K.View lot.now keep.old disk.old keep.new disk.new (λ old new.
+        OnOk result (Cut lot.now old new inode.old inode.new count rest)) }
     ensures fields { OnOk result (inode.new ≡ shortened inode.old rest) }
     ensures kept { OnErr result (inode.new ≡ inode.old) }
-    ensures puts { K.shows lot.now keep.old disk.old → Puts K.View lot.now (is_ok result) (given_puts (cut_off (K.map keep.old disk.old lot.now) inode.old count rest)) keep.old disk.old keep.new disk.new }
+    ensures puts { IfShown K.View lot.now keep.old disk.old (λ old.
+        Puts K.View lot.now (is_ok result) (given_puts (cut_off old inode.old count rest)) keep.old disk.old keep.new disk.new) }
     ensures bitmaps { Puts K.View lot.now (is_ok result) (sub_address ∷ bitmaps (length lot.now.groups)) keep.old disk.old keep.new disk.new }
     ensures stays { Stays lot.now (K.map keep.old disk.old lot.now) (K.map keep.new disk.new lot.now) [] }
-    ensures others { (other : Inode) (n : ℕ) → Owns lot.now (K.map keep.old disk.old lot.now) other n → MapStays (K.map keep.old disk.old lot.now) (K.map keep.new disk.new lot.now) other n }
+    ensures others { (other : Inode) (n : ℕ) → Owns lot.now (K.map keep.old disk.old lot.now) other n
+        → MapStays (K.map keep.old disk.old lot.now) (K.map keep.new disk.new lot.now) other n }
     ensures spent { Spent D.Disk K.View lot.now (cut_room count rest) keep.old disk.old keep.new disk.new }
-    ensures zero { IsErrOf result (Damaged Counts) → K.shows lot.now keep.old disk.old → counted false (K.map keep.old disk.old lot.now) < length (cut_off (K.map keep.old disk.old lot.now) inode.old count rest) }
-    ensures unused { IsErrOf result (Damaged Bitmap) → K.shows lot.now keep.old disk.old → FreeOrTwice (K.map keep.old disk.old lot.now) (cut_off (K.map keep.old disk.old lot.now) inode.old count rest) }
-    ensures misled { IsErrOf result (Damaged Pointer) → K.shows lot.now keep.old disk.old → Misleads lot.now (K.map keep.old disk.old lot.now) inode.old count }
-    ensures placed { K.shows lot.now keep.old disk.old → OnOk result ((b : ℕ) → has (cut_off (K.map keep.old disk.old lot.now) inode.old count rest) b ≡ true → is_data lot.now b ≡ true) }
+    ensures zero { IsErrOf result (Damaged Counts) → IfShown K.View lot.now keep.old disk.old (λ old.
+        counted false old < length (cut_off old inode.old count rest)) }
+    ensures unused { IsErrOf result (Damaged Bitmap) → IfShown K.View lot.now keep.old disk.old (λ old.
+        FreeOrTwice old (cut_off old inode.old count rest)) }
+    ensures misled { IsErrOf result (Damaged Pointer) → IfShown K.View lot.now keep.old disk.old (λ old.
+        Misleads lot.now old inode.old count) }
+    ensures placed { IfShown K.View lot.now keep.old disk.old (λ old.
+        OnOk result ((b : ℕ) → has (cut_off old inode.old count rest) b ≡ true
+        → is_data lot.now b ≡ true)) }
     ensures faults { IfErr result IsCutFault }
     ensures failed { IsErrOf result FaultDisk → Rose (D.state disk.old).faults (D.state disk.new).faults }
 {

@@ -8,7 +8,7 @@ ghost use Rattle.ice_base.specs.Lots.{is_sited, sub_address};
 ghost use Rattle.ice_base.specs.Pools.{TookBlock, PutsFor, PutsInOne};
 ghost use Rattle.ice_base.specs.Spare.{Pays, FitsAny};
 ghost use Rattle.ice_base.specs.Used.{is_data, used_block, bitmap_of, counted, free_count, AllUsed, Reserved};
-ghost use Rattle.ice_base.specs.Views.{Looked, Spent, Puts};
+ghost use Rattle.ice_base.specs.Views.{Looked, Spent, Puts, AsShown, IfShown};
 ghost use Rattle.ice_base.specs.declared.fault.OpFault.TheVariants.{Disk as FaultDisk, Damaged, NoSpace};
 ghost use Rattle.ice_base.specs.declared.fault.Rule.TheVariants.{Counts, Pointer, Bitmap};
 ghost use Rattle.ice_map.specs.Faults.{IsGrowFault, IsShortFault};
@@ -38,22 +38,31 @@ fn extend_direct<D: Disk, K: Keep<D>, P: Pool<D, K>>(
     requires sited { is_sited lot.now (D.state disk.old).size ≡ true }
     requires room { 6 ≤ K.room keep.old }
     requires short { count < 12 }
-    ensures grown { K.shows lot.now keep.old disk.old → IfOk result (Grown lot.now (K.map keep.old disk.old lot.now) (K.map keep.new disk.new lot.now) inode.old inode.new count) }
+    ensures grown { AsShown K.View lot.now keep.old disk.old keep.new disk.new (λ old new.
+        IfOk result (Grown lot.now old new inode.old inode.new count)) }
     ensures data { IfOk result (λ a. is_data lot.now a ≡ true) }
     ensures single { OnOk result (12 ≤ count → is_data lot.now inode.new.single ≡ true) }
     ensures fields { IfOk result (λ a. inode.new ≡ widened inode.old count a inode.new.single) }
     ensures kept { OnErr result (inode.new ≡ inode.old) }
     ensures puts { IfOk result (λ a. Puts K.View lot.now true (growth_puts count a inode.new.single) keep.old disk.old keep.new disk.new) }
     ensures broken { OnErr result (GrowthFailed K.View lot.now inode.old count keep.old disk.old keep.new disk.new) }
-    ensures stays { K.shows lot.now keep.old disk.old → Stays lot.now (K.map keep.old disk.old lot.now) (K.map keep.new disk.new lot.now) (indirect_of inode.old count) }
+    ensures stays { AsShown K.View lot.now keep.old disk.old keep.new disk.new (λ old new.
+        Stays lot.now old new (indirect_of inode.old count)) }
     ensures spent { Spent D.Disk K.View lot.now 6 keep.old disk.old keep.new disk.new }
-    ensures exact { K.shows lot.now keep.old disk.old → free_count false lot.now (K.map keep.old disk.old lot.now) < needs count → IfErr result IsShortFault }
-    ensures none { IsErrOf result NoSpace → K.shows lot.now keep.old disk.old → free_count false lot.now (K.map keep.old disk.old lot.now) < needs count }
-    ensures full { IsErrOf result (Damaged Counts) → K.shows lot.now keep.old disk.old → 2 ^ 32 ≤ counted false (K.map keep.old disk.old lot.now) + needs count }
-    ensures unreserved { IsErrOf result (Damaged Bitmap) → K.shows lot.now keep.old disk.old → ¬ Reserved lot.now (K.map keep.old disk.old lot.now) }
-    ensures pointer { IsErrOf result (Damaged Pointer) → (12 < count) × (is_data lot.now inode.old.single ≡ false) }
-    ensures looked { IsErrOf result NoSpace → Looked D.Disk K.View lot.now keep.old disk.old keep.new disk.new }
-    ensures unmoved { IsErrOf result (Damaged Pointer) → Looked D.Disk K.View lot.now keep.old disk.old keep.new disk.new }
+    ensures exact { IfShown K.View lot.now keep.old disk.old (λ old.
+        free_count false lot.now old < needs count → IfErr result IsShortFault) }
+    ensures none { IsErrOf result NoSpace → IfShown K.View lot.now keep.old disk.old (λ old.
+        free_count false lot.now old < needs count) }
+    ensures full { IsErrOf result (Damaged Counts) → IfShown K.View lot.now keep.old disk.old (λ old.
+        2 ^ 32 ≤ counted false old + needs count) }
+    ensures unreserved { IsErrOf result (Damaged Bitmap)
+        → IfShown K.View lot.now keep.old disk.old (λ old. ¬ Reserved lot.now old) }
+    ensures pointer { IsErrOf result (Damaged Pointer) → (12 < count)
+        × (is_data lot.now inode.old.single ≡ false) }
+    ensures looked { IsErrOf result NoSpace
+        → Looked D.Disk K.View lot.now keep.old disk.old keep.new disk.new }
+    ensures unmoved { IsErrOf result (Damaged Pointer)
+        → Looked D.Disk K.View lot.now keep.old disk.old keep.new disk.new }
     ensures faults { IfErr result IsGrowFault }
     ensures failed { IsErrOf result FaultDisk → Rose (D.state disk.old).faults (D.state disk.new).faults }
 {
@@ -72,15 +81,19 @@ fn take_counted<D: Disk, K: Keep<D>, P: Pool<D, K>>(
 ) -> Result<u32, OpFault>
     requires sited { is_sited lot.now (D.state disk.old).size ≡ true }
     requires room { 2 ≤ K.room keep.old }
-    ensures least { K.shows lot.now keep.old disk.old → IfOk result (IsLeast (used_block (K.map keep.old disk.old lot.now))) }
-    ensures marked { K.shows lot.now keep.old disk.old → IfOk result (λ a. Marked lot.now true (K.map keep.old disk.old lot.now) (K.map keep.new disk.new lot.now) (a ∷ [])) }
+    ensures least { IfShown K.View lot.now keep.old disk.old (λ old. IfOk result (IsLeast (used_block old))) }
+    ensures marked { AsShown K.View lot.now keep.old disk.old keep.new disk.new (λ old new.
+        IfOk result (λ a. Marked lot.now true old new (a ∷ []))) }
     ensures data { IfOk result (λ a. is_data lot.now a ≡ true) }
     ensures puts { IfOk result (λ a. PutsFor K.View lot.now true false a keep.old disk.old keep.new disk.new) }
     ensures broken { OnErr result (PutsInOne K.View lot.now keep.old disk.old keep.new disk.new) }
-    ensures others { (b : ℕ) → b ≢ sub_address → ((o : ℕ) → b ≢ 256 * o) → K.map keep.new disk.new lot.now b ≡ K.map keep.old disk.old lot.now b }
+    ensures others { (b : ℕ) → b ≢ sub_address → ((o : ℕ) → b ≢ 256 * o)
+        → K.map keep.new disk.new lot.now b ≡ K.map keep.old disk.old lot.now b }
     ensures spent { Spent D.Disk K.View lot.now 2 keep.old disk.old keep.new disk.new }
-    ensures full { IsErrOf result (Damaged Counts) → K.shows lot.now keep.old disk.old → counted false (K.map keep.old disk.old lot.now) ≡ 2 ^ 32 - 1 }
-    ensures unreserved { IsErrOf result (Damaged Bitmap) → K.shows lot.now keep.old disk.old → 1 ≤ free_count false lot.now (K.map keep.old disk.old lot.now) → ¬ Reserved lot.now (K.map keep.old disk.old lot.now) }
+    ensures full { IsErrOf result (Damaged Counts) → IfShown K.View lot.now keep.old disk.old (λ old.
+        counted false old ≡ 2 ^ 32 - 1) }
+    ensures unreserved { IsErrOf result (Damaged Bitmap) → IfShown K.View lot.now keep.old disk.old (λ old.
+        1 ≤ free_count false lot.now old → ¬ Reserved lot.now old) }
     ensures faults { IfErr result IsGiveFault }
     ensures failed { IsErrOf result FaultDisk → Rose (D.state disk.old).faults (D.state disk.new).faults }
 {
@@ -101,16 +114,22 @@ fn take_two<D: Disk, K: Keep<D>, P: Pool<D, K>>(
 ) -> Result<(u32, u32), OpFault>
     requires sited { is_sited lot.now (D.state disk.old).size ≡ true }
     requires room { 4 ≤ K.room keep.old }
-    ensures took { K.shows lot.now keep.old disk.old → IfOk result (λ p. TookTwo lot.now (K.map keep.old disk.old lot.now) (K.map keep.new disk.new lot.now) p.0 p.1) }
+    ensures took { AsShown K.View lot.now keep.old disk.old keep.new disk.new (λ old new.
+        IfOk result (λ p. TookTwo lot.now old new p.0 p.1)) }
     ensures first { IfOk result (λ p. is_data lot.now p.0 ≡ true) }
     ensures second { IfOk result (λ p. is_data lot.now p.1 ≡ true) }
-    ensures only { IfOk result (λ p. (b : ℕ) → b ≢ sub_address → b ≢ bitmap_of false p.0 → b ≢ bitmap_of false p.1 → K.map keep.new disk.new lot.now b ≡ K.map keep.old disk.old lot.now b) }
+    ensures only { IfOk result (λ p. (b : ℕ) → b ≢ sub_address → b ≢ bitmap_of false p.0
+        → b ≢ bitmap_of false p.1 → K.map keep.new disk.new lot.now b ≡ K.map keep.old disk.old lot.now b) }
     ensures pays { IfOk result (λ p. Pays (K.held keep.old) (K.room keep.old) (K.held keep.new) (K.room keep.new) true (sub_address ∷ bitmap_of false p.0 ∷ bitmap_of false p.1 ∷ [])) }
-    ensures broken { OnErr result ((a : ℕ) × (b : ℕ) × Puts K.View lot.now false (sub_address ∷ bitmap_of false a ∷ bitmap_of false b ∷ []) keep.old disk.old keep.new disk.new) }
-    ensures others { (b : ℕ) → b ≢ sub_address → ((o : ℕ) → b ≢ 256 * o) → K.map keep.new disk.new lot.now b ≡ K.map keep.old disk.old lot.now b }
+    ensures broken { OnErr result ((a : ℕ) × (b : ℕ)
+        × Puts K.View lot.now false (sub_address ∷ bitmap_of false a ∷ bitmap_of false b ∷ []) keep.old disk.old keep.new disk.new) }
+    ensures others { (b : ℕ) → b ≢ sub_address → ((o : ℕ) → b ≢ 256 * o)
+        → K.map keep.new disk.new lot.now b ≡ K.map keep.old disk.old lot.now b }
     ensures spent { Spent D.Disk K.View lot.now 4 keep.old disk.old keep.new disk.new }
-    ensures full { IsErrOf result (Damaged Counts) → K.shows lot.now keep.old disk.old → 2 ^ 32 ≤ counted false (K.map keep.old disk.old lot.now) + 2 }
-    ensures unreserved { IsErrOf result (Damaged Bitmap) → K.shows lot.now keep.old disk.old → 2 ≤ free_count false lot.now (K.map keep.old disk.old lot.now) → ¬ Reserved lot.now (K.map keep.old disk.old lot.now) }
+    ensures full { IsErrOf result (Damaged Counts) → IfShown K.View lot.now keep.old disk.old (λ old.
+        2 ^ 32 ≤ counted false old + 2) }
+    ensures unreserved { IsErrOf result (Damaged Bitmap) → IfShown K.View lot.now keep.old disk.old (λ old.
+        2 ≤ free_count false lot.now old → ¬ Reserved lot.now old) }
     ensures faults { IfErr result IsGiveFault }
     ensures failed { IsErrOf result FaultDisk → Rose (D.state disk.old).faults (D.state disk.new).faults }
 {
@@ -132,22 +151,31 @@ fn extend_first<D: Disk, K: Keep<D>, P: Pool<D, K>>(
     requires sited { is_sited lot.now (D.state disk.old).size ≡ true }
     requires room { 6 ≤ K.room keep.old }
     requires twelve { count ≡ 12 }
-    ensures grown { K.shows lot.now keep.old disk.old → IfOk result (Grown lot.now (K.map keep.old disk.old lot.now) (K.map keep.new disk.new lot.now) inode.old inode.new count) }
+    ensures grown { AsShown K.View lot.now keep.old disk.old keep.new disk.new (λ old new.
+        IfOk result (Grown lot.now old new inode.old inode.new count)) }
     ensures data { IfOk result (λ a. is_data lot.now a ≡ true) }
     ensures single { OnOk result (12 ≤ count → is_data lot.now inode.new.single ≡ true) }
     ensures fields { IfOk result (λ a. inode.new ≡ widened inode.old count a inode.new.single) }
     ensures kept { OnErr result (inode.new ≡ inode.old) }
     ensures puts { IfOk result (λ a. Puts K.View lot.now true (growth_puts count a inode.new.single) keep.old disk.old keep.new disk.new) }
     ensures broken { OnErr result (GrowthFailed K.View lot.now inode.old count keep.old disk.old keep.new disk.new) }
-    ensures stays { K.shows lot.now keep.old disk.old → Stays lot.now (K.map keep.old disk.old lot.now) (K.map keep.new disk.new lot.now) (indirect_of inode.old count) }
+    ensures stays { AsShown K.View lot.now keep.old disk.old keep.new disk.new (λ old new.
+        Stays lot.now old new (indirect_of inode.old count)) }
     ensures spent { Spent D.Disk K.View lot.now 6 keep.old disk.old keep.new disk.new }
-    ensures exact { K.shows lot.now keep.old disk.old → free_count false lot.now (K.map keep.old disk.old lot.now) < needs count → IfErr result IsShortFault }
-    ensures none { IsErrOf result NoSpace → K.shows lot.now keep.old disk.old → free_count false lot.now (K.map keep.old disk.old lot.now) < needs count }
-    ensures full { IsErrOf result (Damaged Counts) → K.shows lot.now keep.old disk.old → 2 ^ 32 ≤ counted false (K.map keep.old disk.old lot.now) + needs count }
-    ensures unreserved { IsErrOf result (Damaged Bitmap) → K.shows lot.now keep.old disk.old → ¬ Reserved lot.now (K.map keep.old disk.old lot.now) }
-    ensures pointer { IsErrOf result (Damaged Pointer) → (12 < count) × (is_data lot.now inode.old.single ≡ false) }
-    ensures looked { IsErrOf result NoSpace → Looked D.Disk K.View lot.now keep.old disk.old keep.new disk.new }
-    ensures unmoved { IsErrOf result (Damaged Pointer) → Looked D.Disk K.View lot.now keep.old disk.old keep.new disk.new }
+    ensures exact { IfShown K.View lot.now keep.old disk.old (λ old.
+        free_count false lot.now old < needs count → IfErr result IsShortFault) }
+    ensures none { IsErrOf result NoSpace → IfShown K.View lot.now keep.old disk.old (λ old.
+        free_count false lot.now old < needs count) }
+    ensures full { IsErrOf result (Damaged Counts) → IfShown K.View lot.now keep.old disk.old (λ old.
+        2 ^ 32 ≤ counted false old + needs count) }
+    ensures unreserved { IsErrOf result (Damaged Bitmap)
+        → IfShown K.View lot.now keep.old disk.old (λ old. ¬ Reserved lot.now old) }
+    ensures pointer { IsErrOf result (Damaged Pointer) → (12 < count)
+        × (is_data lot.now inode.old.single ≡ false) }
+    ensures looked { IsErrOf result NoSpace
+        → Looked D.Disk K.View lot.now keep.old disk.old keep.new disk.new }
+    ensures unmoved { IsErrOf result (Damaged Pointer)
+        → Looked D.Disk K.View lot.now keep.old disk.old keep.new disk.new }
     ensures faults { IfErr result IsGrowFault }
     ensures failed { IsErrOf result FaultDisk → Rose (D.state disk.old).faults (D.state disk.new).faults }
 {
@@ -176,22 +204,31 @@ fn extend_single<D: Disk, K: Keep<D>, P: Pool<D, K>>(
     requires room { 6 ≤ K.room keep.old }
     requires long { 12 < count }
     requires short { count < longest }
-    ensures grown { K.shows lot.now keep.old disk.old → IfOk result (Grown lot.now (K.map keep.old disk.old lot.now) (K.map keep.new disk.new lot.now) inode.old inode.new count) }
+    ensures grown { AsShown K.View lot.now keep.old disk.old keep.new disk.new (λ old new.
+        IfOk result (Grown lot.now old new inode.old inode.new count)) }
     ensures data { IfOk result (λ a. is_data lot.now a ≡ true) }
     ensures single { OnOk result (12 ≤ count → is_data lot.now inode.new.single ≡ true) }
     ensures fields { IfOk result (λ a. inode.new ≡ widened inode.old count a inode.new.single) }
     ensures kept { OnErr result (inode.new ≡ inode.old) }
     ensures puts { IfOk result (λ a. Puts K.View lot.now true (growth_puts count a inode.new.single) keep.old disk.old keep.new disk.new) }
     ensures broken { OnErr result (GrowthFailed K.View lot.now inode.old count keep.old disk.old keep.new disk.new) }
-    ensures stays { K.shows lot.now keep.old disk.old → Stays lot.now (K.map keep.old disk.old lot.now) (K.map keep.new disk.new lot.now) (indirect_of inode.old count) }
+    ensures stays { AsShown K.View lot.now keep.old disk.old keep.new disk.new (λ old new.
+        Stays lot.now old new (indirect_of inode.old count)) }
     ensures spent { Spent D.Disk K.View lot.now 6 keep.old disk.old keep.new disk.new }
-    ensures exact { K.shows lot.now keep.old disk.old → free_count false lot.now (K.map keep.old disk.old lot.now) < needs count → IfErr result IsShortFault }
-    ensures none { IsErrOf result NoSpace → K.shows lot.now keep.old disk.old → free_count false lot.now (K.map keep.old disk.old lot.now) < needs count }
-    ensures full { IsErrOf result (Damaged Counts) → K.shows lot.now keep.old disk.old → 2 ^ 32 ≤ counted false (K.map keep.old disk.old lot.now) + needs count }
-    ensures unreserved { IsErrOf result (Damaged Bitmap) → K.shows lot.now keep.old disk.old → ¬ Reserved lot.now (K.map keep.old disk.old lot.now) }
-    ensures pointer { IsErrOf result (Damaged Pointer) → (12 < count) × (is_data lot.now inode.old.single ≡ false) }
-    ensures looked { IsErrOf result NoSpace → Looked D.Disk K.View lot.now keep.old disk.old keep.new disk.new }
-    ensures unmoved { IsErrOf result (Damaged Pointer) → Looked D.Disk K.View lot.now keep.old disk.old keep.new disk.new }
+    ensures exact { IfShown K.View lot.now keep.old disk.old (λ old.
+        free_count false lot.now old < needs count → IfErr result IsShortFault) }
+    ensures none { IsErrOf result NoSpace → IfShown K.View lot.now keep.old disk.old (λ old.
+        free_count false lot.now old < needs count) }
+    ensures full { IsErrOf result (Damaged Counts) → IfShown K.View lot.now keep.old disk.old (λ old.
+        2 ^ 32 ≤ counted false old + needs count) }
+    ensures unreserved { IsErrOf result (Damaged Bitmap)
+        → IfShown K.View lot.now keep.old disk.old (λ old. ¬ Reserved lot.now old) }
+    ensures pointer { IsErrOf result (Damaged Pointer) → (12 < count)
+        × (is_data lot.now inode.old.single ≡ false) }
+    ensures looked { IsErrOf result NoSpace
+        → Looked D.Disk K.View lot.now keep.old disk.old keep.new disk.new }
+    ensures unmoved { IsErrOf result (Damaged Pointer)
+        → Looked D.Disk K.View lot.now keep.old disk.old keep.new disk.new }
     ensures faults { IfErr result IsGrowFault }
     ensures failed { IsErrOf result FaultDisk → Rose (D.state disk.old).faults (D.state disk.new).faults }
 {
@@ -218,23 +255,33 @@ pub fn extend<D: Disk, K: Keep<D>, P: Pool<D, K>, F: Form>(
     requires sited { is_sited lot.now (D.state disk.old).size ≡ true }
     requires room { 6 ≤ K.room keep.old }
     requires short { count < longest }
-    ensures grown { K.shows lot.now keep.old disk.old → IfOk result (Grown lot.now (K.map keep.old disk.old lot.now) (K.map keep.new disk.new lot.now) inode.old inode.new count) }
+    ensures grown { AsShown K.View lot.now keep.old disk.old keep.new disk.new (λ old new.
+        IfOk result (Grown lot.now old new inode.old inode.new count)) }
     ensures data { IfOk result (λ a. is_data lot.now a ≡ true) }
     ensures single { OnOk result (12 ≤ count → is_data lot.now inode.new.single ≡ true) }
     ensures fields { IfOk result (λ a. inode.new ≡ widened inode.old count a inode.new.single) }
     ensures kept { OnErr result (inode.new ≡ inode.old) }
     ensures puts { IfOk result (λ a. Puts K.View lot.now true (growth_puts count a inode.new.single) keep.old disk.old keep.new disk.new) }
     ensures broken { OnErr result (GrowthFailed K.View lot.now inode.old count keep.old disk.old keep.new disk.new) }
-    ensures stays { K.shows lot.now keep.old disk.old → Stays lot.now (K.map keep.old disk.old lot.now) (K.map keep.new disk.new lot.now) (indirect_of inode.old count) }
-    ensures others { K.shows lot.now keep.old disk.old → OthersStay lot.now (K.map keep.old disk.old lot.now) (K.map keep.new disk.new lot.now) inode.old count }
+    ensures stays { AsShown K.View lot.now keep.old disk.old keep.new disk.new (λ old new.
+        Stays lot.now old new (indirect_of inode.old count)) }
+    ensures others { AsShown K.View lot.now keep.old disk.old keep.new disk.new (λ old new.
+        OthersStay lot.now old new inode.old count) }
     ensures spent { Spent D.Disk K.View lot.now 6 keep.old disk.old keep.new disk.new }
-    ensures exact { K.shows lot.now keep.old disk.old → free_count false lot.now (K.map keep.old disk.old lot.now) < needs count → IfErr result IsShortFault }
-    ensures none { IsErrOf result NoSpace → K.shows lot.now keep.old disk.old → free_count false lot.now (K.map keep.old disk.old lot.now) < needs count }
-    ensures full { IsErrOf result (Damaged Counts) → K.shows lot.now keep.old disk.old → 2 ^ 32 ≤ counted false (K.map keep.old disk.old lot.now) + needs count }
-    ensures unreserved { IsErrOf result (Damaged Bitmap) → K.shows lot.now keep.old disk.old → ¬ Reserved lot.now (K.map keep.old disk.old lot.now) }
-    ensures pointer { IsErrOf result (Damaged Pointer) → (12 < count) × (is_data lot.now inode.old.single ≡ false) }
-    ensures looked { IsErrOf result NoSpace → Looked D.Disk K.View lot.now keep.old disk.old keep.new disk.new }
-    ensures unmoved { IsErrOf result (Damaged Pointer) → Looked D.Disk K.View lot.now keep.old disk.old keep.new disk.new }
+    ensures exact { IfShown K.View lot.now keep.old disk.old (λ old.
+        free_count false lot.now old < needs count → IfErr result IsShortFault) }
+    ensures none { IsErrOf result NoSpace → IfShown K.View lot.now keep.old disk.old (λ old.
+        free_count false lot.now old < needs count) }
+    ensures full { IsErrOf result (Damaged Counts) → IfShown K.View lot.now keep.old disk.old (λ old.
+        2 ^ 32 ≤ counted false old + needs count) }
+    ensures unreserved { IsErrOf result (Damaged Bitmap)
+        → IfShown K.View lot.now keep.old disk.old (λ old. ¬ Reserved lot.now old) }
+    ensures pointer { IsErrOf result (Damaged Pointer) → (12 < count)
+        × (is_data lot.now inode.old.single ≡ false) }
+    ensures looked { IsErrOf result NoSpace
+        → Looked D.Disk K.View lot.now keep.old disk.old keep.new disk.new }
+    ensures unmoved { IsErrOf result (Damaged Pointer)
+        → Looked D.Disk K.View lot.now keep.old disk.old keep.new disk.new }
     ensures faults { IfErr result IsGrowFault }
     ensures failed { IsErrOf result FaultDisk → Rose (D.state disk.old).faults (D.state disk.new).faults }
 {

@@ -2,7 +2,7 @@
 ghost use Rattle.std.specs.Prelude.{is_ok, ◌≡◌, ◌<◌, ◌≤◌, ◌*◌, true, [], ◌∷◌, OnOk, OnErr, IfOk, IfErr, length};
 ghost use Rattle.ice_base.specs.Disk.{Rose};
 ghost use Rattle.ice_base.specs.Lots.{is_address, is_sited};
-ghost use Rattle.ice_base.specs.Views.{Looked, Spent, Puts};
+ghost use Rattle.ice_base.specs.Views.{Looked, Spent, Puts, AsShown, IfShown};
 ghost use Rattle.ice_base.specs.Inodes.{inode_address};
 ghost use Rattle.ice_base.specs.Faults.{IsDiskFault};
 ghost use Rattle.ice_map.specs.Inodes.{inode_of, InodeSet};
@@ -30,7 +30,8 @@ pub fn get_inode<D: Disk, V: View<D>, F: Form>(
 ) -> Result<Inode, OpFault>
     requires sited { is_sited lot.now (D.state disk.old).size ≡ true }
     requires number { number < 64 * length lot.now.groups }
-    ensures value { V.shows lot.now view.old disk.old → IfOk result (λ inode. inode ≡ inode_of (V.map view.old disk.old lot.now) number) }
+    ensures value { IfShown V.View lot.now view.old disk.old (λ old.
+        IfOk result (λ inode. inode ≡ inode_of old number)) }
     ensures looked { Looked D.Disk V.View lot.now view.old disk.old view.new disk.new }
     ensures faults { IfErr result IsDiskFault }
     ensures failed { OnErr result (Rose (D.state disk.old).faults (D.state disk.new).faults) }
@@ -52,7 +53,8 @@ pub fn put_inode<D: Disk, K: Keep<D>, P: Pool<D, K>, F: Form>(
     requires sited { is_sited lot.now (D.state disk.old).size ≡ true }
     requires number { number < 64 * length lot.now.groups }
     requires room { 1 ≤ K.room keep.old }
-    ensures written { K.shows lot.now keep.old disk.old → OnOk result (InodeSet (K.map keep.old disk.old lot.now) (K.map keep.new disk.new lot.now) number inode.now) }
+    ensures written { AsShown K.View lot.now keep.old disk.old keep.new disk.new (λ old new.
+        OnOk result (InodeSet old new number inode.now)) }
     ensures puts { Puts K.View lot.now (is_ok result) (inode_address number ∷ []) keep.old disk.old keep.new disk.new }
     ensures spent { Spent D.Disk K.View lot.now 1 keep.old disk.old keep.new disk.new }
     ensures faults { IfErr result IsDiskFault }

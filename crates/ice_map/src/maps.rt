@@ -3,7 +3,7 @@ ghost use Rattle.std.specs.Prelude.{◌≡◌, ◌≢◌, ◌≤◌, ◌<◌, tr
 ghost use Rattle.ice_base.specs.Disk.{Rose};
 ghost use Rattle.ice_base.specs.Lots.{is_sited};
 ghost use Rattle.ice_base.specs.Used.{is_data};
-ghost use Rattle.ice_base.specs.Views.{Looked};
+ghost use Rattle.ice_base.specs.Views.{Looked, IfShown};
 ghost use Rattle.ice_base.specs.declared.fault.OpFault.TheVariants.{Disk as FaultDisk, Damaged};
 ghost use Rattle.ice_base.specs.declared.fault.Rule.TheVariants.{Pointer};
 ghost use Rattle.ice_map.specs.Faults.{IsLookFault};
@@ -44,10 +44,13 @@ pub fn nth<D: Disk, V: View<D>, F: Form>(
 ) -> Result<u32, OpFault>
     requires sited { is_sited lot.now (D.state disk.old).size ≡ true }
     requires short { n < longest }
-    ensures block { V.shows lot.now view.old disk.old → IfOk result (λ a. a ≡ nth_block (V.map view.old disk.old lot.now) inode.now n) }
+    ensures block { IfShown V.View lot.now view.old disk.old (λ old.
+        IfOk result (λ a. a ≡ nth_block old inode.now n)) }
     ensures data { IfOk result (λ a. is_data lot.now a ≡ true) }
-    ensures good { V.shows lot.now view.old disk.old → OnOk result (leads lot.now (V.map view.old disk.old lot.now) inode.now n ≡ true) }
-    ensures damaged { IsErrOf result (Damaged Pointer) → V.shows lot.now view.old disk.old → leads lot.now (V.map view.old disk.old lot.now) inode.now n ≡ false }
+    ensures good { IfShown V.View lot.now view.old disk.old (λ old.
+        OnOk result (leads lot.now old inode.now n ≡ true)) }
+    ensures damaged { IsErrOf result (Damaged Pointer) → IfShown V.View lot.now view.old disk.old (λ old.
+        leads lot.now old inode.now n ≡ false) }
     ensures looked { Looked D.Disk V.View lot.now view.old disk.old view.new disk.new }
     ensures faults { IfErr result IsLookFault }
     ensures failed { IsErrOf result FaultDisk → Rose (D.state disk.old).faults (D.state disk.new).faults }

@@ -4,7 +4,7 @@ ghost use Rattle.ice_base.specs.Disk.{Rose};
 ghost use Rattle.ice_base.specs.Fields.{WordSet};
 ghost use Rattle.ice_base.specs.Lots.{is_sited, sub_address};
 ghost use Rattle.ice_base.specs.Spare.{lacks, FitsAny};
-ghost use Rattle.ice_base.specs.Views.{Looked, Spent, Puts};
+ghost use Rattle.ice_base.specs.Views.{Looked, Spent, Puts, AsShown, IfShown};
 ghost use Rattle.ice_base.specs.Faults.{IsDiskFault, IsGiveFault};
 ghost use Rattle.ice_base.specs.Used.{used, bits_of, bitmap_of, AllUsed, is_data, Reserved, count_place, counted};
 ghost use Rattle.ice_base.specs.Pools.{Took, Gave, PutsFor, PutsInOne};
@@ -49,9 +49,10 @@ pub fn move_count<D: Disk, V: View<D>>(
     sub: &mut Block,
 ) -> Result<(), OpFault>
     requires { is_sited lot.now (D.state disk.old).size ≡ true }
-    ensures counts { V.shows lot.now view.old disk.old → OnOk result (WordSet (V.map view.old disk.old lot.now sub_address) (count_place inodes)
-        (cond up (counted inodes (V.map view.old disk.old lot.now) + 1) (counted inodes (V.map view.old disk.old lot.now) - 1)) sub.new) }
-    ensures end { IsErrOf result (Damaged Counts) → V.shows lot.now view.old disk.old → counted inodes (V.map view.old disk.old lot.now) ≡ cond up (2 ^ 32 - 1) 0 }
+    ensures counts { IfShown V.View lot.now view.old disk.old (λ old.
+        OnOk result (WordSet (old sub_address) (count_place inodes) (cond up (counted inodes old + 1) (counted inodes old - 1)) sub.new)) }
+    ensures end { IsErrOf result (Damaged Counts) → IfShown V.View lot.now view.old disk.old (λ old.
+        counted inodes old ≡ cond up (2 ^ 32 - 1) 0) }
     ensures looked { Looked D.Disk V.View lot.now view.old disk.old view.new disk.new }
     ensures faults { IfErr result IsCountFault }
     ensures failed { IsErrOf result FaultDisk → Rose (D.state disk.old).faults (D.state disk.new).faults }
@@ -87,8 +88,10 @@ fn put_both<D: Disk, K: Keep<D>>(
     requires address { at < 256 * length lot.now.groups }
     requires apart { at ≢ sub_address }
     requires room { lacks (K.held keep.old) (sub_address ∷ at ∷ []) ≤ K.room keep.old }
-    ensures bitmap { K.shows lot.now keep.old disk.old → OnOk result (K.map keep.new disk.new lot.now at ≡ bitmap.now) }
-    ensures sub { K.shows lot.now keep.old disk.old → OnOk result (K.map keep.new disk.new lot.now sub_address ≡ sub.now) }
+    ensures bitmap { AsShown K.View lot.now keep.old disk.old keep.new disk.new (λ old new.
+        OnOk result (new at ≡ bitmap.now)) }
+    ensures sub { AsShown K.View lot.now keep.old disk.old keep.new disk.new (λ old new.
+        OnOk result (new sub_address ≡ sub.now)) }
     ensures puts { Puts K.View lot.now (is_ok result) (sub_address ∷ at ∷ []) keep.old disk.old keep.new disk.new }
     ensures spent { Spent D.Disk K.View lot.now 2 keep.old disk.old keep.new disk.new }
     ensures fault { IfErr result IsDiskFault }
@@ -109,18 +112,25 @@ pub fn take<D: Disk, K: Keep<D>>(
 ) -> Result<u32, OpFault>
     requires sited { is_sited lot.now (D.state disk.old).size ≡ true }
     requires room { FitsAny (K.held keep.old) (K.room keep.old) lot.now }
-    ensures took { K.shows lot.now keep.old disk.old → IfOk result (Took inodes (K.map keep.old disk.old lot.now) (K.map keep.new disk.new lot.now)) }
+    ensures took { AsShown K.View lot.now keep.old disk.old keep.new disk.new (λ old new.
+        IfOk result (Took inodes old new)) }
     ensures number { IfOk result (λ i. i < bits_of inodes * length lot.now.groups) }
     ensures data { inodes ≡ false → IfOk result (λ a. is_data lot.now a ≡ true) }
     ensures puts { IfOk result (λ i. PutsFor K.View lot.now true inodes i keep.old disk.old keep.new disk.new) }
     ensures broken { OnErr result (PutsInOne K.View lot.now keep.old disk.old keep.new disk.new) }
     ensures spent { Spent D.Disk K.View lot.now 2 keep.old disk.old keep.new disk.new }
-    ensures exact { K.shows lot.now keep.old disk.old → AllUsed inodes lot.now (K.map keep.old disk.old lot.now) → IfErr result (IsAbsentFault inodes) }
-    ensures none { IsErrOf result (absent inodes) → K.shows lot.now keep.old disk.old → AllUsed inodes lot.now (K.map keep.old disk.old lot.now) }
-    ensures full { IsErrOf result (Damaged Counts) → K.shows lot.now keep.old disk.old → counted inodes (K.map keep.old disk.old lot.now) ≡ 2 ^ 32 - 1 }
-    ensures unreserved { IsErrOf result (Damaged Bitmap) → K.shows lot.now keep.old disk.old → ¬ Reserved lot.now (K.map keep.old disk.old lot.now) }
-    ensures looked { IsErrOf result (absent inodes) → Looked D.Disk K.View lot.now keep.old disk.old keep.new disk.new }
-    ensures looked_damaged { (rule : Rule) → IsErrOf result (Damaged rule) → Looked D.Disk K.View lot.now keep.old disk.old keep.new disk.new }
+    ensures exact { IfShown K.View lot.now keep.old disk.old (λ old.
+        AllUsed inodes lot.now old → IfErr result (IsAbsentFault inodes)) }
+    ensures none { IsErrOf result (absent inodes)
+        → IfShown K.View lot.now keep.old disk.old (λ old. AllUsed inodes lot.now old) }
+    ensures full { IsErrOf result (Damaged Counts) → IfShown K.View lot.now keep.old disk.old (λ old.
+        counted inodes old ≡ 2 ^ 32 - 1) }
+    ensures unreserved { IsErrOf result (Damaged Bitmap)
+        → IfShown K.View lot.now keep.old disk.old (λ old. ¬ Reserved lot.now old) }
+    ensures looked { IsErrOf result (absent inodes)
+        → Looked D.Disk K.View lot.now keep.old disk.old keep.new disk.new }
+    ensures looked_damaged { (rule : Rule) → IsErrOf result (Damaged rule)
+        → Looked D.Disk K.View lot.now keep.old disk.old keep.new disk.new }
     ensures faults { IfErr result (IsTakeFault inodes) }
     ensures failed { IsErrOf result FaultDisk → Rose (D.state disk.old).faults (D.state disk.new).faults }
 {
@@ -146,12 +156,16 @@ pub fn give<D: Disk, K: Keep<D>>(
     requires sited { is_sited lot.now (D.state disk.old).size ≡ true }
     requires number { given < bits_of inodes * length lot.now.groups }
     requires room { lacks (K.held keep.old) (sub_address ∷ bitmap_of inodes given ∷ []) ≤ K.room keep.old }
-    ensures gave { K.shows lot.now keep.old disk.old → OnOk result (Gave inodes (K.map keep.old disk.old lot.now) (K.map keep.new disk.new lot.now) given) }
+    ensures gave { AsShown K.View lot.now keep.old disk.old keep.new disk.new (λ old new.
+        OnOk result (Gave inodes old new given)) }
     ensures puts { PutsFor K.View lot.now (is_ok result) inodes given keep.old disk.old keep.new disk.new }
     ensures spent { Spent D.Disk K.View lot.now 2 keep.old disk.old keep.new disk.new }
-    ensures zero { IsErrOf result (Damaged Counts) → K.shows lot.now keep.old disk.old → counted inodes (K.map keep.old disk.old lot.now) ≡ 0 }
-    ensures unused { IsErrOf result (Damaged Bitmap) → K.shows lot.now keep.old disk.old → used inodes (K.map keep.old disk.old lot.now) given ≡ false }
-    ensures looked_damaged { (rule : Rule) → IsErrOf result (Damaged rule) → Looked D.Disk K.View lot.now keep.old disk.old keep.new disk.new }
+    ensures zero { IsErrOf result (Damaged Counts)
+        → IfShown K.View lot.now keep.old disk.old (λ old. counted inodes old ≡ 0) }
+    ensures unused { IsErrOf result (Damaged Bitmap) → IfShown K.View lot.now keep.old disk.old (λ old.
+        used inodes old given ≡ false) }
+    ensures looked_damaged { (rule : Rule) → IsErrOf result (Damaged rule)
+        → Looked D.Disk K.View lot.now keep.old disk.old keep.new disk.new }
     ensures faults { IfErr result IsGiveFault }
     ensures failed { IsErrOf result FaultDisk → Rose (D.state disk.old).faults (D.state disk.new).faults }
 {

@@ -2,7 +2,7 @@
 ghost use Rattle.std.specs.Prelude.{◌≡◌, ◌≤◌, ◌<◌, ◌+◌, ◌*◌, ◌/◌, ◌%◌, true, false, IfOk, IfErr, IsErrOf, OnErr, length};
 ghost use Rattle.ice_base.specs.Disk.{Rose};
 ghost use Rattle.ice_base.specs.Lots.{is_sited};
-ghost use Rattle.ice_base.specs.Views.{Looked};
+ghost use Rattle.ice_base.specs.Views.{Looked, IfShown};
 ghost use Rattle.ice_base.specs.Bits.{IsLeast};
 ghost use Rattle.ice_base.specs.Faults.{IsDiskFault};
 ghost use Rattle.ice_base.specs.Used.{used, bits_of, bitmap_of, AllUsed, free_count, is_data, Reserved};
@@ -50,11 +50,16 @@ pub fn find<D: Disk, V: View<D>>(
     requires { is_sited lot.now (D.state disk.old).size ≡ true }
     ensures number { IfOk result (λ i. i < bits_of inodes * length lot.now.groups) }
     ensures data { inodes ≡ false → IfOk result (λ a. is_data lot.now a ≡ true) }
-    ensures least { V.shows lot.now view.old disk.old → IfOk result (IsLeast (used inodes (V.map view.old disk.old lot.now))) }
-    ensures block { V.shows lot.now view.old disk.old → IfOk result (λ i. block.new ≡ V.map view.old disk.old lot.now (bitmap_of inodes i)) }
-    ensures exact { V.shows lot.now view.old disk.old → AllUsed inodes lot.now (V.map view.old disk.old lot.now) → IfErr result (IsAbsentFault inodes) }
-    ensures none { IsErrOf result (absent inodes) → V.shows lot.now view.old disk.old → AllUsed inodes lot.now (V.map view.old disk.old lot.now) }
-    ensures unreserved { IsErrOf result (Damaged Bitmap) → V.shows lot.now view.old disk.old → ¬ Reserved lot.now (V.map view.old disk.old lot.now) }
+    ensures least { IfShown V.View lot.now view.old disk.old (λ old.
+        IfOk result (IsLeast (used inodes old))) }
+    ensures block { IfShown V.View lot.now view.old disk.old (λ old.
+        IfOk result (λ i. block.new ≡ old (bitmap_of inodes i))) }
+    ensures exact { IfShown V.View lot.now view.old disk.old (λ old.
+        AllUsed inodes lot.now old → IfErr result (IsAbsentFault inodes)) }
+    ensures none { IsErrOf result (absent inodes)
+        → IfShown V.View lot.now view.old disk.old (λ old. AllUsed inodes lot.now old) }
+    ensures unreserved { IsErrOf result (Damaged Bitmap)
+        → IfShown V.View lot.now view.old disk.old (λ old. ¬ Reserved lot.now old) }
     ensures no_counts { ¬ IsErrOf result (Damaged Counts) }
     ensures looked { Looked D.Disk V.View lot.now view.old disk.old view.new disk.new }
     ensures faults { IfErr result (IsTakeFault inodes) }
@@ -81,7 +86,8 @@ pub fn free<D: Disk, V: View<D>>(
     inodes: bool,
 ) -> Result<u32, OpFault>
     requires { is_sited lot.now (D.state disk.old).size ≡ true }
-    ensures count { V.shows lot.now view.old disk.old → IfOk result (λ n. n ≡ free_count inodes lot.now (V.map view.old disk.old lot.now)) }
+    ensures count { IfShown V.View lot.now view.old disk.old (λ old.
+        IfOk result (λ n. n ≡ free_count inodes lot.now old)) }
     ensures looked { Looked D.Disk V.View lot.now view.old disk.old view.new disk.new }
     ensures faults { IfErr result IsDiskFault }
     ensures failed { IsErrOf result FaultDisk → Rose (D.state disk.old).faults (D.state disk.new).faults }
