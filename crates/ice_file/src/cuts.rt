@@ -1,9 +1,9 @@
 //! Cuts of files.
-ghost use Rattle.std.specs.Prelude.{◌≡◌, ◌≢◌, ◌≤◌, ◌<◌, ◌+◌, ◌*◌, true, false, OnOk, IfErr, IsErrOf, length, take};
+ghost use Rattle.std.specs.Prelude.{◌≡◌, ◌≢◌, ◌≤◌, ◌<◌, ◌+◌, ◌*◌, ℕ, true, false, OnOk, IfErr, IsErrOf, length, take};
 ghost use Rattle.ice_base.specs.Disk.{Rose};
 ghost use Rattle.ice_base.specs.Fields.{SameBeside};
 ghost use Rattle.ice_base.specs.Lots.{is_sited, sub_address};
-ghost use Rattle.ice_base.specs.Used.{count_place, counted};
+ghost use Rattle.ice_base.specs.Used.{is_data, used_inode, count_place, counted};
 ghost use Rattle.ice_base.specs.Views.{Looked, Spent};
 ghost use Rattle.ice_base.specs.declared.fault.OpFault.TheVariants.{Disk as FaultDisk, Damaged};
 ghost use Rattle.ice_base.specs.declared.fault.Rule.{Rule};
@@ -39,7 +39,9 @@ pub fn cut_to<D: Disk, K: Keep<D>, P: Pool<D, K>, F: Form>(
     ensures zero { IsErrOf result (Damaged Counts) → K.shows lot.now keep.old disk.old → counted false (K.map keep.old disk.old lot.now) + uses_of (blocks_for len) < uses_of (blocks_for (inode_of (K.map keep.old disk.old lot.now) number).size) }
     ensures unused { IsErrOf result (Damaged Bitmap) → K.shows lot.now keep.old disk.old → FreeOrTwice (K.map keep.old disk.old lot.now) (cut_off (K.map keep.old disk.old lot.now) (inode_of (K.map keep.old disk.old lot.now) number) (blocks_for (inode_of (K.map keep.old disk.old lot.now) number).size) (blocks_for len)) }
     ensures kept { (rule : Rule) → IsErrOf result (Damaged rule) → K.shows lot.now keep.old disk.old → inode_of (K.map keep.new disk.new lot.now) number ≡ inode_of (K.map keep.old disk.old lot.now) number }
+    ensures single_placed { IsErrOf result (Damaged Bitmap) → K.shows lot.now keep.old disk.old → 12 < blocks_for (inode_of (K.map keep.old disk.old lot.now) number).size → is_data lot.now (inode_of (K.map keep.old disk.old lot.now) number).single ≡ true }
     ensures misled { IsErrOf result (Damaged Pointer) → K.shows lot.now keep.old disk.old → Misleads lot.now (K.map keep.old disk.old lot.now) (inode_of (K.map keep.old disk.old lot.now) number) (blocks_for (inode_of (K.map keep.old disk.old lot.now) number).size) }
+    ensures inodes { K.shows lot.now keep.old disk.old → OnOk result ((i : ℕ) → used_inode (K.map keep.new disk.new lot.now) i ≡ used_inode (K.map keep.old disk.old lot.now) i) }
     ensures sub { K.shows lot.now keep.old disk.old → OnOk result (SameBeside (count_place false) 4 (K.map keep.old disk.old lot.now sub_address) (K.map keep.new disk.new lot.now sub_address)) }
     ensures file { IfErr result (λ e. (rule : Rule) → e ≡ Damaged rule → rule ≢ Kind → K.shows lot.now keep.old disk.old → ReachesTo len (inode_of (K.map keep.old disk.old lot.now) number)) }
     ensures faults { IfErr result IsCutToFault }

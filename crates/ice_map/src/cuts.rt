@@ -110,6 +110,7 @@ fn give_indirect<D: Disk, K: Keep<D>, P: Pool<D, K>>(
     ensures spent { Spent D.Disk K.View lot.now (cut_room count rest) keep.old disk.old keep.new disk.new }
     ensures zero { IsErrOf result (Damaged Counts) → K.shows lot.now keep.old disk.old → counted false (K.map keep.old disk.old lot.now) < length (cut_off (K.map keep.old disk.old lot.now) inode.now count rest) }
     ensures unused { IsErrOf result (Damaged Bitmap) → K.shows lot.now keep.old disk.old → FreeOrTwice (K.map keep.old disk.old lot.now) (cut_off (K.map keep.old disk.old lot.now) inode.now count rest) }
+    ensures single_placed { IsErrOf result (Damaged Bitmap) → 12 < count → is_data lot.now inode.now.single ≡ true }
     ensures misled { IsErrOf result (Damaged Pointer) → K.shows lot.now keep.old disk.old → Misleads lot.now (K.map keep.old disk.old lot.now) inode.now count }
     ensures placed { K.shows lot.now keep.old disk.old → OnOk result ((b : ℕ) → has (cut_off (K.map keep.old disk.old lot.now) inode.now count rest) b ≡ true → is_data lot.now b ≡ true) }
     ensures faults { IfErr result IsCutFault }
@@ -177,6 +178,7 @@ fn give_rest<D: Disk, K: Keep<D>, P: Pool<D, K>>(
     ensures spent { Spent D.Disk K.View lot.now (cut_room count rest) keep.old disk.old keep.new disk.new }
     ensures zero { IsErrOf result (Damaged Counts) → K.shows lot.now keep.old disk.old → counted false (K.map keep.old disk.old lot.now) < length (cut_off (K.map keep.old disk.old lot.now) inode.now count rest) }
     ensures unused { IsErrOf result (Damaged Bitmap) → K.shows lot.now keep.old disk.old → FreeOrTwice (K.map keep.old disk.old lot.now) (cut_off (K.map keep.old disk.old lot.now) inode.now count rest) }
+    ensures single_placed { IsErrOf result (Damaged Bitmap) → 12 < count → is_data lot.now inode.now.single ≡ true }
     ensures misled { IsErrOf result (Damaged Pointer) → K.shows lot.now keep.old disk.old → Misleads lot.now (K.map keep.old disk.old lot.now) inode.now count }
     ensures placed { K.shows lot.now keep.old disk.old → OnOk result ((b : ℕ) → has (cut_off (K.map keep.old disk.old lot.now) inode.now count rest) b ≡ true → is_data lot.now b ≡ true) }
     ensures faults { IfErr result IsCutFault }
@@ -217,6 +219,7 @@ pub fn cut<D: Disk, K: Keep<D>, P: Pool<D, K>, F: Form>(
     ensures spent { Spent D.Disk K.View lot.now (cut_room count rest) keep.old disk.old keep.new disk.new }
     ensures zero { IsErrOf result (Damaged Counts) → K.shows lot.now keep.old disk.old → counted false (K.map keep.old disk.old lot.now) < length (cut_off (K.map keep.old disk.old lot.now) inode.old count rest) }
     ensures unused { IsErrOf result (Damaged Bitmap) → K.shows lot.now keep.old disk.old → FreeOrTwice (K.map keep.old disk.old lot.now) (cut_off (K.map keep.old disk.old lot.now) inode.old count rest) }
+    ensures single_placed { IsErrOf result (Damaged Bitmap) → 12 < count → is_data lot.now inode.old.single ≡ true }
     ensures misled { IsErrOf result (Damaged Pointer) → K.shows lot.now keep.old disk.old → Misleads lot.now (K.map keep.old disk.old lot.now) inode.old count }
     ensures placed { K.shows lot.now keep.old disk.old → OnOk result ((b : ℕ) → has (cut_off (K.map keep.old disk.old lot.now) inode.old count rest) b ≡ true → is_data lot.now b ≡ true) }
     ensures faults { IfErr result IsCutFault }
