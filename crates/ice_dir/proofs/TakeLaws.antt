@@ -1,5 +1,5 @@
 -- What a removal of one row does.
-use Rattle.std.proofs.Common.{◌≡◌, ◌≢◌, ◌≤◌, ◌<◌, ◌+◌, ◌-◌, ◌*◌, ◌/◌, ◌%◌, ℕ, true, false, cond, ◌&&◌, nat_lt, nat_le, List, [], ◌∷◌, length, length-append, slice_index, ◌∙◌, sym, refl, ap, subst, arith}
+use Rattle.std.proofs.Common.{◌≡◌, ◌≢◌, ◌≤◌, ◌<◌, ◌+◌, ◌-◌, ◌*◌, ◌/◌, ◌%◌, ℕ, true, false, cond, ◌&&◌, nat_lt, nat_le, List, [], ◌∷◌, length, length-append, slice_index, ◌∙◌, sym, refl, ap, subst, inl, inr, ⊎_elim, arith, ltb}
 use Rattle.std.proofs.lemmas.Bool.Decides.{nat_tests}
 use Rattle.std.proofs.lemmas.Nat.{div-add-mod', mod_below}
 use Rattle.std.specs.List.{swap_remove, position_or_len}
@@ -10,24 +10,23 @@ use Rattle.ice_base.specs.Spare.{has}
 use Rattle.ice_base.specs.Used.{is_data, used_block, count_place, counted, free_count}
 use Rattle.ice_map.specs.declared.codec.Inode.{Inode}
 use Rattle.ice_map.specs.Inodes.{inode_at, inode_of, InodeSet}
-use Rattle.ice_map.specs.Maps.{nth_block, blocks_between, leads, cut_off, cut_room, shortened, Stays, Cut, OwnsOnce, Placed}
+use Rattle.ice_map.specs.Maps.{nth_block, blocks_between, uses, times, cut_off, cut_room, shortened, Stays, Cut, FreeOrTwice, Misleads}
 use Rattle.ice_map.proofs.CutLaws.{length-between}
 use Rattle.ice_map.proofs.GrowLaws.{inode_not_bitmap, inode_not_data, inode_not_sub}
 use Rattle.ice_map.proofs.MarkLaws.{data_not_bitmap, data_not_sub, used-same, free-same}
-use Rattle.ice_file.specs.Own.{MadeOf}
+use Rattle.ice_map.proofs.UsesLaws.{cut-same, off-free, times-has}
+use Rattle.ice_file.specs.Own.{MadeOf, Confuses}
 use Rattle.ice_file.specs.Writes.{Reached, content_of, uses_of}
-use Rattle.ice_file.proofs.CutLaws.{cut-moved, cut-contents, cut-once}
-use Rattle.ice_file.proofs.MoveLaws.{had-reached, made-leads}
+use Rattle.ice_file.proofs.CutLaws.{cut-moved, cut-contents}
+use Rattle.ice_file.proofs.GrowthLaws.{Unmixed, unmixed-one, misled-here}
+use Rattle.ice_file.proofs.MoveLaws.{had-reached}
 use Rattle.ice_file.proofs.SetLaws.{resized}
 use Rattle.ice_dir.specs.Changes.{dir_blocks, RowPut, DirSet, EntryGone}
 use Rattle.ice_dir.specs.Rows.{Row, per_block, place_of, row_at, row_of, rows_of, named, without, FirstNamed, IsDirectory}
 use Rattle.ice_dir.proofs.DirLaws.{per-sixteen, position-found, rows-read}
 use Rattle.ice_dir.proofs.PutLaws.{dir-sixteenth, row-inside, row-put, dir-taken}
 
--- the block of a row of a well-made directory leads to a data place
-pub row-leads : (lot : LotView) (entry : ℕ) (m : ℕ → List ℕ) (x : Inode) (k per : ℕ) → entry ≡ 64 → MadeOf lot m x (dir_blocks entry x.size) → k < x.size → per ≡ per_block entry → leads lot m x (k / per) ≡ true
-row-leads lot entry m x k per e made h p = ap (λ n. leads lot m x (k / n)) p ∙ made-leads lot m x (dir_blocks entry x.size) (k / per_block entry) made (row-inside entry x.size k e h)
-
+-- a block of the rows of a directory is one of its map
 pub block-inside : (entry size n : ℕ) → entry ≡ 64 → n * per_block entry < size → n < dir_blocks entry size
 block-inside entry size n e h =
     let l = dir-sixteenth entry size e in
@@ -36,9 +35,6 @@ block-inside entry size n e h =
     let p = ap (λ t. n * t) (per-sixteen entry e) in
     let q : n * 16 < size = omega (arith, p, h) in
     omega (arith, l, b, s, q)
-
-pub block-leads : (lot : LotView) (entry : ℕ) (m : ℕ → List ℕ) (x : Inode) (n : ℕ) → entry ≡ 64 → MadeOf lot m x (dir_blocks entry x.size) → n * per_block entry < x.size → leads lot m x n ≡ true
-block-leads lot entry m x n e made h = made-leads lot m x (dir_blocks entry x.size) n made (block-inside entry x.size n e h)
 
 -- the last row was copied over row k
 pub row-moved : (lot : LotView) (entry : ℕ) (m0 ma mb m2 : ℕ → List ℕ) (x : Inode) (k per at p q : ℕ) (from old new : List ℕ) → entry ≡ 64 → MadeOf lot m0 x (dir_blocks entry x.size) → length lot.groups ≤ 64 → k < x.size → per ≡ per_block entry → ma ≡ m0 → mb ≡ ma
@@ -68,15 +64,6 @@ blocks-fall entry size e =
 
 pub cut-six : (count rest : ℕ) → count ≤ rest + 1 → cut_room count rest ≡ 6
 cut-six count rest h = grind (arith, nat_tests)
-
--- what the cut of a well-made directory gives back
-pub taken-owns : (lot : LotView) (entry : ℕ) (m : ℕ → List ℕ) (x : Inode) (count rest : ℕ) → entry ≡ 64 → MadeOf lot m x (dir_blocks entry x.size) → count ≡ dir_blocks entry x.size → rest ≡ dir_blocks entry (x.size - 1) → OwnsOnce m (cut_off m x count rest)
-taken-owns lot entry m x count rest e made c r =
-    subst (λ n. OwnsOnce m (cut_off m x n rest)) (sym c) (subst (λ n. OwnsOnce m (cut_off m x (dir_blocks entry x.size) n)) (sym r)
-    (cut-once lot m x (dir_blocks entry x.size) (dir_blocks entry (x.size - 1)) (blocks-fall entry x.size e) made))
-
-pub taken-placed : (lot : LotView) (entry : ℕ) (m : ℕ → List ℕ) (x : Inode) (count : ℕ) → MadeOf lot m x (dir_blocks entry x.size) → count ≡ dir_blocks entry x.size → Placed lot m x count
-taken-placed lot entry m x count made c = subst (λ n. Placed lot m x n) (sym c) (λ b h. (made.holds b h).0)
 
 -- a directory of which row k was taken
 pub dir-removed : (lot : LotView) (entry : ℕ) (m0 m1 m2 m3 : ℕ → List ℕ) (x y : Inode) (number k count rest : ℕ) → entry ≡ 64 → IsDirectory lot x → k < x.size → inode_of m0 number ≡ x
@@ -142,11 +129,12 @@ module _ (lot : LotView) (entry : ℕ) (m0 m1 m2 m3 : ℕ → List ℕ) (x y : I
       let l = off-length entry m1 x count rest sixty c r in
       omega arith
 
-  gone-counts : counted false m3 ≤ counted false m0
+  gone-counts : counted false m3 ≡ counted false m0 - (uses_of count - uses_of rest)
   gone-counts =
       let a = ap (λ (b : List ℕ). word_at b (count_place false)) gone-sub in
       let b = ap (λ (b : List ℕ). word_at b (count_place false)) (beside-sub lot m0 m1 beside few) in
       let v = was.gave.counts.value in
+      let l = off-length entry m1 x count rest sixty c r in
       omega arith
 
   gone-lacks : (b : ℕ) → is_data lot b ≡ false → has (cut_off m1 x count rest) b ≡ false
@@ -158,8 +146,45 @@ module _ (lot : LotView) (entry : ℕ) (m0 m1 m2 m3 : ℕ → List ℕ) (x y : I
     size = let a = ap (λ (i : Inode). i.size) set.value in let b = ap (λ (i : Inode). i.size) before in omega arith;
     others = λ n ne. set.others n ne ∙ stay.inodes n ∙ beside-inode lot m0 m1 beside n;
     free = let a = ap (λ (i : Inode). uses_of (dir_blocks entry i.size)) set.value ∙ ap uses_of (sym r) in let b = ap (λ (i : Inode). uses_of (dir_blocks entry i.size)) before ∙ ap uses_of (sym c) in let f = gone-free in omega arith;
-    counts = gone-counts;
+    counts = let a = ap (λ (i : Inode). uses_of (dir_blocks entry i.size)) set.value ∙ ap uses_of (sym r) in let b = ap (λ (i : Inode). uses_of (dir_blocks entry i.size)) before ∙ ap uses_of (sym c) in let f = gone-counts in omega arith;
     sub = λ n h. ap (λ (b : List ℕ). slice_index b n) gone-sub ∙ was.gave.counts.others n h ∙ ap (λ (b : List ℕ). slice_index b n) (beside-sub lot m0 m1 beside few);
     places = λ b d. used-same false m2 m3 b gone-bitmaps ∙ was.gave.used b ∙ ap (λ t. cond t false (used_block m1 b)) (gone-lacks b d) ∙ used-same false m0 m1 b (beside-bitmaps lot m0 m1 beside);
     inodes = λ i. used-same true m2 m3 i gone-bitmaps ∙ was.gave.inodes i ∙ used-same true m0 m1 i (beside-bitmaps lot m0 m1 beside);
   }
+
+-- ---- a cut that found damage, after the row was moved
+
+-- the indirect block of a directory in which one row was written
+row-mixed : (entry : ℕ) (m0 m1 : ℕ → List ℕ) (x : Inode) (k count : ℕ) → entry ≡ 64 → k < x.size → ((b : ℕ) → b ≢ nth_block m0 x (k / per_block entry) → m1 b ≡ m0 b) → count ≡ dir_blocks entry x.size → 12 < count → Unmixed m0 m1 x count
+row-mixed entry m0 m1 x k count e h only c long = unmixed-one m0 m0 m1 x count (k / per_block entry) (nth_block m0 x (k / per_block entry)) long (let l = row-inside entry x.size k e h in omega arith) refl only refl
+
+-- a block that was to be given back and is free was so, or the directory uses a block twice
+pub row-free : (lot : LotView) (entry : ℕ) (m0 m1 : ℕ → List ℕ) (x : Inode) (k count rest : ℕ) → entry ≡ 64 → k < x.size → ((b : ℕ) → is_data lot b ≡ false → m1 b ≡ m0 b) → ((b : ℕ) → b ≢ nth_block m0 x (k / per_block entry) → m1 b ≡ m0 b)
+    → count ≡ dir_blocks entry x.size → rest ≡ dir_blocks entry (x.size - 1) → FreeOrTwice m1 (cut_off m1 x count rest) → FreeOrTwice m0 (uses m0 x (dir_blocks entry x.size))
+row-free lot entry m0 m1 x k count rest e h beside only c r f =
+    let order : rest ≤ count = (let o = blocks-fall entry x.size e in omega arith) in
+    subst (λ n. FreeOrTwice m0 (uses m0 x n)) c (elim (ltb 12 count) as (λ t. ltb 12 count ≡ t → FreeOrTwice m0 (uses m0 x count)) [
+      | false ↦ λ t. same order (λ long. absurd (grind (arith, nat_tests)))
+      | true ↦ λ t.
+          let long : 12 < count = grind (arith, nat_tests) in
+          ⊎_elim
+          (λ kept. same order (λ l. kept))
+          (λ twice. record { block = twice.0; among = times-has (uses m0 x count) twice.0 (let l = twice.1 in omega arith); why = inr twice.1 })
+          (row-mixed entry m0 m1 x k count e h only c long)
+    ] refl)
+  where
+    same : rest ≤ count → (12 < count → m1 x.single ≡ m0 x.single) → FreeOrTwice m0 (uses m0 x count)
+    same order kept =
+        let list = cut-same m0 m1 x count rest kept in
+        let free = used-same false m0 m1 f.block (beside-bitmaps lot m0 m1 beside) in
+        off-free m0 x count rest order (record {
+          block = f.block;
+          among = ap (λ xs. has xs f.block) (sym list) ∙ f.among;
+          why = ⊎_elim (λ p. inl (sym free ∙ p)) (λ p. inr (let t = ap (λ xs. times xs f.block) list in omega arith)) f.why;
+        })
+
+-- a block that leads nowhere did so, or the directory uses a block twice
+pub row-misled : (lot : LotView) (entry : ℕ) (m0 m1 : ℕ → List ℕ) (x : Inode) (k count : ℕ) → entry ≡ 64 → k < x.size → ((b : ℕ) → b ≢ nth_block m0 x (k / per_block entry) → m1 b ≡ m0 b)
+    → count ≡ dir_blocks entry x.size → Misleads lot m1 x count → Confuses lot m0 x (dir_blocks entry x.size)
+row-misled lot entry m0 m1 x k count e h only c l =
+    subst (λ n. Confuses lot m0 x n) c (misled-here lot m0 m1 x count l.block l.below (λ long. row-mixed entry m0 m1 x k count e h only c long) l.bad)

@@ -1,5 +1,5 @@
 -- Changes of directories.
-use Rattle.std.specs.Prelude.{◌≡◌, ◌≢◌, ◌≤◌, ◌<◌, ℕ, ◌+◌, ◌*◌, ◌/◌, false, List, length}
+use Rattle.std.specs.Prelude.{◌≡◌, ◌≢◌, ◌<◌, ℕ, ◌+◌, ◌-◌, ◌*◌, ◌/◌, false, List, length}
 use Rattle.ice_base.specs.Fields.{SameBeside}
 use Rattle.ice_base.specs.Lots.{LotView, sub_address}
 use Rattle.ice_base.specs.Used.{used_block, used_inode, is_data, count_place, counted, free_count}
@@ -37,7 +37,7 @@ pub record EntryGone (lot : LotView) (entry : ℕ) (old new : ℕ → List ℕ) 
   pub size : (inode_of new number).size + 1 ≡ (inode_of old number).size
   pub others : (k : ℕ) → k ≢ number → inode_of new k ≡ inode_of old k
   pub free : free_count false lot new + uses_of (dir_blocks entry (inode_of new number).size) ≡ free_count false lot old + uses_of (dir_blocks entry (inode_of old number).size)
-  pub counts : counted false new ≤ counted false old
+  pub counts : counted false new ≡ counted false old - (uses_of (dir_blocks entry (inode_of old number).size) - uses_of (dir_blocks entry (inode_of new number).size))
   pub sub : SameBeside (count_place false) 4 (old sub_address) (new sub_address)
   pub places : (b : ℕ) → is_data lot b ≡ false → used_block new b ≡ used_block old b
   pub inodes : (i : ℕ) → used_inode new i ≡ used_inode old i

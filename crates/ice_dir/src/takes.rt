@@ -10,12 +10,12 @@ ghost use Rattle.ice_base.specs.declared.fault.Rule.{Rule};
 ghost use Rattle.ice_base.specs.declared.fault.Rule.TheVariants.{Counts, Kind, Pointer, Bitmap};
 ghost use Rattle.ice_map.specs.Faults.{IsLookFault, IsCutFault};
 ghost use Rattle.ice_map.specs.Inodes.{inode_of};
-ghost use Rattle.ice_map.specs.Maps.{Misleads, UsesUnmarked};
-ghost use Rattle.ice_file.specs.Own.{MadeOf, WellMade};
+ghost use Rattle.ice_map.specs.Maps.{nth_block, uses, FreeOrTwice, Misleads};
+ghost use Rattle.ice_file.specs.Own.{MadeOf, WellMade, Confuses};
 ghost use Rattle.ice_file.specs.Writes.{uses_of};
 ghost use Rattle.ice_dir.specs.Changes.{dir_blocks, DirSet, RowPut, EntryGone};
 ghost use Rattle.ice_dir.specs.Faults.{IsTakeFault};
-ghost use Rattle.ice_dir.specs.Rows.{row_of, rows_of, look_up, without, IsDirectory};
+ghost use Rattle.ice_dir.specs.Rows.{per_block, row_of, rows_of, look_up, without, IsDirectory};
 
 use crate::looks::{dir_inode, read_block, seek};
 use crate::rows::{blocks_for_rows, copy_row, row_place, rows_per_block};
@@ -40,8 +40,8 @@ fn move_last<D: Disk, K: Keep<D>, F: Form>(
     ensures counts { K.map keep.new disk.new lot.now sub_address ≡ K.map keep.old disk.old lot.now sub_address }
     ensures beside { (b : ℕ) → is_data lot.now b ≡ false → K.map keep.new disk.new lot.now b ≡ K.map keep.old disk.old lot.now b }
     ensures spent { Spent D.Disk K.View lot.now 1 keep.old disk.old keep.new disk.new }
-    ensures pointer { IsErrOf result (Damaged Pointer) → K.shows lot.now keep.old disk.old → ¬ MadeOf lot.now (K.map keep.old disk.old lot.now) dir.now (dir_blocks F.ENTRY dir.now.size) }
-    ensures misled { IsErrOf result (Damaged Pointer) → K.shows lot.now keep.old disk.old → Misleads lot.now (K.map keep.new disk.new lot.now) dir.now (dir_blocks F.ENTRY dir.now.size) }
+    ensures misled { IsErrOf result (Damaged Pointer) → K.shows lot.now keep.old disk.old → Misleads lot.now (K.map keep.old disk.old lot.now) dir.now (dir_blocks F.ENTRY dir.now.size) }
+    ensures within { K.shows lot.now keep.old disk.old → OnOk result ((b : ℕ) → b ≢ nth_block (K.map keep.old disk.old lot.now) dir.now (k / per_block F.ENTRY) → K.map keep.new disk.new lot.now b ≡ K.map keep.old disk.old lot.now b) }
     ensures faults { IfErr result IsLookFault }
     ensures failed { IsErrOf result FaultDisk → Rose (D.state disk.old).faults (D.state disk.new).faults }
 {
@@ -75,11 +75,9 @@ fn remove_row<D: Disk, K: Keep<D>, P: Pool<D, K>, F: Form>(
     ensures left { K.shows lot.now keep.old disk.old → inode_of (K.map keep.old disk.old lot.now) number ≡ dir → OnOk result (EntryGone lot.now F.ENTRY (K.map keep.old disk.old lot.now) (K.map keep.new disk.new lot.now) number) }
     ensures spent { Spent D.Disk K.View lot.now 8 keep.old disk.old keep.new disk.new }
     ensures zero { IsErrOf result (Damaged Counts) → K.shows lot.now keep.old disk.old → counted false (K.map keep.old disk.old lot.now) + uses_of (dir_blocks F.ENTRY (dir.size - 1)) < uses_of (dir_blocks F.ENTRY dir.size) }
-    ensures unused { IsErrOf result (Damaged Bitmap) → K.shows lot.now keep.old disk.old → inode_of (K.map keep.old disk.old lot.now) number ≡ dir → ¬ WellMade lot.now F.ENTRY (K.map keep.old disk.old lot.now) number }
-    ensures pointer { IsErrOf result (Damaged Pointer) → K.shows lot.now keep.old disk.old → inode_of (K.map keep.old disk.old lot.now) number ≡ dir → ¬ WellMade lot.now F.ENTRY (K.map keep.old disk.old lot.now) number }
+    ensures unused { IsErrOf result (Damaged Bitmap) → K.shows lot.now keep.old disk.old → FreeOrTwice (K.map keep.old disk.old lot.now) (uses (K.map keep.old disk.old lot.now) dir (dir_blocks F.ENTRY dir.size)) }
     ensures kept { (rule : Rule) → IsErrOf result (Damaged rule) → K.shows lot.now keep.old disk.old → inode_of (K.map keep.new disk.new lot.now) number ≡ inode_of (K.map keep.old disk.old lot.now) number }
-    ensures unmarked { IsErrOf result (Damaged Bitmap) → K.shows lot.now keep.old disk.old → UsesUnmarked (K.map keep.new disk.new lot.now) dir (dir_blocks F.ENTRY dir.size) }
-    ensures misled { IsErrOf result (Damaged Pointer) → K.shows lot.now keep.old disk.old → Misleads lot.now (K.map keep.new disk.new lot.now) dir (dir_blocks F.ENTRY dir.size) }
+    ensures misled { IsErrOf result (Damaged Pointer) → K.shows lot.now keep.old disk.old → Confuses lot.now (K.map keep.old disk.old lot.now) dir (dir_blocks F.ENTRY dir.size) }
     ensures faults { IfErr result IsCutFault }
     ensures failed { IsErrOf result FaultDisk → Rose (D.state disk.old).faults (D.state disk.new).faults }
 {
@@ -117,11 +115,9 @@ pub fn take<D: Disk, K: Keep<D>, P: Pool<D, K>, F: Form>(
     ensures spent { Spent D.Disk K.View lot.now 8 keep.old disk.old keep.new disk.new }
     ensures zero { IsErrOf result (Damaged Counts) → K.shows lot.now keep.old disk.old → counted false (K.map keep.old disk.old lot.now) + uses_of (dir_blocks F.ENTRY ((inode_of (K.map keep.old disk.old lot.now) number).size - 1)) < uses_of (dir_blocks F.ENTRY (inode_of (K.map keep.old disk.old lot.now) number).size) }
     ensures kind { IsErrOf result (Damaged Kind) → K.shows lot.now keep.old disk.old → ¬ IsDirectory lot.now (inode_of (K.map keep.old disk.old lot.now) number) }
-    ensures unused { IsErrOf result (Damaged Bitmap) → K.shows lot.now keep.old disk.old → ¬ WellMade lot.now F.ENTRY (K.map keep.old disk.old lot.now) number }
-    ensures pointer { IsErrOf result (Damaged Pointer) → K.shows lot.now keep.old disk.old → ¬ WellMade lot.now F.ENTRY (K.map keep.old disk.old lot.now) number }
+    ensures unused { IsErrOf result (Damaged Bitmap) → K.shows lot.now keep.old disk.old → FreeOrTwice (K.map keep.old disk.old lot.now) (uses (K.map keep.old disk.old lot.now) (inode_of (K.map keep.old disk.old lot.now) number) (dir_blocks F.ENTRY (inode_of (K.map keep.old disk.old lot.now) number).size)) }
     ensures kept { (rule : Rule) → IsErrOf result (Damaged rule) → K.shows lot.now keep.old disk.old → inode_of (K.map keep.new disk.new lot.now) number ≡ inode_of (K.map keep.old disk.old lot.now) number }
-    ensures unmarked { IsErrOf result (Damaged Bitmap) → K.shows lot.now keep.old disk.old → UsesUnmarked (K.map keep.new disk.new lot.now) (inode_of (K.map keep.new disk.new lot.now) number) (dir_blocks F.ENTRY (inode_of (K.map keep.new disk.new lot.now) number).size) }
-    ensures misled { IsErrOf result (Damaged Pointer) → K.shows lot.now keep.old disk.old → Misleads lot.now (K.map keep.new disk.new lot.now) (inode_of (K.map keep.new disk.new lot.now) number) (dir_blocks F.ENTRY (inode_of (K.map keep.new disk.new lot.now) number).size) }
+    ensures misled { IsErrOf result (Damaged Pointer) → K.shows lot.now keep.old disk.old → Confuses lot.now (K.map keep.old disk.old lot.now) (inode_of (K.map keep.old disk.old lot.now) number) (dir_blocks F.ENTRY (inode_of (K.map keep.old disk.old lot.now) number).size) }
     ensures is_dir { (rule : Rule) → IsErrOf result (Damaged rule) → rule ≢ Kind → K.shows lot.now keep.old disk.old → IsDirectory lot.now (inode_of (K.map keep.old disk.old lot.now) number) }
     ensures unchanged { IsErrOf result (Damaged Kind) → Looked D.Disk K.View lot.now keep.old disk.old keep.new disk.new }
     ensures faults { IfErr result IsTakeFault }

@@ -220,20 +220,23 @@ nth-kept m0 m1 x y k d s same =
           nth-single m1 y k l ∙ ap (λ a. word_at (m1 a) (4 * (k - 12))) (s l) ∙ ap (λ (b : List ℕ). word_at b (4 * (k - 12))) (same l) ∙ sym (nth-single m0 x k l)
     ] refl
 
--- one more of them was written
+-- one of them was written
+pub unmixed-one : (m0 m1 m2 : ℕ → List ℕ) (x : Inode) (c k at : ℕ) → 12 < c → k < c → at ≡ nth_block m0 x k → ((b : ℕ) → b ≢ at → m2 b ≡ m1 b) → m1 x.single ≡ m0 x.single → Unmixed m0 m2 x c
+unmixed-one m0 m1 m2 x c k at long h e only same =
+    elim (at == x.single) as (λ t. (at == x.single) ≡ t → Unmixed m0 m2 x c) [
+      | true ↦ λ t. let q : at ≡ x.single = grind (arith, nat_tests) in inr (single-twice m0 x c k long h (sym e ∙ q))
+      | false ↦ λ t. let ne : at ≢ x.single = grind (arith, nat_tests) in inl (only x.single (λ q. ne (sym q)) ∙ same)
+    ] refl
+
+-- one more of them was
 pub unmixed-next : (lot : LotView) (m0 m1 m2 : ℕ → List ℕ) (x y : Inode) (c d k : ℕ) → Grew lot m0 m1 x y c d → 12 < c → k < c → ((b : ℕ) → b ≢ nth_block m1 y k → m2 b ≡ m1 b) → Unmixed m0 m1 x c → Unmixed m0 m2 x c
 unmixed-next lot m0 m1 m2 x y c d k g long h only u = ⊎_elim
-    (λ same.
-    let e = nth-kept m0 m1 x y k (g.direct k h) (λ l. g.single long) (λ l. same) in
-    elim (nth_block m0 x k == x.single) as (λ t. (nth_block m0 x k == x.single) ≡ t → Unmixed m0 m2 x c) [
-      | true ↦ λ t. inr (single-twice m0 x c k long h (grind (arith, nat_tests)))
-      | false ↦ λ t. let ne : nth_block m0 x k ≢ x.single = grind (arith, nat_tests) in inl (only x.single (λ q. ne (sym (q ∙ e))) ∙ same)
-    ] refl)
+    (λ same. unmixed-one m0 m1 m2 x c k (nth_block m1 y k) long h (nth-kept m0 m1 x y k (g.direct k h) (λ l. g.single long) (λ l. same)) only same)
     (λ twice. inr twice)
     u
 
 -- a block of the map that leads nowhere now
-misled-here : (lot : LotView) (m0 m1 : ℕ → List ℕ) (x : Inode) (c k : ℕ) → k < c → (12 < c → Unmixed m0 m1 x c) → leads lot m1 x k ≡ false → Confuses lot m0 x c
+pub misled-here : (lot : LotView) (m0 m1 : ℕ → List ℕ) (x : Inode) (c k : ℕ) → k < c → (12 < c → Unmixed m0 m1 x c) → leads lot m1 x k ≡ false → Confuses lot m0 x c
 misled-here lot m0 m1 x c k l mixed lost =
     elim (ltb k 12) as (λ t. ltb k 12 ≡ t → Confuses lot m0 x c) [
       | true ↦ λ t. let h : k < 12 = grind (arith, nat_tests) in

@@ -1,5 +1,5 @@
 -- What the inodes of a lot use, before and after a change of a map: for the layers that say it of all of them.
-use Rattle.std.proofs.Common.{◌≡◌, ◌≤◌, ◌<◌, ◌⊎◌, ◌+◌, ◌-◌, ◌==◌, ◌&&◌, ℕ, Bool, true, false, cond, List, [], ◌∷◌, ◌++◌, map, ◌∙◌, sym, refl, ap, arith, inl, inr, ⊎_elim, ltb, leb}
+use Rattle.std.proofs.Common.{◌≡◌, ◌≤◌, ◌<◌, ◌⊎◌, ◌+◌, ◌-◌, ◌==◌, ◌&&◌, ℕ, Bool, true, false, cond, List, [], ◌∷◌, ◌++◌, map, ◌∙◌, sym, refl, ap, arith, inl, inr, ⊎_elim, ltb, leb, nat_lt, nat_le}
 use Rattle.std.specs.List.{range_with_len}
 use Rattle.std.proofs.lemmas.Bool.Decides.{nat_tests}
 use Rattle.ice_base.specs.Lots.{LotView}
@@ -7,6 +7,7 @@ use Rattle.ice_base.specs.Spare.{has}
 use Rattle.ice_base.specs.Used.{used_block, is_data}
 use Rattle.ice_map.specs.declared.codec.Inode.{Inode}
 use Rattle.ice_map.specs.Maps.{nth_block, blocks_of, blocks_between, indirect_of, uses, times, growth, cut_off, Owns, OwnsOnce, Grown, Cut, FreeOrTwice, HasTwice, Misleads, UsesUnmarked}
+use Rattle.ice_map.proofs.CutLaws.{same-run}
 use Rattle.ice_map.proofs.GrowLaws.{growth-one, growth-two}
 use Rattle.ice_map.proofs.ListLaws.{has-one, has-cons, has-head, has-left, has-right, has-range, has-times, times-append, times-cons, range-append}
 use Rattle.ice_map.proofs.MapLaws.{nth-direct, leads-direct, leads-single}
@@ -121,6 +122,12 @@ off-times m x c r h b =
 
 pub off-has : (m : ℕ → List ℕ) (x : Inode) (c r : ℕ) → r ≤ c → (b : ℕ) → has (cut_off m x c r) b ≡ true → has (uses m x c) b ≡ true
 off-has m x c r h b k = let t = off-times m x c r h b in let n = has-times (cut_off m x c r) b k in times-has (uses m x c) b (omega arith)
+
+-- the same blocks are cut off where the indirect block holds the same
+pub cut-same : (m0 m1 : ℕ → List ℕ) (x : Inode) (c r : ℕ) → (12 < c → m1 x.single ≡ m0 x.single) → cut_off m1 x c r ≡ cut_off m0 x c r
+cut-same m0 m1 x c r e =
+    let run = same-run m1 (m1 x.single) x r c (λ h. refl) ∙ sym (same-run m0 (m1 x.single) x r c e) in
+    ap (λ xs. xs ++ cond (nat_lt 12 c && nat_le r 12) (x.single ∷ []) []) run
 
 -- ---- what is wrong with a map, seen from all that it uses
 

@@ -1,20 +1,7 @@
 use Rattle.std.proofs.Common.{rules, arith}
 use Rattle.ice_map.proofs.DamageLaws.{misled-single}
-use Rattle.ice_file.proofs.MoveLaws.{grown-reached, made-leads, made-single}
+use Rattle.ice_file.proofs.MoveLaws.{grown-reached}
 use Rattle.ice_dir.proofs.adds.open_block.Goals as goal
-
-pub returns-in_err-at-clause-pointer : goal.returns-in_err-at-clause-pointer
-returns-in_err-at-clause-pointer g c = λ e s made.
-    let l = made-leads c.args.lot.now (g.K.View.map c.args.keep.now c.args.disk.now c.args.lot.now) c.args.inode.now c.args.count c.args.k made (omega arith) in
-    let d = c.in_err-at.ensures.pointer (search rules) s in
-    cc
-
-pub returns-in_err-taken-clause-pointer : goal.returns-in_err-taken-clause-pointer
-returns-in_err-taken-clause-pointer g c = λ e s made.
-    let p = c.in_err-taken.ensures.pointer (search rules) in
-    let d = made-single c.args.lot.now (g.K.View.map c.args.keep.now c.args.disk.now c.args.lot.now) c.args.inode.now c.args.count made p.0 in
-    let q = p.1 in
-    cc
 
 pub returns-in_err-taken-clause-misled : goal.returns-in_err-taken-clause-misled
 returns-in_err-taken-clause-misled g c = λ e s.

@@ -1,42 +1,18 @@
-use Rattle.std.proofs.Common.{rules, false, List, ℕ, ◌∙◌, ap, subst, arith}
+use Rattle.std.proofs.Common.{rules, false, List, ℕ, ◌∙◌, ap, inl, arith}
 use Rattle.ice_base.proofs.LotLaws.{sited-few}
 use Rattle.ice_base.specs.Fields.{word_at}
 use Rattle.ice_base.specs.Used.{count_place}
-use Rattle.ice_map.specs.Maps.{Misleads, UsesUnmarked}
 use Rattle.ice_map.proofs.PutsLaws.{spent-then}
 use Rattle.ice_file.specs.Writes.{uses_of}
 use Rattle.ice_dir.proofs.PutLaws.{made-dir}
-use Rattle.ice_dir.proofs.TakeLaws.{taken-owns, taken-placed, dir-removed, cut-six, off-length, beside-inode, entry-gone}
+use Rattle.ice_dir.proofs.TakeLaws.{row-free, row-misled, dir-removed, cut-six, off-length, beside-inode, entry-gone}
 use Rattle.ice_dir.proofs.takes.remove_row.Goals as goal
-
-pub returns-in_err-cut-clause-unused : goal.returns-in_err-cut-clause-unused
-returns-in_err-cut-clause-unused g c = λ e s is made.
-    let lot = c.args.lot.now in
-    let one = g.F.Form.is_one in
-    let put = c.in_ok-move_last.ensures.put s (made-dir lot g.F.Form.ENTRY (g.K.View.map c.args.keep.now c.args.disk.now lot) c.args.number c.args.dir is c.requires.is.kind made) in
-    c.in_err-cut.ensures.unused (search rules) (c.move_last.ensures.spent.shows s)
-    (taken-owns lot g.F.Form.ENTRY (g.K.View.map c.move_last.new.keep c.move_last.new.disk lot) c.args.dir c.blocks_for_rows-count.result c.blocks_for_rows-rest.result one.1 put.moved.made c.blocks_for_rows-count.ensures.value c.blocks_for_rows-rest.ensures.value)
-
-pub returns-in_err-cut-clause-pointer : goal.returns-in_err-cut-clause-pointer
-returns-in_err-cut-clause-pointer g c = λ e s is made.
-    let lot = c.args.lot.now in
-    let put = c.in_ok-move_last.ensures.put s (made-dir lot g.F.Form.ENTRY (g.K.View.map c.args.keep.now c.args.disk.now lot) c.args.number c.args.dir is c.requires.is.kind made) in
-    c.in_err-cut.ensures.pointer (search rules) (c.move_last.ensures.spent.shows s)
-    (taken-placed lot g.F.Form.ENTRY (g.K.View.map c.move_last.new.keep c.move_last.new.disk lot) c.args.dir c.blocks_for_rows-count.result put.moved.made c.blocks_for_rows-count.ensures.value)
 
 pub returns-in_err-move_last-clause-kept : goal.returns-in_err-move_last-clause-kept
 returns-in_err-move_last-clause-kept g c = λ rule e s. beside-inode c.args.lot.now (g.K.View.map c.args.keep.now c.args.disk.now c.args.lot.now) (g.K.View.map c.move_last.new.keep c.move_last.new.disk c.args.lot.now) c.move_last.ensures.beside c.args.number
 
 pub returns-in_err-cut-clause-kept : goal.returns-in_err-cut-clause-kept
 returns-in_err-cut-clause-kept g c = λ rule e s. c.cut.ensures.stays.inodes c.args.number ∙ beside-inode c.args.lot.now (g.K.View.map c.args.keep.now c.args.disk.now c.args.lot.now) (g.K.View.map c.move_last.new.keep c.move_last.new.disk c.args.lot.now) c.move_last.ensures.beside c.args.number
-
-pub returns-in_err-cut-clause-unmarked : goal.returns-in_err-cut-clause-unmarked
-returns-in_err-cut-clause-unmarked g c = λ e s.
-    subst (λ n. UsesUnmarked (g.K.View.map c.cut.new.keep c.cut.new.disk c.args.lot.now) c.args.dir n) c.blocks_for_rows-count.ensures.value (c.in_err-cut.ensures.unmarked (search rules) (c.move_last.ensures.spent.shows s))
-
-pub returns-in_err-cut-clause-misled : goal.returns-in_err-cut-clause-misled
-returns-in_err-cut-clause-misled g c = λ e s.
-    subst (λ n. Misleads c.args.lot.now (g.K.View.map c.cut.new.keep c.cut.new.disk c.args.lot.now) c.args.dir n) c.blocks_for_rows-count.ensures.value (c.in_err-cut.ensures.misled (search rules) (c.move_last.ensures.spent.shows s))
 
 pub returns-in_err-cut-clause-zero : goal.returns-in_err-cut-clause-zero
 returns-in_err-cut-clause-zero g c = λ e s.
@@ -89,3 +65,19 @@ returns-clause-left g c = λ s is.
     c.args.dir c.cut.new.inode c.args.number c.args.k c.blocks_for_rows-count.result c.blocks_for_rows-rest.result one.1 (sited-few _ _ c.requires.sited) c.requires.is c.requires.below is c.move_last.ensures.beside
     c.blocks_for_rows-count.ensures.value c.blocks_for_rows-rest.ensures.value (c.in_ok-cut.ensures.cut t) c.cut.ensures.stays (c.in_ok-cut.ensures.placed t) c.in_ok-cut.ensures.fields
     (c.in_ok-put_inode.ensures.written (c.cut.ensures.spent.shows t)) c.in_ok-put_inode.ensures.puts.only
+
+pub returns-in_err-move_last-clause-misled : goal.returns-in_err-move_last-clause-misled
+returns-in_err-move_last-clause-misled g c = λ e s. inl (c.in_err-move_last.ensures.misled (search rules) s)
+
+pub returns-in_err-cut-clause-unused : goal.returns-in_err-cut-clause-unused
+returns-in_err-cut-clause-unused g c = λ e s.
+    let one = g.F.Form.is_one in
+    let few = c.requires.is.few in
+    row-free c.args.lot.now g.F.Form.ENTRY (g.K.View.map c.args.keep.now c.args.disk.now c.args.lot.now) (g.K.View.map c.move_last.new.keep c.move_last.new.disk c.args.lot.now) c.args.dir c.args.k c.blocks_for_rows-count.result c.blocks_for_rows-rest.result one.1
+    c.requires.below c.move_last.ensures.beside (c.in_ok-move_last.ensures.within s) c.blocks_for_rows-count.ensures.value c.blocks_for_rows-rest.ensures.value (c.in_err-cut.ensures.unused (search rules) (c.move_last.ensures.spent.shows s))
+
+pub returns-in_err-cut-clause-misled : goal.returns-in_err-cut-clause-misled
+returns-in_err-cut-clause-misled g c = λ e s.
+    let one = g.F.Form.is_one in
+    row-misled c.args.lot.now g.F.Form.ENTRY (g.K.View.map c.args.keep.now c.args.disk.now c.args.lot.now) (g.K.View.map c.move_last.new.keep c.move_last.new.disk c.args.lot.now) c.args.dir c.args.k c.blocks_for_rows-count.result one.1
+    c.requires.below (c.in_ok-move_last.ensures.within s) c.blocks_for_rows-count.ensures.value (c.in_err-cut.ensures.misled (search rules) (c.move_last.ensures.spent.shows s))

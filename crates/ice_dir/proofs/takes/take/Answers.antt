@@ -1,57 +1,19 @@
-use Rattle.std.proofs.Common.{rules, ◌≡◌, ◌∙◌, ap, sym, subst, Some, arith, List, ℕ, []}
+use Rattle.std.proofs.Common.{rules, ◌≡◌, ◌∙◌, ap, sym, subst, Some, inl, arith, List, ℕ, []}
 use Rattle.std.specs.List.{swap_remove}
 use Rattle.ice_base.proofs.LotLaws.{sited-few}
-use Rattle.ice_base.specs.declared.fault.Rule.TheVariants.{Pointer, Bitmap}
 use Rattle.ice_map.specs.declared.codec.Inode.{Inode}
 use Rattle.ice_map.specs.Inodes.{inode_of}
-use Rattle.ice_map.specs.Maps.{Misleads, UsesUnmarked}
-use Rattle.ice_file.specs.Own.{WellMade}
+use Rattle.ice_map.specs.Maps.{uses, FreeOrTwice}
+use Rattle.ice_file.specs.Own.{WellMade, Confuses}
 use Rattle.ice_dir.specs.Changes.{dir_blocks, DirSet}
 use Rattle.ice_dir.specs.Rows.{row_of, rows_of}
 use Rattle.ice_dir.proofs.DirLaws.{look-found, look-none, rows-read}
 use Rattle.ice_dir.proofs.FaultLaws.{misled-block}
-use Rattle.ice_dir.proofs.PutLaws.{made-dir}
-use Rattle.ice_dir.proofs.TakeLaws.{block-leads, dir-without}
+use Rattle.ice_dir.proofs.TakeLaws.{dir-without}
 use Rattle.ice_dir.proofs.takes.take.Goals as goal
 
 pub seek-requires-clause-short : goal.seek-requires-clause-short
 seek-requires-clause-short g c = let few = sited-few _ _ c.requires.sited in let below = c.in_ok-dir.ensures.is.few in omega arith
-
-pub returns-in_err-seek-clause-pointer : goal.returns-in_err-seek-clause-pointer
-returns-in_err-seek-clause-pointer g c = λ e s made.
-    let lot = c.args.lot.now in
-    let one = g.F.Form.is_one in
-    let map = c.dir_inode.ensures.looked.map in
-    let p = c.in_err-seek.ensures.pointer (search rules) (c.dir_inode.ensures.looked.shows s) in
-    let owned = made-dir lot g.F.Form.ENTRY (g.K.View.map c.args.keep.now c.args.disk.now lot) c.args.number c.in_ok-dir.dir (sym (c.in_ok-dir.ensures.value s)) c.in_ok-dir.ensures.is.kind made in
-    let l = block-leads lot g.F.Form.ENTRY (g.K.View.map c.args.keep.now c.args.disk.now lot) c.in_ok-dir.dir p.0 one.1 owned p.1 in
-    let q = p.2 in
-    cc
-
-pub returns-in_err-seek-clause-misled : goal.returns-in_err-seek-clause-misled
-returns-in_err-seek-clause-misled g c = λ e s.
-    let one = g.F.Form.is_one in
-    let same = c.seek.ensures.looked.map ∙ c.dir_inode.ensures.looked.map in
-    let is : inode_of (g.K.View.map c.seek.new.view c.seek.new.disk c.args.lot.now) c.args.number ≡ c.in_ok-dir.dir = ap (λ (m : ℕ → List ℕ). inode_of m c.args.number) same ∙ sym (c.in_ok-dir.ensures.value s) in
-    let p = c.in_err-seek.ensures.pointer (search rules) (c.dir_inode.ensures.looked.shows s) in
-    subst (λ (i : Inode). Misleads c.args.lot.now (g.K.View.map c.seek.new.view c.seek.new.disk c.args.lot.now) i (dir_blocks g.F.Form.ENTRY i.size)) (sym is)
-    (misled-block c.args.lot.now g.F.Form.ENTRY (g.K.View.map c.seek.new.view c.seek.new.disk c.args.lot.now) (g.K.View.map c.dir_inode.new.view c.dir_inode.new.disk c.args.lot.now) c.in_ok-dir.dir p.0 one.1 c.seek.ensures.looked.map p.1 p.2)
-
-pub returns-in_err-remove_row-in-Some-clause-unmarked : goal.returns-in_err-remove_row-in-Some-clause-unmarked
-returns-in_err-remove_row-in-Some-clause-unmarked g c = λ e s.
-    let m = g.K.View.map c.remove_row.new.keep c.remove_row.new.disk c.args.lot.now in
-    let t = c.seek.ensures.looked.shows (c.dir_inode.ensures.looked.shows s) in
-    let same = c.seek.ensures.looked.map ∙ c.dir_inode.ensures.looked.map in
-    let is : inode_of m c.args.number ≡ c.in_ok-dir.dir = c.in_err-remove_row-in-Some.ensures.kept Bitmap (search rules) t ∙ ap (λ (m : ℕ → List ℕ). inode_of m c.args.number) same ∙ sym (c.in_ok-dir.ensures.value s) in
-    subst (λ (i : Inode). UsesUnmarked m i (dir_blocks g.F.Form.ENTRY i.size)) (sym is) (c.in_err-remove_row-in-Some.ensures.unmarked (search rules) t)
-
-pub returns-in_err-remove_row-in-Some-clause-misled : goal.returns-in_err-remove_row-in-Some-clause-misled
-returns-in_err-remove_row-in-Some-clause-misled g c = λ e s.
-    let m = g.K.View.map c.remove_row.new.keep c.remove_row.new.disk c.args.lot.now in
-    let t = c.seek.ensures.looked.shows (c.dir_inode.ensures.looked.shows s) in
-    let same = c.seek.ensures.looked.map ∙ c.dir_inode.ensures.looked.map in
-    let is : inode_of m c.args.number ≡ c.in_ok-dir.dir = c.in_err-remove_row-in-Some.ensures.kept Pointer (search rules) t ∙ ap (λ (m : ℕ → List ℕ). inode_of m c.args.number) same ∙ sym (c.in_ok-dir.ensures.value s) in
-    subst (λ (i : Inode). Misleads c.args.lot.now m i (dir_blocks g.F.Form.ENTRY i.size)) (sym is) (c.in_err-remove_row-in-Some.ensures.misled (search rules) t)
 
 pub returns-in-None-clause-found : goal.returns-in-None-clause-found
 returns-in-None-clause-found g c = λ s.
@@ -84,3 +46,27 @@ returns-in_ok-remove_row-in-Some-clause-taken g c = λ s made some.
     (c.in_ok-remove_row-in-Some.ensures.removed (c.seek.ensures.looked.shows t)) (sym (c.in_ok-dir.ensures.value s)) made in
     dir-without lot entry m0 (g.K.View.map c.dir_inode.new.view c.dir_inode.new.disk lot) m3 c.args.number c.in_ok-dir.dir c.args.name.now c.in-Some.k one.1 (c.in_ok-dir.ensures.value s) c.in_ok-dir.ensures.is.kind c.dir_inode.ensures.looked.map
     (rw c.bytes.ensures.value at found.0) removed
+
+pub returns-in_err-seek-clause-misled : goal.returns-in_err-seek-clause-misled
+returns-in_err-seek-clause-misled g c = λ e s.
+    let one = g.F.Form.is_one in
+    let m = g.K.View.map c.args.keep.now c.args.disk.now c.args.lot.now in
+    let p = c.in_err-seek.ensures.pointer (search rules) (c.dir_inode.ensures.looked.shows s) in
+    subst (λ (i : Inode). Confuses c.args.lot.now m i (dir_blocks g.F.Form.ENTRY i.size)) (c.in_ok-dir.ensures.value s)
+    (inl (misled-block c.args.lot.now g.F.Form.ENTRY m (g.K.View.map c.dir_inode.new.view c.dir_inode.new.disk c.args.lot.now) c.in_ok-dir.dir p.0 one.1 (sym c.dir_inode.ensures.looked.map) p.1 p.2))
+
+pub returns-in_err-remove_row-in-Some-clause-unused : goal.returns-in_err-remove_row-in-Some-clause-unused
+returns-in_err-remove_row-in-Some-clause-unused g c = λ e s.
+    let t = c.seek.ensures.looked.shows (c.dir_inode.ensures.looked.shows s) in
+    let same = c.seek.ensures.looked.map ∙ c.dir_inode.ensures.looked.map in
+    let m = g.K.View.map c.args.keep.now c.args.disk.now c.args.lot.now in
+    subst (λ (i : Inode). FreeOrTwice m (uses m i (dir_blocks g.F.Form.ENTRY i.size))) (c.in_ok-dir.ensures.value s)
+    (subst (λ (n : ℕ → List ℕ). FreeOrTwice n (uses n c.in_ok-dir.dir (dir_blocks g.F.Form.ENTRY c.in_ok-dir.dir.size))) same (c.in_err-remove_row-in-Some.ensures.unused (search rules) t))
+
+pub returns-in_err-remove_row-in-Some-clause-misled : goal.returns-in_err-remove_row-in-Some-clause-misled
+returns-in_err-remove_row-in-Some-clause-misled g c = λ e s.
+    let t = c.seek.ensures.looked.shows (c.dir_inode.ensures.looked.shows s) in
+    let same = c.seek.ensures.looked.map ∙ c.dir_inode.ensures.looked.map in
+    let m = g.K.View.map c.args.keep.now c.args.disk.now c.args.lot.now in
+    subst (λ (i : Inode). Confuses c.args.lot.now m i (dir_blocks g.F.Form.ENTRY i.size)) (c.in_ok-dir.ensures.value s)
+    (subst (λ (n : ℕ → List ℕ). Confuses c.args.lot.now n c.in_ok-dir.dir (dir_blocks g.F.Form.ENTRY c.in_ok-dir.dir.size)) same (c.in_err-remove_row-in-Some.ensures.misled (search rules) t))
