@@ -1,7 +1,8 @@
 -- What a removal of one row does.
-use Rattle.std.proofs.Common.{◌≡◌, ◌≢◌, ◌≤◌, ◌<◌, ◌+◌, ◌-◌, ◌*◌, ◌/◌, ◌%◌, ℕ, true, false, cond, ◌&&◌, nat_lt, nat_le, List, [], ◌∷◌, length, length-append, slice_index, ◌∙◌, sym, refl, ap, subst, inl, inr, ⊎_elim, arith, ltb}
+use Rattle.std.proofs.Common.{◌≡◌, ◌≢◌, ◌≤◌, ◌<◌, ◌⊎◌, ◌+◌, ◌-◌, ◌*◌, ◌/◌, ◌%◌, ℕ, true, false, cond, ◌&&◌, nat_lt, nat_le, List, [], ◌∷◌, length, length-append, get_or, slice_index, ◌∙◌, sym, refl, ap, subst, inl, inr, ⊎_elim, arith, ltb}
 use Rattle.std.proofs.lemmas.Bool.Decides.{nat_tests}
 use Rattle.std.proofs.lemmas.Nat.{div-add-mod', mod_below}
+use Rattle.std.proofs.lemmas.List.FromFn.{get_or-map-range_with_len}
 use Rattle.std.specs.List.{swap_remove, position_or_len}
 use Rattle.ice_base.specs.Fields.{word_at, SameBeside}
 use Rattle.ice_base.specs.Inodes.{inode_address}
@@ -10,19 +11,21 @@ use Rattle.ice_base.specs.Spare.{has}
 use Rattle.ice_base.specs.Used.{is_data, used_block, count_place, counted, free_count}
 use Rattle.ice_map.specs.declared.codec.Inode.{Inode}
 use Rattle.ice_map.specs.Inodes.{inode_at, inode_of, InodeSet}
-use Rattle.ice_map.specs.Maps.{nth_block, blocks_between, uses, times, cut_off, cut_room, shortened, Stays, Cut, FreeOrTwice, Misleads}
+use Rattle.ice_map.specs.Maps.{nth_block, blocks_of, blocks_between, leads, uses, times, cut_off, cut_room, shortened, Stays, Cut, FreeOrTwice, HasTwice, Misleads}
 use Rattle.ice_map.proofs.CutLaws.{length-between}
 use Rattle.ice_map.proofs.GrowLaws.{inode_not_bitmap, inode_not_data, inode_not_sub}
 use Rattle.ice_map.proofs.MarkLaws.{data_not_bitmap, data_not_sub, used-same, free-same}
-use Rattle.ice_map.proofs.UsesLaws.{cut-same, off-free, times-has}
+use Rattle.ice_map.proofs.MapLaws.{nth-direct, leads-direct, leads-single, leads-lost}
+use Rattle.ice_map.proofs.UsesLaws.{cut-same, off-free, off-has, times-has}
 use Rattle.ice_file.specs.Own.{MadeOf, Confuses}
 use Rattle.ice_file.specs.Writes.{Moved, Reached, content_of, uses_of}
 use Rattle.ice_file.proofs.CutLaws.{cut-moved, cut-contents}
 use Rattle.ice_file.proofs.GrowthLaws.{Unmixed, unmixed-one, misled-here}
 use Rattle.ice_file.proofs.MoveLaws.{had-reached}
-use Rattle.ice_file.proofs.SetLaws.{resized}
+use Rattle.ice_file.proofs.SetLaws.{resized, nth-resized}
 use Rattle.ice_dir.specs.Changes.{dir_blocks, RowPut, DirSet, TextTaken, EntryGone}
-use Rattle.ice_dir.specs.Rows.{Row, per_block, place_of, row_bytes, entry_bytes, row_of, rows_of, named, FirstNamed, IsDirectory}
+use Rattle.ice_dir.specs.Rows.{Row, per_block, place_of, row_bytes, entry_bytes, row_of, rows_of, named, FirstNamed, IsDirectory, row_at, without}
+use Rattle.ice_file.proofs.OwnLaws.{uses-nth, nth-moves}
 use Rattle.ice_dir.proofs.DirLaws.{per-sixteen, position-found, rows-read}
 use Rattle.ice_dir.proofs.PutLaws.{dir-sixteenth, row-inside, row-put, dir-taken, text-taken}
 
@@ -122,47 +125,6 @@ module _ (lot : LotView) (m0 m1 : ℕ → List ℕ) (beside : (b : ℕ) → is_d
   beside-sub : length lot.groups ≤ 64 → m1 sub_address ≡ m0 sub_address
   beside-sub few = beside sub_address (no-data lot sub_address (λ d. data_not_sub lot sub_address few d refl))
 
--- a directory from which an entry was taken, whatever its blocks held
-module _ (lot : LotView) (entry : ℕ) (m0 m1 m2 m3 : ℕ → List ℕ) (x y : Inode) (number k count rest : ℕ) (sixty : entry ≡ 64) (few : length lot.groups ≤ 64) (is : IsDirectory lot x) (below : k < x.size) (before : inode_of m0 number ≡ x)
-    (beside : (b : ℕ) → is_data lot b ≡ false → m1 b ≡ m0 b) (c : count ≡ dir_blocks entry x.size) (r : rest ≡ dir_blocks entry (x.size - 1)) (was : Cut lot m1 m2 x y count rest) (stay : Stays lot m1 m2 [])
-    (placed : (b : ℕ) → has (cut_off m1 x count rest) b ≡ true → is_data lot b ≡ true) (fields : y ≡ shortened x rest) (set : InodeSet m2 m3 number (resized y (x.size - 1))) (only : (b : ℕ) → b ≢ inode_address number → m3 b ≡ m2 b) where
-  gone-bitmaps : (o : ℕ) → m3 (256 * o) ≡ m2 (256 * o)
-  gone-bitmaps o = only (256 * o) (λ e. inode_not_bitmap number o (sym e))
-
-  gone-sub : m3 sub_address ≡ m2 sub_address
-  gone-sub = only sub_address (λ e. inode_not_sub number (sym e))
-
-  gone-free : free_count false lot m3 + uses_of rest ≡ free_count false lot m0 + uses_of count
-  gone-free =
-      let a = free-same lot m2 m3 (λ b. used-same false m2 m3 b gone-bitmaps) in
-      let b = free-same lot m0 m1 (λ b. used-same false m0 m1 b (beside-bitmaps lot m0 m1 beside)) in
-      let f = was.gave.free in
-      let l = off-length entry m1 x count rest sixty c r in
-      omega arith
-
-  gone-counts : counted false m3 ≡ counted false m0 - (uses_of count - uses_of rest)
-  gone-counts =
-      let a = ap (λ (b : List ℕ). word_at b (count_place false)) gone-sub in
-      let b = ap (λ (b : List ℕ). word_at b (count_place false)) (beside-sub lot m0 m1 beside few) in
-      let v = was.gave.counts.value in
-      let l = off-length entry m1 x count rest sixty c r in
-      omega arith
-
-  gone-lacks : (b : ℕ) → is_data lot b ≡ false → has (cut_off m1 x count rest) b ≡ false
-  gone-lacks b d = elim (has (cut_off m1 x count rest) b) as (λ t. has (cut_off m1 x count rest) b ≡ t → t ≡ false) [ true ↦ λ t. let p = placed b t in absurd cc | false ↦ λ t. refl ] refl
-
-  pub entry-gone : EntryGone lot entry m0 m3 number
-  entry-gone = record {
-    kind = ap (λ (i : Inode). i.kind) (set.value ∙ ap (λ (i : Inode). resized i (x.size - 1)) fields) ∙ is.kind;
-    size = let a = ap (λ (i : Inode). i.size) set.value in let b = ap (λ (i : Inode). i.size) before in omega arith;
-    others = λ n ne. set.others n ne ∙ stay.inodes n ∙ beside-inode lot m0 m1 beside n;
-    free = let a = ap (λ (i : Inode). uses_of (dir_blocks entry i.size)) set.value ∙ ap uses_of (sym r) in let b = ap (λ (i : Inode). uses_of (dir_blocks entry i.size)) before ∙ ap uses_of (sym c) in let f = gone-free in omega arith;
-    counts = let a = ap (λ (i : Inode). uses_of (dir_blocks entry i.size)) set.value ∙ ap uses_of (sym r) in let b = ap (λ (i : Inode). uses_of (dir_blocks entry i.size)) before ∙ ap uses_of (sym c) in let f = gone-counts in omega arith;
-    sub = λ n h. ap (λ (b : List ℕ). slice_index b n) gone-sub ∙ was.gave.counts.others n h ∙ ap (λ (b : List ℕ). slice_index b n) (beside-sub lot m0 m1 beside few);
-    places = λ b d. used-same false m2 m3 b gone-bitmaps ∙ was.gave.used b ∙ ap (λ t. cond t false (used_block m1 b)) (gone-lacks b d) ∙ used-same false m0 m1 b (beside-bitmaps lot m0 m1 beside);
-    inodes = λ i. used-same true m2 m3 i gone-bitmaps ∙ was.gave.inodes i ∙ used-same true m0 m1 i (beside-bitmaps lot m0 m1 beside);
-  }
-
 -- ---- a cut that found damage, after the row was moved
 
 -- the indirect block of a directory in which one row was written
@@ -199,3 +161,109 @@ pub row-misled : (lot : LotView) (entry : ℕ) (m0 m1 : ℕ → List ℕ) (x : I
     → count ≡ dir_blocks entry x.size → Misleads lot m1 x count → Confuses lot m0 x (dir_blocks entry x.size)
 row-misled lot entry m0 m1 x k count e h only c l =
     subst (λ n. Confuses lot m0 x n) c (misled-here lot m0 m1 x count l.block l.below (λ long. row-mixed entry m0 m1 x k count e h only c long) l.bad)
+
+-- ---- an entry that was taken
+
+-- block n of the shorter map is that of the longer one
+nth-of : (m m' : ℕ → List ℕ) (x y : Inode) (c n : ℕ) → blocks_of m' y c ≡ blocks_of m x c → n < c → nth_block m' y n ≡ nth_block m x n
+nth-of m m' x y c n same h =
+    sym (get_or-map-range_with_len (nth_block m' y) 0 c n n 0 h (omega arith)) ∙ ap (λ xs. get_or xs n 0) same ∙ get_or-map-range_with_len (nth_block m x) 0 c n n 0 h (omega arith)
+
+-- it leads nowhere only where that did
+short-lost : (lot : LotView) (m1 m2 m3 : ℕ → List ℕ) (x y : Inode) (rest s n : ℕ) → n < rest → y ≡ shortened x rest → blocks_of m2 y rest ≡ blocks_of m1 x rest → ((b : ℕ) → is_data lot b ≡ true → m3 b ≡ m2 b)
+    → leads lot m3 (resized y s) n ≡ false → leads lot m1 x n ≡ false
+short-lost lot m1 m2 m3 x y rest s n h fields same stays lost =
+    elim (ltb n 12) as (λ t. ltb n 12 ≡ t → leads lot m1 x n ≡ false) [
+      | true ↦ λ t.
+          let l : n < 12 = grind (arith, nat_tests) in
+          leads-direct lot m1 x n l ∙ ap (is_data lot) (sym (nth-direct m1 x n l) ∙ sym (nth-of m1 m2 x y rest n same h) ∙ nth-direct m2 y n l) ∙ sym (leads-direct lot m3 (resized y s) n l) ∙ lost
+      | false ↦ λ t.
+          let l : 12 ≤ n = grind (arith, nat_tests) in
+          let long : nat_lt 12 rest ≡ true = grind (arith, nat_tests) in
+          let single : y.single ≡ x.single = ap (λ (i : Inode). i.single) fields ∙ ap (λ u. cond u x.single 0) long in
+          elim (is_data lot x.single) as (λ u. is_data lot x.single ≡ u → leads lot m1 x n ≡ false) [
+            | false ↦ λ u. leads-lost lot m1 x n l u
+            | true ↦ λ u.
+                let place : is_data lot y.single ≡ true = ap (is_data lot) single ∙ u in
+                leads-single lot m1 x n l u ∙ ap (is_data lot) (sym (nth-of m1 m2 x y rest n same h) ∙ sym (nth-moves m2 m3 y n (λ k. stays y.single place)) ∙ sym (nth-resized m3 y s n))
+                ∙ sym (leads-single lot m3 (resized y s) n l place) ∙ lost
+          ] refl
+    ] refl
+
+-- a directory from which an entry was taken, whatever its blocks held
+module _ (lot : LotView) (entry : ℕ) (m0 m1 m2 m3 : ℕ → List ℕ) (x y : Inode) (number k count rest : ℕ) (sixty : entry ≡ 64) (few : length lot.groups ≤ 64) (is : IsDirectory lot x) (below : k < x.size) (before : inode_of m0 number ≡ x)
+    (beside : (b : ℕ) → is_data lot b ≡ false → m1 b ≡ m0 b) (c : count ≡ dir_blocks entry x.size) (r : rest ≡ dir_blocks entry (x.size - 1)) (was : Cut lot m1 m2 x y count rest) (stay : Stays lot m1 m2 [])
+    (placed : (b : ℕ) → has (cut_off m1 x count rest) b ≡ true → is_data lot b ≡ true) (fields : y ≡ shortened x rest) (set : InodeSet m2 m3 number (resized y (x.size - 1))) (only : (b : ℕ) → b ≢ inode_address number → m3 b ≡ m2 b) where
+  gone-bitmaps : (o : ℕ) → m3 (256 * o) ≡ m2 (256 * o)
+  gone-bitmaps o = only (256 * o) (λ e. inode_not_bitmap number o (sym e))
+
+  gone-sub : m3 sub_address ≡ m2 sub_address
+  gone-sub = only sub_address (λ e. inode_not_sub number (sym e))
+
+  gone-free : free_count false lot m3 + uses_of rest ≡ free_count false lot m0 + uses_of count
+  gone-free =
+      let a = free-same lot m2 m3 (λ b. used-same false m2 m3 b gone-bitmaps) in
+      let b = free-same lot m0 m1 (λ b. used-same false m0 m1 b (beside-bitmaps lot m0 m1 beside)) in
+      let f = was.gave.free in
+      let l = off-length entry m1 x count rest sixty c r in
+      omega arith
+
+  gone-counts : counted false m3 ≡ counted false m0 - (uses_of count - uses_of rest)
+  gone-counts =
+      let a = ap (λ (b : List ℕ). word_at b (count_place false)) gone-sub in
+      let b = ap (λ (b : List ℕ). word_at b (count_place false)) (beside-sub lot m0 m1 beside few) in
+      let v = was.gave.counts.value in
+      let l = off-length entry m1 x count rest sixty c r in
+      omega arith
+
+  gone-lacks : (b : ℕ) → is_data lot b ≡ false → has (cut_off m1 x count rest) b ≡ false
+  gone-lacks b d = elim (has (cut_off m1 x count rest) b) as (λ t. has (cut_off m1 x count rest) b ≡ t → t ≡ false) [ true ↦ λ t. let p = placed b t in absurd cc | false ↦ λ t. refl ] refl
+
+  abbrev mine : List ℕ
+  mine = uses m0 x (dir_blocks entry x.size)
+
+  module _ (within : (b : ℕ) → b ≢ nth_block m0 x (k / per_block entry) → m1 b ≡ m0 b) (cut_only : (b : ℕ) → is_data lot b ≡ true → m2 b ≡ m1 b) where
+    stays : (b : ℕ) → is_data lot b ≡ true → m3 b ≡ m2 b
+    stays b d = only b (λ e. inode_not_data lot number b d (sym e))
+
+    gone-blocks : (b : ℕ) → is_data lot b ≡ true → has mine b ≡ false → m3 b ≡ m0 b
+    gone-blocks b d none =
+        stays b d ∙ cut_only b d
+        ∙ within b (λ e. let h = uses-nth m0 x (dir_blocks entry x.size) (k / per_block entry) (row-inside entry x.size k sixty below) in let f = ap (has mine) e in absurd cc)
+
+    gone-marks : (b : ℕ) → used_block m3 b ≡ false → (used_block m0 b ≡ false) ⊎ (has mine b ≡ true) ⊎ HasTwice mine
+    gone-marks b free =
+        elim (has (cut_off m1 x count rest) b) as (λ t. has (cut_off m1 x count rest) b ≡ t → (used_block m0 b ≡ false) ⊎ (has mine b ≡ true) ⊎ HasTwice mine) [
+          | false ↦ λ t. inl (sym (used-same false m0 m1 b (beside-bitmaps lot m0 m1 beside)) ∙ sym (ap (λ u. cond u false (used_block m1 b)) t) ∙ sym (was.gave.used b) ∙ sym (used-same false m2 m3 b gone-bitmaps) ∙ free)
+          | true ↦ λ t. inr (elim (ltb 12 count) as (λ u. ltb 12 count ≡ u → (has mine b ≡ true) ⊎ HasTwice mine) [
+            | false ↦ λ u. inl (given (λ l. absurd (grind (arith, nat_tests))) t)
+            | true ↦ λ u. ⊎_elim (λ kept. inl (given (λ l. kept) t)) (λ twice. inr (subst (λ n. HasTwice (uses m0 x n)) c twice)) (row-mixed entry m0 m1 x k count sixty below within c (grind (arith, nat_tests)))
+          ] refl)
+        ] refl
+      where
+        order : rest ≤ count
+        order = let o = blocks-fall entry x.size sixty in omega arith
+
+        given : (12 < count → m1 x.single ≡ m0 x.single) → has (cut_off m1 x count rest) b ≡ true → has mine b ≡ true
+        given kept t = subst (λ n. has (uses m0 x n) b ≡ true) c (off-has m0 x count rest order b (ap (λ xs. has xs b) (sym (cut-same m0 m1 x count rest kept)) ∙ t))
+
+    gone-leads : Misleads lot m3 (resized y (x.size - 1)) rest → Confuses lot m0 x (dir_blocks entry x.size)
+    gone-leads bad =
+        row-misled lot entry m0 m1 x k count sixty below within c
+        (record { block = bad.block; below = let o = blocks-fall entry x.size sixty in let l = bad.below in omega arith; bad = short-lost lot m1 m2 m3 x y rest (x.size - 1) bad.block bad.below fields was.blocks stays bad.bad })
+
+    pub entry-gone : EntryGone lot entry m0 m3 number
+    entry-gone = record {
+      kind = ap (λ (i : Inode). i.kind) (set.value ∙ ap (λ (i : Inode). resized i (x.size - 1)) fields) ∙ is.kind;
+      size = let a = ap (λ (i : Inode). i.size) set.value in let b = ap (λ (i : Inode). i.size) before in omega arith;
+      others = λ n ne. set.others n ne ∙ stay.inodes n ∙ beside-inode lot m0 m1 beside n;
+      free = let a = ap (λ (i : Inode). uses_of (dir_blocks entry i.size)) set.value ∙ ap uses_of (sym r) in let b = ap (λ (i : Inode). uses_of (dir_blocks entry i.size)) before ∙ ap uses_of (sym c) in let f = gone-free in omega arith;
+      counts = let a = ap (λ (i : Inode). uses_of (dir_blocks entry i.size)) set.value ∙ ap uses_of (sym r) in let b = ap (λ (i : Inode). uses_of (dir_blocks entry i.size)) before ∙ ap uses_of (sym c) in let f = gone-counts in omega arith;
+      sub = λ n h. ap (λ (b : List ℕ). slice_index b n) gone-sub ∙ was.gave.counts.others n h ∙ ap (λ (b : List ℕ). slice_index b n) (beside-sub lot m0 m1 beside few);
+      places = λ b d. used-same false m2 m3 b gone-bitmaps ∙ was.gave.used b ∙ ap (λ t. cond t false (used_block m1 b)) (gone-lacks b d) ∙ used-same false m0 m1 b (beside-bitmaps lot m0 m1 beside);
+      inodes = λ i. used-same true m2 m3 i gone-bitmaps ∙ was.gave.inodes i ∙ used-same true m0 m1 i (beside-bitmaps lot m0 m1 beside);
+      blocks = λ b d none. gone-blocks b d (subst (λ (i : Inode). has (uses m0 i (dir_blocks entry i.size)) b ≡ false) before none);
+      marks = λ b free. subst (λ (i : Inode). (used_block m0 b ≡ false) ⊎ (has (uses m0 i (dir_blocks entry i.size)) b ≡ true) ⊎ HasTwice (uses m0 i (dir_blocks entry i.size))) (sym before) (gone-marks b free);
+      leads = λ bad. subst (λ (i : Inode). Confuses lot m0 i (dir_blocks entry i.size)) (sym before)
+          (gone-leads (subst (λ n. Misleads lot m3 (resized y (x.size - 1)) n) (sym r) (subst (λ (i : Inode). Misleads lot m3 i (dir_blocks entry i.size)) set.value bad)));
+    }

@@ -1,12 +1,14 @@
 -- Changes of directories.
-use Rattle.std.specs.Prelude.{◌≡◌, ◌≢◌, ◌<◌, ℕ, ◌+◌, ◌-◌, ◌*◌, ◌/◌, ◌++◌, false, List, [], ◌∷◌, length}
+use Rattle.std.specs.Prelude.{◌≡◌, ◌≢◌, ◌<◌, ℕ, ◌+◌, ◌-◌, ◌*◌, ◌/◌, ◌++◌, false, List, [], ◌∷◌, length, ◌⊎◌, true}
 use Rattle.std.specs.List.{swap_remove}
 use Rattle.ice_base.specs.Fields.{SameBeside}
 use Rattle.ice_base.specs.Lots.{LotView, sub_address}
+use Rattle.ice_base.specs.Spare.{has}
 use Rattle.ice_base.specs.Used.{used_block, used_inode, is_data, count_place, counted, free_count}
 use Rattle.ice_map.specs.declared.codec.Inode.{Inode}
 use Rattle.ice_map.specs.Inodes.{inode_of}
-use Rattle.ice_file.specs.Own.{OwnSet, blocks_for}
+use Rattle.ice_map.specs.Maps.{uses, HasTwice, Misleads}
+use Rattle.ice_file.specs.Own.{OwnSet, blocks_for, Confuses}
 use Rattle.ice_file.specs.Writes.{Moved, uses_of}
 use Rattle.ice_dir.specs.Rows.{Row, per_block, entry_bytes, texts_of, rows_of, IsText, IsDirectory}
 
@@ -39,8 +41,13 @@ TextAdded entry old new number row = (bytes : List ℕ) × IsText row bytes × (
 abbrev pub TextTaken : ℕ → (ℕ → List ℕ) → (ℕ → List ℕ) → ℕ → ℕ → Type 0
 TextTaken entry old new number k = texts_of entry new number ≡ swap_remove (texts_of entry old number) k []
 
+-- what a directory uses
+abbrev pub dir_uses : ℕ → (ℕ → List ℕ) → ℕ → List ℕ
+dir_uses entry m number = uses m (inode_of m number) (dir_blocks entry (inode_of m number).size)
+
 -- An entry was taken from a directory, whatever its blocks held: the directory has one entry fewer, and as many blocks fewer as these need.
--- No other inode, no other mark, and nothing of the sub-super block but the count of used blocks, changed.
+-- No other inode, no other mark, and nothing of the sub-super block but the count of used blocks, changed. What became free was free or is what
+-- the directory uses, data places beside that stayed, and its map leads nowhere only where it did, but where the directory uses a block twice.
 pub record EntryGone (lot : LotView) (entry : ℕ) (old new : ℕ → List ℕ) (number : ℕ) : Type 0 where
   pub kind : (inode_of new number).kind ≡ 2
   pub size : (inode_of new number).size + 1 ≡ (inode_of old number).size
@@ -50,3 +57,6 @@ pub record EntryGone (lot : LotView) (entry : ℕ) (old new : ℕ → List ℕ) 
   pub sub : SameBeside (count_place false) 4 (old sub_address) (new sub_address)
   pub places : (b : ℕ) → is_data lot b ≡ false → used_block new b ≡ used_block old b
   pub inodes : (i : ℕ) → used_inode new i ≡ used_inode old i
+  pub blocks : (b : ℕ) → is_data lot b ≡ true → has (dir_uses entry old number) b ≡ false → new b ≡ old b
+  pub marks : (b : ℕ) → used_block new b ≡ false → (used_block old b ≡ false) ⊎ (has (dir_uses entry old number) b ≡ true) ⊎ HasTwice (dir_uses entry old number)
+  pub leads : Misleads lot new (inode_of new number) (dir_blocks entry (inode_of new number).size) → Confuses lot old (inode_of old number) (dir_blocks entry (inode_of old number).size)

@@ -4,7 +4,7 @@ ghost use Rattle.ice_base.specs.Disk.{Rose};
 ghost use Rattle.ice_base.specs.Fields.{SameBeside};
 ghost use Rattle.ice_base.specs.Lots.{is_sited, sub_address};
 ghost use Rattle.ice_base.specs.Used.{is_data, count_place, counted, free_count, Reserved};
-ghost use Rattle.ice_base.specs.Views.{Looked, Spent};
+ghost use Rattle.ice_base.specs.Views.{Looked, Spent, AsShown, IfShown};
 ghost use Rattle.ice_base.specs.declared.fault.OpFault.TheVariants.{Disk as FaultDisk, Damaged, NoSpace};
 ghost use Rattle.ice_base.specs.declared.fault.Rule.{Rule};
 ghost use Rattle.ice_base.specs.declared.fault.Rule.TheVariants.{Counts, Kind, Pointer, Bitmap};
@@ -38,20 +38,30 @@ fn open_block<D: Disk, K: Keep<D>, P: Pool<D, K>, F: Form>(
     requires room { 6 ≤ K.room keep.old }
     requires order { k ≤ count }
     requires short { k < longest }
-    ensures reached { K.shows lot.now keep.old disk.old → MadeOf lot.now (K.map keep.old disk.old lot.now) inode.old count → IfOk result (Reached lot.now (K.map keep.old disk.old lot.now) (K.map keep.new disk.new lot.now) inode.old inode.new count k) }
-    ensures content { K.shows lot.now keep.old disk.old → k < count → OnOk result (into.new ≡ content_of (K.map keep.old disk.old lot.now) inode.old k) }
+    ensures reached { AsShown K.View lot.now keep.old disk.old keep.new disk.new (λ old new.
+        MadeOf lot.now old inode.old count
+        → IfOk result (Reached lot.now old new inode.old inode.new count k)) }
+    ensures content { IfShown K.View lot.now keep.old disk.old (λ old.
+        k < count → OnOk result (into.new ≡ content_of old inode.old k)) }
     ensures fresh { k ≡ count → OnOk result (into.new ≡ into.old) }
     ensures data { IfOk result (λ a. is_data lot.now a ≡ true) }
     ensures kind { OnOk result (inode.new.kind ≡ inode.old.kind) }
     ensures size { OnOk result (inode.new.size ≡ inode.old.size) }
     ensures spent { Spent D.Disk K.View lot.now 6 keep.old disk.old keep.new disk.new }
-    ensures none { IsErrOf result NoSpace → K.shows lot.now keep.old disk.old → (k ≡ count) × (free_count false lot.now (K.map keep.old disk.old lot.now) < needs count) }
-    ensures full { IsErrOf result (Damaged Counts) → K.shows lot.now keep.old disk.old → (k ≡ count) × (2 ^ 32 ≤ counted false (K.map keep.old disk.old lot.now) + needs count) }
-    ensures unreserved { IsErrOf result (Damaged Bitmap) → K.shows lot.now keep.old disk.old → ¬ Reserved lot.now (K.map keep.old disk.old lot.now) }
-    ensures misled { IsErrOf result (Damaged Pointer) → K.shows lot.now keep.old disk.old → Misleads lot.now (K.map keep.old disk.old lot.now) inode.old count }
-    ensures looked { IsErrOf result NoSpace → Looked D.Disk K.View lot.now keep.old disk.old keep.new disk.new }
-    ensures unmoved { IsErrOf result (Damaged Pointer) → Looked D.Disk K.View lot.now keep.old disk.old keep.new disk.new }
-    ensures sub { K.shows lot.now keep.old disk.old → OnOk result (SameBeside (count_place false) 4 (K.map keep.old disk.old lot.now sub_address) (K.map keep.new disk.new lot.now sub_address)) }
+    ensures none { IsErrOf result NoSpace → IfShown K.View lot.now keep.old disk.old (λ old.
+        (k ≡ count) × (free_count false lot.now old < needs count)) }
+    ensures full { IsErrOf result (Damaged Counts) → IfShown K.View lot.now keep.old disk.old (λ old.
+        (k ≡ count) × (2 ^ 32 ≤ counted false old + needs count)) }
+    ensures unreserved { IsErrOf result (Damaged Bitmap)
+        → IfShown K.View lot.now keep.old disk.old (λ old. ¬ Reserved lot.now old) }
+    ensures misled { IsErrOf result (Damaged Pointer) → IfShown K.View lot.now keep.old disk.old (λ old.
+        Misleads lot.now old inode.old count) }
+    ensures looked { IsErrOf result NoSpace
+        → Looked D.Disk K.View lot.now keep.old disk.old keep.new disk.new }
+    ensures unmoved { IsErrOf result (Damaged Pointer)
+        → Looked D.Disk K.View lot.now keep.old disk.old keep.new disk.new }
+    ensures sub { AsShown K.View lot.now keep.old disk.old keep.new disk.new (λ old new.
+        OnOk result (SameBeside (count_place false) 4 (old sub_address) (new sub_address))) }
     ensures faults { IfErr result IsGrowFault }
     ensures failed { IsErrOf result FaultDisk → Rose (D.state disk.old).faults (D.state disk.new).faults }
 {
@@ -78,17 +88,27 @@ fn append<D: Disk, K: Keep<D>, P: Pool<D, K>, F: Form>(
     requires room { 7 ≤ K.room keep.old }
     requires short { dir.old.size < 4096 }
     requires fits { length name.now ≤ F.NAME }
-    ensures put { K.shows lot.now keep.old disk.old → MadeOf lot.now (K.map keep.old disk.old lot.now) dir.old (dir_blocks F.ENTRY dir.old.size) → OnOk result ((bytes : List ℕ) × IsText (name.now, inode) bytes × RowPut lot.now F.ENTRY (K.map keep.old disk.old lot.now) (K.map keep.new disk.new lot.now) dir.old dir.new (dir_blocks F.ENTRY dir.old.size) (dir_blocks F.ENTRY (dir.old.size + 1)) dir.old.size bytes) }
+    ensures put { AsShown K.View lot.now keep.old disk.old keep.new disk.new (λ old new.
+        MadeOf lot.now old dir.old (dir_blocks F.ENTRY dir.old.size)
+        → OnOk result ((bytes : List ℕ) × IsText (name.now, inode) bytes
+        × RowPut lot.now F.ENTRY old new dir.old dir.new (dir_blocks F.ENTRY dir.old.size) (dir_blocks F.ENTRY (dir.old.size + 1)) dir.old.size bytes)) }
     ensures kind { OnOk result (dir.new.kind ≡ dir.old.kind) }
     ensures size { OnOk result (dir.new.size ≡ dir.old.size) }
     ensures spent { Spent D.Disk K.View lot.now 7 keep.old disk.old keep.new disk.new }
-    ensures none { IsErrOf result NoSpace → K.shows lot.now keep.old disk.old → free_count false lot.now (K.map keep.old disk.old lot.now) + uses_of (dir_blocks F.ENTRY dir.old.size) < uses_of (dir_blocks F.ENTRY (dir.old.size + 1)) }
-    ensures full { IsErrOf result (Damaged Counts) → K.shows lot.now keep.old disk.old → 2 ^ 32 + uses_of (dir_blocks F.ENTRY dir.old.size) ≤ counted false (K.map keep.old disk.old lot.now) + uses_of (dir_blocks F.ENTRY (dir.old.size + 1)) }
-    ensures unreserved { IsErrOf result (Damaged Bitmap) → K.shows lot.now keep.old disk.old → ¬ Reserved lot.now (K.map keep.old disk.old lot.now) }
-    ensures misled { IsErrOf result (Damaged Pointer) → K.shows lot.now keep.old disk.old → Misleads lot.now (K.map keep.old disk.old lot.now) dir.old (dir_blocks F.ENTRY dir.old.size) }
-    ensures looked { IsErrOf result NoSpace → Looked D.Disk K.View lot.now keep.old disk.old keep.new disk.new }
-    ensures unmoved { IsErrOf result (Damaged Pointer) → Looked D.Disk K.View lot.now keep.old disk.old keep.new disk.new }
-    ensures sub { K.shows lot.now keep.old disk.old → OnOk result (SameBeside (count_place false) 4 (K.map keep.old disk.old lot.now sub_address) (K.map keep.new disk.new lot.now sub_address)) }
+    ensures none { IsErrOf result NoSpace → IfShown K.View lot.now keep.old disk.old (λ old.
+        free_count false lot.now old + uses_of (dir_blocks F.ENTRY dir.old.size) < uses_of (dir_blocks F.ENTRY (dir.old.size + 1))) }
+    ensures full { IsErrOf result (Damaged Counts) → IfShown K.View lot.now keep.old disk.old (λ old.
+        2 ^ 32 + uses_of (dir_blocks F.ENTRY dir.old.size) ≤ counted false old + uses_of (dir_blocks F.ENTRY (dir.old.size + 1))) }
+    ensures unreserved { IsErrOf result (Damaged Bitmap)
+        → IfShown K.View lot.now keep.old disk.old (λ old. ¬ Reserved lot.now old) }
+    ensures misled { IsErrOf result (Damaged Pointer) → IfShown K.View lot.now keep.old disk.old (λ old.
+        Misleads lot.now old dir.old (dir_blocks F.ENTRY dir.old.size)) }
+    ensures looked { IsErrOf result NoSpace
+        → Looked D.Disk K.View lot.now keep.old disk.old keep.new disk.new }
+    ensures unmoved { IsErrOf result (Damaged Pointer)
+        → Looked D.Disk K.View lot.now keep.old disk.old keep.new disk.new }
+    ensures sub { AsShown K.View lot.now keep.old disk.old keep.new disk.new (λ old new.
+        OnOk result (SameBeside (count_place false) 4 (old sub_address) (new sub_address))) }
     ensures faults { IfErr result IsGrowFault }
     ensures failed { IsErrOf result FaultDisk → Rose (D.state disk.old).faults (D.state disk.new).faults }
 {
@@ -119,20 +139,35 @@ pub fn add<D: Disk, K: Keep<D>, P: Pool<D, K>, F: Form>(
     requires inode { inode < 64 * length lot.now.groups }
     requires fits { length name.now ≤ F.NAME }
     requires room { 8 ≤ K.room keep.old }
-    ensures added { K.shows lot.now keep.old disk.old → WellMade lot.now F.ENTRY (K.map keep.old disk.old lot.now) number → OnOk result (DirSet lot.now F.ENTRY (K.map keep.old disk.old lot.now) (K.map keep.new disk.new lot.now) number (rows_of F.ENTRY (K.map keep.old disk.old lot.now) number ++ (name.now, inode) ∷ [])) }
-    ensures text { K.shows lot.now keep.old disk.old → WellMade lot.now F.ENTRY (K.map keep.old disk.old lot.now) number → OnOk result (TextAdded F.ENTRY (K.map keep.old disk.old lot.now) (K.map keep.new disk.new lot.now) number (name.now, inode)) }
-    ensures is { K.shows lot.now keep.old disk.old → OnOk result (HasRoom lot.now (inode_of (K.map keep.old disk.old lot.now) number)) }
+    ensures added { AsShown K.View lot.now keep.old disk.old keep.new disk.new (λ old new.
+        WellMade lot.now F.ENTRY old number
+        → OnOk result (DirSet lot.now F.ENTRY old new number (rows_of F.ENTRY old number ++ (name.now, inode) ∷ []))) }
+    ensures text { AsShown K.View lot.now keep.old disk.old keep.new disk.new (λ old new.
+        WellMade lot.now F.ENTRY old number
+        → OnOk result (TextAdded F.ENTRY old new number (name.now, inode))) }
+    ensures is { IfShown K.View lot.now keep.old disk.old (λ old.
+        OnOk result (HasRoom lot.now (inode_of old number))) }
     ensures spent { Spent D.Disk K.View lot.now 8 keep.old disk.old keep.new disk.new }
-    ensures none { IsErrOf result NoSpace → K.shows lot.now keep.old disk.old → free_count false lot.now (K.map keep.old disk.old lot.now) + uses_of (dir_blocks F.ENTRY (inode_of (K.map keep.old disk.old lot.now) number).size) < uses_of (dir_blocks F.ENTRY ((inode_of (K.map keep.old disk.old lot.now) number).size + 1)) }
-    ensures full { IsErrOf result (Damaged Counts) → K.shows lot.now keep.old disk.old → 2 ^ 32 + uses_of (dir_blocks F.ENTRY (inode_of (K.map keep.old disk.old lot.now) number).size) ≤ counted false (K.map keep.old disk.old lot.now) + uses_of (dir_blocks F.ENTRY ((inode_of (K.map keep.old disk.old lot.now) number).size + 1)) }
-    ensures kind { IsErrOf result (Damaged Kind) → K.shows lot.now keep.old disk.old → ¬ HasRoom lot.now (inode_of (K.map keep.old disk.old lot.now) number) }
-    ensures unreserved { IsErrOf result (Damaged Bitmap) → K.shows lot.now keep.old disk.old → ¬ Reserved lot.now (K.map keep.old disk.old lot.now) }
-    ensures misled { IsErrOf result (Damaged Pointer) → K.shows lot.now keep.old disk.old → Misleads lot.now (K.map keep.old disk.old lot.now) (inode_of (K.map keep.old disk.old lot.now) number) (dir_blocks F.ENTRY (inode_of (K.map keep.old disk.old lot.now) number).size) }
-    ensures is_dir { (rule : Rule) → IsErrOf result (Damaged rule) → rule ≢ Kind → K.shows lot.now keep.old disk.old → IsDirectory lot.now (inode_of (K.map keep.old disk.old lot.now) number) }
-    ensures looked { IsErrOf result NoSpace → Looked D.Disk K.View lot.now keep.old disk.old keep.new disk.new }
-    ensures unmoved { IsErrOf result (Damaged Pointer) → Looked D.Disk K.View lot.now keep.old disk.old keep.new disk.new }
-    ensures sub { K.shows lot.now keep.old disk.old → OnOk result (SameBeside (count_place false) 4 (K.map keep.old disk.old lot.now sub_address) (K.map keep.new disk.new lot.now sub_address)) }
-    ensures unchanged { IsErrOf result (Damaged Kind) → Looked D.Disk K.View lot.now keep.old disk.old keep.new disk.new }
+    ensures none { IsErrOf result NoSpace → IfShown K.View lot.now keep.old disk.old (λ old.
+        free_count false lot.now old + uses_of (dir_blocks F.ENTRY (inode_of old number).size) < uses_of (dir_blocks F.ENTRY ((inode_of old number).size + 1))) }
+    ensures full { IsErrOf result (Damaged Counts) → IfShown K.View lot.now keep.old disk.old (λ old.
+        2 ^ 32 + uses_of (dir_blocks F.ENTRY (inode_of old number).size) ≤ counted false old + uses_of (dir_blocks F.ENTRY ((inode_of old number).size + 1))) }
+    ensures kind { IsErrOf result (Damaged Kind) → IfShown K.View lot.now keep.old disk.old (λ old.
+        ¬ HasRoom lot.now (inode_of old number)) }
+    ensures unreserved { IsErrOf result (Damaged Bitmap)
+        → IfShown K.View lot.now keep.old disk.old (λ old. ¬ Reserved lot.now old) }
+    ensures misled { IsErrOf result (Damaged Pointer) → IfShown K.View lot.now keep.old disk.old (λ old.
+        Misleads lot.now old (inode_of old number) (dir_blocks F.ENTRY (inode_of old number).size)) }
+    ensures is_dir { (rule : Rule) → IsErrOf result (Damaged rule) → rule ≢ Kind
+        → IfShown K.View lot.now keep.old disk.old (λ old. IsDirectory lot.now (inode_of old number)) }
+    ensures looked { IsErrOf result NoSpace
+        → Looked D.Disk K.View lot.now keep.old disk.old keep.new disk.new }
+    ensures unmoved { IsErrOf result (Damaged Pointer)
+        → Looked D.Disk K.View lot.now keep.old disk.old keep.new disk.new }
+    ensures sub { AsShown K.View lot.now keep.old disk.old keep.new disk.new (λ old new.
+        OnOk result (SameBeside (count_place false) 4 (old sub_address) (new sub_address))) }
+    ensures unchanged { IsErrOf result (Damaged Kind)
+        → Looked D.Disk K.View lot.now keep.old disk.old keep.new disk.new }
     ensures faults { IfErr result IsAddFault }
     ensures failed { IsErrOf result FaultDisk → Rose (D.state disk.old).faults (D.state disk.new).faults }
 {

@@ -3,7 +3,7 @@ ghost use Rattle.std.specs.Prelude.{◌≡◌, ◌≤◌, ◌<◌, ◌*◌, ◌+
 ghost use Rattle.ice_base.specs.Disk.{Rose};
 ghost use Rattle.ice_base.specs.Lots.{is_sited};
 ghost use Rattle.ice_base.specs.Used.{is_data};
-ghost use Rattle.ice_base.specs.Views.{Looked};
+ghost use Rattle.ice_base.specs.Views.{Looked, IfShown};
 ghost use Rattle.ice_base.specs.declared.fault.OpFault.TheVariants.{Disk as FaultDisk, Damaged};
 ghost use Rattle.ice_base.specs.declared.fault.Rule.TheVariants.{Kind, Pointer, Name as BadName};
 ghost use Rattle.ice_map.specs.Faults.{IsLookFault};
@@ -27,9 +27,11 @@ pub fn dir_inode<D: Disk, V: View<D>, F: Form>(
 ) -> Result<Inode, OpFault>
     requires sited { is_sited lot.now (D.state disk.old).size ≡ true }
     requires number { number < 64 * length lot.now.groups }
-    ensures value { V.shows lot.now view.old disk.old → IfOk result (λ inode. inode ≡ inode_of (V.map view.old disk.old lot.now) number) }
+    ensures value { IfShown V.View lot.now view.old disk.old (λ old.
+        IfOk result (λ inode. inode ≡ inode_of old number)) }
     ensures is { IfOk result (IsDirectory lot.now) }
-    ensures kind { IsErrOf result (Damaged Kind) → V.shows lot.now view.old disk.old → ¬ IsDirectory lot.now (inode_of (V.map view.old disk.old lot.now) number) }
+    ensures kind { IsErrOf result (Damaged Kind) → IfShown V.View lot.now view.old disk.old (λ old.
+        ¬ IsDirectory lot.now (inode_of old number)) }
     ensures looked { Looked D.Disk V.View lot.now view.old disk.old view.new disk.new }
     ensures faults { IfErr result IsKindFault }
     ensures failed { IsErrOf result FaultDisk → Rose (D.state disk.old).faults (D.state disk.new).faults }
@@ -53,10 +55,13 @@ pub fn read_block<D: Disk, V: View<D>, F: Form>(
 ) -> Result<u32, OpFault>
     requires sited { is_sited lot.now (D.state disk.old).size ≡ true }
     requires short { n < longest }
-    ensures content { V.shows lot.now view.old disk.old → OnOk result (into.new ≡ V.map view.old disk.old lot.now (nth_block (V.map view.old disk.old lot.now) inode.now n)) }
-    ensures block { V.shows lot.now view.old disk.old → IfOk result (λ a. a ≡ nth_block (V.map view.old disk.old lot.now) inode.now n) }
+    ensures content { IfShown V.View lot.now view.old disk.old (λ old.
+        OnOk result (into.new ≡ old (nth_block old inode.now n))) }
+    ensures block { IfShown V.View lot.now view.old disk.old (λ old.
+        IfOk result (λ a. a ≡ nth_block old inode.now n)) }
     ensures data { IfOk result (λ a. is_data lot.now a ≡ true) }
-    ensures pointer { IsErrOf result (Damaged Pointer) → V.shows lot.now view.old disk.old → leads lot.now (V.map view.old disk.old lot.now) inode.now n ≡ false }
+    ensures pointer { IsErrOf result (Damaged Pointer) → IfShown V.View lot.now view.old disk.old (λ old.
+        leads lot.now old inode.now n ≡ false) }
     ensures looked { Looked D.Disk V.View lot.now view.old disk.old view.new disk.new }
     ensures faults { IfErr result IsLookFault }
     ensures failed { IsErrOf result FaultDisk → Rose (D.state disk.old).faults (D.state disk.new).faults }
@@ -75,10 +80,13 @@ pub fn len<D: Disk, V: View<D>, F: Form>(
 ) -> Result<u32, OpFault>
     requires sited { is_sited lot.now (D.state disk.old).size ≡ true }
     requires number { number < 64 * length lot.now.groups }
-    ensures rows { V.shows lot.now view.old disk.old → IfOk result (λ n. n ≡ length (rows_of F.ENTRY (V.map view.old disk.old lot.now) number)) }
+    ensures rows { IfShown V.View lot.now view.old disk.old (λ old.
+        IfOk result (λ n. n ≡ length (rows_of F.ENTRY old number))) }
     ensures few { IfOk result (λ n. n < 64 * length lot.now.groups) }
-    ensures is { V.shows lot.now view.old disk.old → OnOk result (IsDirectory lot.now (inode_of (V.map view.old disk.old lot.now) number)) }
-    ensures kind { IsErrOf result (Damaged Kind) → V.shows lot.now view.old disk.old → ¬ IsDirectory lot.now (inode_of (V.map view.old disk.old lot.now) number) }
+    ensures is { IfShown V.View lot.now view.old disk.old (λ old.
+        OnOk result (IsDirectory lot.now (inode_of old number))) }
+    ensures kind { IsErrOf result (Damaged Kind) → IfShown V.View lot.now view.old disk.old (λ old.
+        ¬ IsDirectory lot.now (inode_of old number)) }
     ensures looked { Looked D.Disk V.View lot.now view.old disk.old view.new disk.new }
     ensures faults { IfErr result IsKindFault }
     ensures failed { IsErrOf result FaultDisk → Rose (D.state disk.old).faults (D.state disk.new).faults }
@@ -99,13 +107,18 @@ pub fn entry<D: Disk, V: View<D>, F: Form>(
 ) -> Result<u32, OpFault>
     requires sited { is_sited lot.now (D.state disk.old).size ≡ true }
     requires number { number < 64 * length lot.now.groups }
-    ensures row { V.shows lot.now view.old disk.old → IfOk result (λ inode. slice_get (rows_of F.ENTRY (V.map view.old disk.old lot.now) number) k ≡ Some (into.new, inode)) }
+    ensures row { IfShown V.View lot.now view.old disk.old (λ old.
+        IfOk result (λ inode. slice_get (rows_of F.ENTRY old number) k ≡ Some (into.new, inode))) }
     ensures fits { OnOk result (length into.new ≤ F.NAME) }
     ensures kept { OnErr result (into.new ≡ into.old) }
-    ensures is { V.shows lot.now view.old disk.old → OnOk result (HasEntry lot.now k (inode_of (V.map view.old disk.old lot.now) number)) }
-    ensures kind { IsErrOf result (Damaged Kind) → V.shows lot.now view.old disk.old → ¬ HasEntry lot.now k (inode_of (V.map view.old disk.old lot.now) number) }
-    ensures pointer { IsErrOf result (Damaged Pointer) → V.shows lot.now view.old disk.old → leads lot.now (V.map view.old disk.old lot.now) (inode_of (V.map view.old disk.old lot.now) number) (k / per_block F.ENTRY) ≡ false }
-    ensures name { IsErrOf result (Damaged BadName) → V.shows lot.now view.old disk.old → IfSome (slice_get (rows_of F.ENTRY (V.map view.old disk.old lot.now) number) k) (λ row. is_name row.0 ≡ false) }
+    ensures is { IfShown V.View lot.now view.old disk.old (λ old.
+        OnOk result (HasEntry lot.now k (inode_of old number))) }
+    ensures kind { IsErrOf result (Damaged Kind) → IfShown V.View lot.now view.old disk.old (λ old.
+        ¬ HasEntry lot.now k (inode_of old number)) }
+    ensures pointer { IsErrOf result (Damaged Pointer) → IfShown V.View lot.now view.old disk.old (λ old.
+        leads lot.now old (inode_of old number) (k / per_block F.ENTRY) ≡ false) }
+    ensures name { IsErrOf result (Damaged BadName) → IfShown V.View lot.now view.old disk.old (λ old.
+        IfSome (slice_get (rows_of F.ENTRY old number) k) (λ row. is_name row.0 ≡ false)) }
     ensures looked { Looked D.Disk V.View lot.now view.old disk.old view.new disk.new }
     ensures faults { IfErr result IsEntryFault }
     ensures failed { IsErrOf result FaultDisk → Rose (D.state disk.old).faults (D.state disk.new).faults }
@@ -158,11 +171,11 @@ fn seek_block<D: Disk, V: View<D>, F: Form>(
     requires sited { is_sited lot.now (D.state disk.old).size ≡ true }
     requires short { inode.now.size ≤ 4096 }
     requires below { n * per_block F.ENTRY < inode.now.size }
-    ensures found { V.shows lot.now view.old disk.old → IfOk result (λ o. MatchOption o
-        (NoneNamed (row_of F.ENTRY (V.map view.old disk.old lot.now) inode.now) name.now (n * per_block F.ENTRY) (min inode.now.size (n * per_block F.ENTRY + per_block F.ENTRY)))
-        (λ p. FirstNamed (row_of F.ENTRY (V.map view.old disk.old lot.now) inode.now) name.now (n * per_block F.ENTRY) inode.now.size p.0 × (p.1 ≡ (row_of F.ENTRY (V.map view.old disk.old lot.now) inode.now p.0).1))) }
+    ensures found { IfShown V.View lot.now view.old disk.old (λ old.
+        IfOk result (λ o. MatchOption o (NoneNamed (row_of F.ENTRY old inode.now) name.now (n * per_block F.ENTRY) (min inode.now.size (n * per_block F.ENTRY + per_block F.ENTRY))) (λ p. FirstNamed (row_of F.ENTRY old inode.now) name.now (n * per_block F.ENTRY) inode.now.size p.0 × (p.1 ≡ (row_of F.ENTRY old inode.now p.0).1)))) }
     ensures below { IfOk result (λ o. IfSome o (λ p. p.0 < inode.now.size)) }
-    ensures pointer { IsErrOf result (Damaged Pointer) → V.shows lot.now view.old disk.old → leads lot.now (V.map view.old disk.old lot.now) inode.now n ≡ false }
+    ensures pointer { IsErrOf result (Damaged Pointer) → IfShown V.View lot.now view.old disk.old (λ old.
+        leads lot.now old inode.now n ≡ false) }
     ensures looked { Looked D.Disk V.View lot.now view.old disk.old view.new disk.new }
     ensures faults { IfErr result IsLookFault }
     ensures failed { IsErrOf result FaultDisk → Rose (D.state disk.old).faults (D.state disk.new).faults }
@@ -187,11 +200,11 @@ pub fn seek<D: Disk, V: View<D>, F: Form>(
 ) -> Result<Option<(u32, u32)>, OpFault>
     requires sited { is_sited lot.now (D.state disk.old).size ≡ true }
     requires short { inode.now.size ≤ 4096 }
-    ensures found { V.shows lot.now view.old disk.old → IfOk result (λ o. MatchOption o
-        (NoneNamed (row_of F.ENTRY (V.map view.old disk.old lot.now) inode.now) name.now 0 inode.now.size)
-        (λ p. FirstNamed (row_of F.ENTRY (V.map view.old disk.old lot.now) inode.now) name.now 0 inode.now.size p.0 × (p.1 ≡ (row_of F.ENTRY (V.map view.old disk.old lot.now) inode.now p.0).1))) }
+    ensures found { IfShown V.View lot.now view.old disk.old (λ old.
+        IfOk result (λ o. MatchOption o (NoneNamed (row_of F.ENTRY old inode.now) name.now 0 inode.now.size) (λ p. FirstNamed (row_of F.ENTRY old inode.now) name.now 0 inode.now.size p.0 × (p.1 ≡ (row_of F.ENTRY old inode.now p.0).1)))) }
     ensures below { IfOk result (λ o. IfSome o (λ p. p.0 < inode.now.size)) }
-    ensures pointer { IsErrOf result (Damaged Pointer) → V.shows lot.now view.old disk.old → (n : ℕ) × (n * per_block F.ENTRY < inode.now.size) × (leads lot.now (V.map view.old disk.old lot.now) inode.now n ≡ false) }
+    ensures pointer { IsErrOf result (Damaged Pointer) → IfShown V.View lot.now view.old disk.old (λ old.
+        (n : ℕ) × (n * per_block F.ENTRY < inode.now.size) × (leads lot.now old inode.now n ≡ false)) }
     ensures looked { Looked D.Disk V.View lot.now view.old disk.old view.new disk.new }
     ensures faults { IfErr result IsLookFault }
     ensures failed { IsErrOf result FaultDisk → Rose (D.state disk.old).faults (D.state disk.new).faults }
@@ -216,10 +229,15 @@ pub fn find<D: Disk, V: View<D>, F: Form>(
 ) -> Result<Option<u32>, OpFault>
     requires sited { is_sited lot.now (D.state disk.old).size ≡ true }
     requires number { number < 64 * length lot.now.groups }
-    ensures found { V.shows lot.now view.old disk.old → IfOk result (λ o. o ≡ look_up name.now (rows_of F.ENTRY (V.map view.old disk.old lot.now) number)) }
-    ensures is { V.shows lot.now view.old disk.old → OnOk result (IsDirectory lot.now (inode_of (V.map view.old disk.old lot.now) number)) }
-    ensures kind { IsErrOf result (Damaged Kind) → V.shows lot.now view.old disk.old → ¬ IsDirectory lot.now (inode_of (V.map view.old disk.old lot.now) number) }
-    ensures pointer { IsErrOf result (Damaged Pointer) → V.shows lot.now view.old disk.old → (n : ℕ) × (n * per_block F.ENTRY < (inode_of (V.map view.old disk.old lot.now) number).size) × (leads lot.now (V.map view.old disk.old lot.now) (inode_of (V.map view.old disk.old lot.now) number) n ≡ false) }
+    ensures found { IfShown V.View lot.now view.old disk.old (λ old.
+        IfOk result (λ o. o ≡ look_up name.now (rows_of F.ENTRY old number))) }
+    ensures is { IfShown V.View lot.now view.old disk.old (λ old.
+        OnOk result (IsDirectory lot.now (inode_of old number))) }
+    ensures kind { IsErrOf result (Damaged Kind) → IfShown V.View lot.now view.old disk.old (λ old.
+        ¬ IsDirectory lot.now (inode_of old number)) }
+    ensures pointer { IsErrOf result (Damaged Pointer) → IfShown V.View lot.now view.old disk.old (λ old.
+        (n : ℕ) × (n * per_block F.ENTRY < (inode_of old number).size)
+        × (leads lot.now old (inode_of old number) n ≡ false)) }
     ensures looked { Looked D.Disk V.View lot.now view.old disk.old view.new disk.new }
     ensures faults { IfErr result IsFindFault }
     ensures failed { IsErrOf result FaultDisk → Rose (D.state disk.old).faults (D.state disk.new).faults }

@@ -64,7 +64,8 @@ fn clear(block: &mut Block, from: usize, to: usize)
 
 fn put_bytes(block: &mut Block, at: usize, bytes: &[u8])
     requires { at + length bytes.now ≤ 1024 }
-    ensures bytes { (k : ℕ) → k < length bytes.now → slice_index block.new (at + k) ≡ slice_index bytes.now k }
+    ensures bytes { (k : ℕ) → k < length bytes.now
+        → slice_index block.new (at + k) ≡ slice_index bytes.now k }
     ensures others { SameBeside at (length bytes.now) block.old block.new }
 {
     block[at..at + bytes.len()].copy_from_slice(bytes);

@@ -4,7 +4,7 @@ ghost use Rattle.std.specs.List.{swap_remove, position_or_len};
 ghost use Rattle.ice_base.specs.Disk.{Rose};
 ghost use Rattle.ice_base.specs.Lots.{is_sited, sub_address};
 ghost use Rattle.ice_base.specs.Used.{is_data, counted};
-ghost use Rattle.ice_base.specs.Views.{Looked, Spent};
+ghost use Rattle.ice_base.specs.Views.{Looked, Spent, AsShown, IfShown};
 ghost use Rattle.ice_base.specs.declared.fault.OpFault.TheVariants.{Disk as FaultDisk, Damaged};
 ghost use Rattle.ice_base.specs.declared.fault.Rule.{Rule};
 ghost use Rattle.ice_base.specs.declared.fault.Rule.TheVariants.{Counts, Kind, Pointer, Bitmap};
@@ -36,12 +36,17 @@ fn move_last<D: Disk, K: Keep<D>, F: Form>(
     requires room { 1 ≤ K.room keep.old }
     requires short { dir.now.size ≤ 4096 }
     requires below { k < dir.now.size }
-    ensures put { K.shows lot.now keep.old disk.old → MadeOf lot.now (K.map keep.old disk.old lot.now) dir.now (dir_blocks F.ENTRY dir.now.size) → OnOk result (RowPut lot.now F.ENTRY (K.map keep.old disk.old lot.now) (K.map keep.new disk.new lot.now) dir.now dir.now (dir_blocks F.ENTRY dir.now.size) (dir_blocks F.ENTRY dir.now.size) k (entry_bytes F.ENTRY (K.map keep.old disk.old lot.now) dir.now (dir.now.size - 1))) }
+    ensures put { AsShown K.View lot.now keep.old disk.old keep.new disk.new (λ old new.
+        MadeOf lot.now old dir.now (dir_blocks F.ENTRY dir.now.size)
+        → OnOk result (RowPut lot.now F.ENTRY old new dir.now dir.now (dir_blocks F.ENTRY dir.now.size) (dir_blocks F.ENTRY dir.now.size) k (entry_bytes F.ENTRY old dir.now (dir.now.size - 1)))) }
     ensures counts { K.map keep.new disk.new lot.now sub_address ≡ K.map keep.old disk.old lot.now sub_address }
-    ensures beside { (b : ℕ) → is_data lot.now b ≡ false → K.map keep.new disk.new lot.now b ≡ K.map keep.old disk.old lot.now b }
+    ensures beside { (b : ℕ) → is_data lot.now b ≡ false
+        → K.map keep.new disk.new lot.now b ≡ K.map keep.old disk.old lot.now b }
     ensures spent { Spent D.Disk K.View lot.now 1 keep.old disk.old keep.new disk.new }
-    ensures misled { IsErrOf result (Damaged Pointer) → K.shows lot.now keep.old disk.old → Misleads lot.now (K.map keep.old disk.old lot.now) dir.now (dir_blocks F.ENTRY dir.now.size) }
-    ensures within { K.shows lot.now keep.old disk.old → OnOk result ((b : ℕ) → b ≢ nth_block (K.map keep.old disk.old lot.now) dir.now (k / per_block F.ENTRY) → K.map keep.new disk.new lot.now b ≡ K.map keep.old disk.old lot.now b) }
+    ensures misled { IsErrOf result (Damaged Pointer) → IfShown K.View lot.now keep.old disk.old (λ old.
+        Misleads lot.now old dir.now (dir_blocks F.ENTRY dir.now.size)) }
+    ensures within { AsShown K.View lot.now keep.old disk.old keep.new disk.new (λ old new.
+        OnOk result ((b : ℕ) → b ≢ nth_block old dir.now (k / per_block F.ENTRY) → new b ≡ old b)) }
     ensures faults { IfErr result IsLookFault }
     ensures failed { IsErrOf result FaultDisk → Rose (D.state disk.old).faults (D.state disk.new).faults }
 {
@@ -71,14 +76,24 @@ fn remove_row<D: Disk, K: Keep<D>, P: Pool<D, K>, F: Form>(
     requires room { 8 ≤ K.room keep.old }
     requires is { IsDirectory lot.now dir }
     requires below { k < dir.size }
-    ensures removed { K.shows lot.now keep.old disk.old → inode_of (K.map keep.old disk.old lot.now) number ≡ dir → WellMade lot.now F.ENTRY (K.map keep.old disk.old lot.now) number → OnOk result (DirSet lot.now F.ENTRY (K.map keep.old disk.old lot.now) (K.map keep.new disk.new lot.now) number (swap_remove (rows_of F.ENTRY (K.map keep.old disk.old lot.now) number) k ([], 0))) }
-    ensures texts { K.shows lot.now keep.old disk.old → inode_of (K.map keep.old disk.old lot.now) number ≡ dir → WellMade lot.now F.ENTRY (K.map keep.old disk.old lot.now) number → OnOk result (TextTaken F.ENTRY (K.map keep.old disk.old lot.now) (K.map keep.new disk.new lot.now) number k) }
-    ensures left { K.shows lot.now keep.old disk.old → inode_of (K.map keep.old disk.old lot.now) number ≡ dir → OnOk result (EntryGone lot.now F.ENTRY (K.map keep.old disk.old lot.now) (K.map keep.new disk.new lot.now) number) }
+    ensures removed { AsShown K.View lot.now keep.old disk.old keep.new disk.new (λ old new.
+        inode_of old number ≡ dir → WellMade lot.now F.ENTRY old number
+        → OnOk result (DirSet lot.now F.ENTRY old new number (swap_remove (rows_of F.ENTRY old number) k ([], 0)))) }
+    ensures texts { AsShown K.View lot.now keep.old disk.old keep.new disk.new (λ old new.
+        inode_of old number ≡ dir → WellMade lot.now F.ENTRY old number
+        → OnOk result (TextTaken F.ENTRY old new number k)) }
+    ensures left { AsShown K.View lot.now keep.old disk.old keep.new disk.new (λ old new.
+        inode_of old number ≡ dir → OnOk result (EntryGone lot.now F.ENTRY old new number)) }
     ensures spent { Spent D.Disk K.View lot.now 8 keep.old disk.old keep.new disk.new }
-    ensures zero { IsErrOf result (Damaged Counts) → K.shows lot.now keep.old disk.old → counted false (K.map keep.old disk.old lot.now) + uses_of (dir_blocks F.ENTRY (dir.size - 1)) < uses_of (dir_blocks F.ENTRY dir.size) }
-    ensures unused { IsErrOf result (Damaged Bitmap) → K.shows lot.now keep.old disk.old → FreeOrTwice (K.map keep.old disk.old lot.now) (uses (K.map keep.old disk.old lot.now) dir (dir_blocks F.ENTRY dir.size)) }
-    ensures kept { (rule : Rule) → IsErrOf result (Damaged rule) → K.shows lot.now keep.old disk.old → inode_of (K.map keep.new disk.new lot.now) number ≡ inode_of (K.map keep.old disk.old lot.now) number }
-    ensures misled { IsErrOf result (Damaged Pointer) → K.shows lot.now keep.old disk.old → Confuses lot.now (K.map keep.old disk.old lot.now) dir (dir_blocks F.ENTRY dir.size) }
+    ensures zero { IsErrOf result (Damaged Counts) → IfShown K.View lot.now keep.old disk.old (λ old.
+        counted false old + uses_of (dir_blocks F.ENTRY (dir.size - 1)) < uses_of (dir_blocks F.ENTRY dir.size)) }
+    ensures unused { IsErrOf result (Damaged Bitmap) → IfShown K.View lot.now keep.old disk.old (λ old.
+        FreeOrTwice old (uses old dir (dir_blocks F.ENTRY dir.size))) }
+    ensures kept { (rule : Rule) → IsErrOf result (Damaged rule)
+        → AsShown K.View lot.now keep.old disk.old keep.new disk.new (λ old new.
+        inode_of new number ≡ inode_of old number) }
+    ensures misled { IsErrOf result (Damaged Pointer) → IfShown K.View lot.now keep.old disk.old (λ old.
+        Confuses lot.now old dir (dir_blocks F.ENTRY dir.size)) }
     ensures faults { IfErr result IsCutFault }
     ensures failed { IsErrOf result FaultDisk → Rose (D.state disk.old).faults (D.state disk.new).faults }
 {
@@ -108,20 +123,38 @@ pub fn take<D: Disk, K: Keep<D>, P: Pool<D, K>, F: Form>(
     requires sited { is_sited lot.now (D.state disk.old).size ≡ true }
     requires number { number < 64 * length lot.now.groups }
     requires room { 8 ≤ K.room keep.old }
-    ensures found { K.shows lot.now keep.old disk.old → IfOk result (λ o. o ≡ look_up name.now (rows_of F.ENTRY (K.map keep.old disk.old lot.now) number)) }
-    ensures taken { K.shows lot.now keep.old disk.old → WellMade lot.now F.ENTRY (K.map keep.old disk.old lot.now) number → IfOk result (λ o. IsSome o → DirSet lot.now F.ENTRY (K.map keep.old disk.old lot.now) (K.map keep.new disk.new lot.now) number (without name.now (rows_of F.ENTRY (K.map keep.old disk.old lot.now) number))) }
-    ensures texts { K.shows lot.now keep.old disk.old → WellMade lot.now F.ENTRY (K.map keep.old disk.old lot.now) number → IfOk result (λ o. IsSome o → TextTaken F.ENTRY (K.map keep.old disk.old lot.now) (K.map keep.new disk.new lot.now) number (position_or_len (named name.now) (rows_of F.ENTRY (K.map keep.old disk.old lot.now) number))) }
-    ensures left { K.shows lot.now keep.old disk.old → IfOk result (λ o. IsSome o → EntryGone lot.now F.ENTRY (K.map keep.old disk.old lot.now) (K.map keep.new disk.new lot.now) number) }
-    ensures absent { IfOk result (λ o. IsNone o → Looked D.Disk K.View lot.now keep.old disk.old keep.new disk.new) }
-    ensures is { K.shows lot.now keep.old disk.old → OnOk result (IsDirectory lot.now (inode_of (K.map keep.old disk.old lot.now) number)) }
+    ensures found { IfShown K.View lot.now keep.old disk.old (λ old.
+        IfOk result (λ o. o ≡ look_up name.now (rows_of F.ENTRY old number))) }
+    ensures taken { AsShown K.View lot.now keep.old disk.old keep.new disk.new (λ old new.
+        WellMade lot.now F.ENTRY old number
+        → IfOk result (λ o. IsSome o
+        → DirSet lot.now F.ENTRY old new number (without name.now (rows_of F.ENTRY old number)))) }
+    ensures texts { AsShown K.View lot.now keep.old disk.old keep.new disk.new (λ old new.
+        WellMade lot.now F.ENTRY old number
+        → IfOk result (λ o. IsSome o
+        → TextTaken F.ENTRY old new number (position_or_len (named name.now) (rows_of F.ENTRY old number)))) }
+    ensures left { AsShown K.View lot.now keep.old disk.old keep.new disk.new (λ old new.
+        IfOk result (λ o. IsSome o → EntryGone lot.now F.ENTRY old new number)) }
+    ensures absent { IfOk result (λ o. IsNone o
+        → Looked D.Disk K.View lot.now keep.old disk.old keep.new disk.new) }
+    ensures is { IfShown K.View lot.now keep.old disk.old (λ old.
+        OnOk result (IsDirectory lot.now (inode_of old number))) }
     ensures spent { Spent D.Disk K.View lot.now 8 keep.old disk.old keep.new disk.new }
-    ensures zero { IsErrOf result (Damaged Counts) → K.shows lot.now keep.old disk.old → counted false (K.map keep.old disk.old lot.now) + uses_of (dir_blocks F.ENTRY ((inode_of (K.map keep.old disk.old lot.now) number).size - 1)) < uses_of (dir_blocks F.ENTRY (inode_of (K.map keep.old disk.old lot.now) number).size) }
-    ensures kind { IsErrOf result (Damaged Kind) → K.shows lot.now keep.old disk.old → ¬ IsDirectory lot.now (inode_of (K.map keep.old disk.old lot.now) number) }
-    ensures unused { IsErrOf result (Damaged Bitmap) → K.shows lot.now keep.old disk.old → FreeOrTwice (K.map keep.old disk.old lot.now) (uses (K.map keep.old disk.old lot.now) (inode_of (K.map keep.old disk.old lot.now) number) (dir_blocks F.ENTRY (inode_of (K.map keep.old disk.old lot.now) number).size)) }
-    ensures kept { (rule : Rule) → IsErrOf result (Damaged rule) → K.shows lot.now keep.old disk.old → inode_of (K.map keep.new disk.new lot.now) number ≡ inode_of (K.map keep.old disk.old lot.now) number }
-    ensures misled { IsErrOf result (Damaged Pointer) → K.shows lot.now keep.old disk.old → Confuses lot.now (K.map keep.old disk.old lot.now) (inode_of (K.map keep.old disk.old lot.now) number) (dir_blocks F.ENTRY (inode_of (K.map keep.old disk.old lot.now) number).size) }
-    ensures is_dir { (rule : Rule) → IsErrOf result (Damaged rule) → rule ≢ Kind → K.shows lot.now keep.old disk.old → IsDirectory lot.now (inode_of (K.map keep.old disk.old lot.now) number) }
-    ensures unchanged { IsErrOf result (Damaged Kind) → Looked D.Disk K.View lot.now keep.old disk.old keep.new disk.new }
+    ensures zero { IsErrOf result (Damaged Counts) → IfShown K.View lot.now keep.old disk.old (λ old.
+        counted false old + uses_of (dir_blocks F.ENTRY ((inode_of old number).size - 1)) < uses_of (dir_blocks F.ENTRY (inode_of old number).size)) }
+    ensures kind { IsErrOf result (Damaged Kind) → IfShown K.View lot.now keep.old disk.old (λ old.
+        ¬ IsDirectory lot.now (inode_of old number)) }
+    ensures unused { IsErrOf result (Damaged Bitmap) → IfShown K.View lot.now keep.old disk.old (λ old.
+        FreeOrTwice old (uses old (inode_of old number) (dir_blocks F.ENTRY (inode_of old number).size))) }
+    ensures kept { (rule : Rule) → IsErrOf result (Damaged rule)
+        → AsShown K.View lot.now keep.old disk.old keep.new disk.new (λ old new.
+        inode_of new number ≡ inode_of old number) }
+    ensures misled { IsErrOf result (Damaged Pointer) → IfShown K.View lot.now keep.old disk.old (λ old.
+        Confuses lot.now old (inode_of old number) (dir_blocks F.ENTRY (inode_of old number).size)) }
+    ensures is_dir { (rule : Rule) → IsErrOf result (Damaged rule) → rule ≢ Kind
+        → IfShown K.View lot.now keep.old disk.old (λ old. IsDirectory lot.now (inode_of old number)) }
+    ensures unchanged { IsErrOf result (Damaged Kind)
+        → Looked D.Disk K.View lot.now keep.old disk.old keep.new disk.new }
     ensures faults { IfErr result IsTakeFault }
     ensures failed { IsErrOf result FaultDisk → Rose (D.state disk.old).faults (D.state disk.new).faults }
 {

@@ -1,9 +1,9 @@
 //! Cuts of files.
-ghost use Rattle.std.specs.Prelude.{◌≡◌, ◌≢◌, ◌≤◌, ◌<◌, ◌+◌, ◌*◌, true, false, OnOk, IfErr, IsErrOf, length, take};
+ghost use Rattle.std.specs.Prelude.{◌≡◌, ◌≢◌, ◌≤◌, ◌<◌, ◌+◌, ◌*◌, ℕ, true, false, OnOk, IfErr, IsErrOf, length, take};
 ghost use Rattle.ice_base.specs.Disk.{Rose};
 ghost use Rattle.ice_base.specs.Fields.{SameBeside};
 ghost use Rattle.ice_base.specs.Lots.{is_sited, sub_address};
-ghost use Rattle.ice_base.specs.Used.{count_place, counted};
+ghost use Rattle.ice_base.specs.Used.{is_data, used_inode, count_place, counted};
 ghost use Rattle.ice_base.specs.Views.{Looked, Spent, AsShown, IfShown};
 ghost use Rattle.ice_base.specs.declared.fault.OpFault.TheVariants.{Disk as FaultDisk, Damaged};
 ghost use Rattle.ice_base.specs.declared.fault.Rule.{Rule};
@@ -48,8 +48,13 @@ pub fn cut_to<D: Disk, K: Keep<D>, P: Pool<D, K>, F: Form>(
     ensures kept { (rule : Rule) → IsErrOf result (Damaged rule)
         → AsShown K.View lot.now keep.old disk.old keep.new disk.new (λ old new.
         inode_of new number ≡ inode_of old number) }
+    ensures single_placed { IsErrOf result (Damaged Bitmap) → IfShown K.View lot.now keep.old disk.old (λ old.
+        12 < blocks_for (inode_of old number).size
+        → is_data lot.now (inode_of old number).single ≡ true) }
     ensures misled { IsErrOf result (Damaged Pointer) → IfShown K.View lot.now keep.old disk.old (λ old.
         Misleads lot.now old (inode_of old number) (blocks_for (inode_of old number).size)) }
+    ensures inodes { AsShown K.View lot.now keep.old disk.old keep.new disk.new (λ old new.
+        OnOk result ((i : ℕ) → used_inode new i ≡ used_inode old i)) }
     ensures sub { AsShown K.View lot.now keep.old disk.old keep.new disk.new (λ old new.
         OnOk result (SameBeside (count_place false) 4 (old sub_address) (new sub_address))) }
     ensures file { IfErr result (λ e. (rule : Rule) → e ≡ Damaged rule → rule ≢ Kind

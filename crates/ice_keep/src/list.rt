@@ -50,7 +50,8 @@ impl ListKeep {
     /// Which entry has the address.
     #[tactic(auto, unfolding(crate::specs::Lists::address), using(crate::proofs::ListLaws::find_laws))]
     fn find(&self, at: u32) -> Option<usize>
-        ensures { MatchOption result (holds self.now.entries at ≡ false) (λ j. (j < length self.now.entries) × (address self.now.entries j ≡ at) × (holds self.now.entries at ≡ true)) }
+        ensures { MatchOption result (holds self.now.entries at ≡ false) (λ j. (j < length self.now.entries)
+            × (address self.now.entries j ≡ at) × (holds self.now.entries at ≡ true)) }
     {
         for j in 0..self.entries.len() {
             if self.entries[j].at == at {
@@ -76,7 +77,8 @@ impl ListKeep {
 
     fn store(&mut self, at: u32, from: &Block)
         requires room { holds self.old.entries at ≡ false → length self.old.entries < self.old.most }
-        ensures map { (m : ℕ → List ℕ) (a : ℕ) → over self.new.entries m a ≡ cond (at == a) from.now (over self.old.entries m a) }
+        ensures map { (m : ℕ → List ℕ) (a : ℕ)
+            → over self.new.entries m a ≡ cond (at == a) from.now (over self.old.entries m a) }
         ensures holds { (a : ℕ) → holds self.new.entries a ≡ cond (at == a) true (holds self.old.entries a) }
         ensures count { length self.new.entries ≡ length self.old.entries + cond (holds self.old.entries at) 0 1 }
         ensures most { self.new.most ≡ self.old.most }

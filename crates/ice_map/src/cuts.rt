@@ -120,6 +120,8 @@ fn give_indirect<D: Disk, K: Keep<D>, P: Pool<D, K>>(
         counted false old < length (cut_off old inode.now count rest)) }
     ensures unused { IsErrOf result (Damaged Bitmap) → IfShown K.View lot.now keep.old disk.old (λ old.
         FreeOrTwice old (cut_off old inode.now count rest)) }
+    ensures single_placed { IsErrOf result (Damaged Bitmap) → 12 < count
+        → is_data lot.now inode.now.single ≡ true }
     ensures misled { IsErrOf result (Damaged Pointer) → IfShown K.View lot.now keep.old disk.old (λ old.
         Misleads lot.now old inode.now count) }
     ensures placed { IfShown K.View lot.now keep.old disk.old (λ old.
@@ -195,6 +197,8 @@ fn give_rest<D: Disk, K: Keep<D>, P: Pool<D, K>>(
         counted false old < length (cut_off old inode.now count rest)) }
     ensures unused { IsErrOf result (Damaged Bitmap) → IfShown K.View lot.now keep.old disk.old (λ old.
         FreeOrTwice old (cut_off old inode.now count rest)) }
+    ensures single_placed { IsErrOf result (Damaged Bitmap) → 12 < count
+        → is_data lot.now inode.now.single ≡ true }
     ensures misled { IsErrOf result (Damaged Pointer) → IfShown K.View lot.now keep.old disk.old (λ old.
         Misleads lot.now old inode.now count) }
     ensures placed { IfShown K.View lot.now keep.old disk.old (λ old.
@@ -243,6 +247,8 @@ pub fn cut<D: Disk, K: Keep<D>, P: Pool<D, K>, F: Form>(
         counted false old < length (cut_off old inode.old count rest)) }
     ensures unused { IsErrOf result (Damaged Bitmap) → IfShown K.View lot.now keep.old disk.old (λ old.
         FreeOrTwice old (cut_off old inode.old count rest)) }
+    ensures single_placed { IsErrOf result (Damaged Bitmap) → 12 < count
+        → is_data lot.now inode.old.single ≡ true }
     ensures misled { IsErrOf result (Damaged Pointer) → IfShown K.View lot.now keep.old disk.old (λ old.
         Misleads lot.now old inode.old count) }
     ensures placed { IfShown K.View lot.now keep.old disk.old (λ old.

@@ -12,3 +12,4 @@ pub mod Rests
 pub mod Recovering
 pub mod FreshBits
 pub mod FreshLots
+pub mod UsedCosts

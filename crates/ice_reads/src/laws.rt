@@ -5,10 +5,10 @@ ghost use Rattle.ice_base.specs.Spare.{has};
 ghost use Rattle.ice_map.specs.Maps.{times};
 ghost use Rattle.ice_file.specs.Own.{mark};
 ghost use Rattle.tree_spec.specs.Trees.{Tree, Dir, Nil};
-ghost use Rattle.tree_spec.specs.Costs.{Form, form_one};
+ghost use Rattle.tree_spec.specs.Costs.{Form, form_one, form_of, blocks};
 ghost use Rattle.ice_reads.specs.Fresh.{IsFreshLot};
 ghost use Rattle.ice_reads.specs.Tables.{Map, own_in};
-ghost use Rattle.ice_reads.specs.Reads.{used_blocks};
+ghost use Rattle.ice_reads.specs.Reads.{Reads, used_blocks};
 ghost use Rattle.ice_reads.specs.Recovers.{MapRecovers};
 
 /// A map recovers one tree, with one count and one mode.
@@ -42,4 +42,10 @@ pub fn marks_as_sets()
 #[tactic(auto, using(crate::proofs::FreshLots::fresh_recovers))]
 pub fn fresh_lot()
     ensures { (lot : LotView) (m : Map) → IsFreshLot lot m → MapRecovers form_one 0 lot m (Dir Nil) 0 }
+{}
+
+/// In the form of a version, a tree uses as many blocks of a lot of at most 64 groups as it costs.
+#[tactic(auto, using(crate::proofs::UsedCosts::cost_is_used))]
+pub fn cost_is_used()
+    ensures { (f : Form) (lot : LotView) (m : Map) (i h : ℕ) (t : Tree) → f ≡ form_of f.version → length lot.groups ≤ 64 → Reads f lot (own_in f m) i h t → length (used_blocks f (own_in f m) i t) ≡ blocks f t }
 {}

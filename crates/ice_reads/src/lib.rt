@@ -3,4 +3,4 @@
 
 mod laws;
 
-pub use laws::{fresh_lot, marks_as_sets, one_tree, same_blocks, small_count};
+pub use laws::{cost_is_used, fresh_lot, marks_as_sets, one_tree, same_blocks, small_count};

@@ -75,14 +75,14 @@ place-named entry m dir entries c j is Blocked at = tt
 
 module _ (entry : ℕ) (e64 : entry ≡ 64) (lot : LotView) (m : ℕ → List ℕ) (i : ℕ) (reached : IsReached entry lot m i) where
   -- a name that leads to no inode of the lot
-  pub named-broken : IsDirectory lot (inode_of m i) → (c : List ℕ) (j : ℕ) → look_up c (rows_of entry m i) ≡ Some j → 64 * length lot.groups ≤ j → BadEntry entry lot m m
+  pub named-broken : IsDirectory lot (inode_of m i) → (c : List ℕ) (j : ℕ) → look_up c (rows_of entry m i) ≡ Some j → 64 * length lot.groups ≤ j → BadEntry entry lot m
   named-broken dir c j is past =
       let x = named-row (rows_of entry m i) c j is in
-      record { number = i; row = x.0; reached = reached; dir = dir; has = x.1; bad = omega (arith, past, x.2) }
+      record { number = i; row = x.0; reached = reached; dir = dir; has = x.1; bad = inr (omega (arith, past, x.2)) }
 
   -- so does row k
-  pub row-broken : IsDirectory lot (inode_of m i) → (k : ℕ) (c : List ℕ) (j : ℕ) → slice_get (rows_of entry m i) k ≡ Some (c, j) → 64 * length lot.groups ≤ j → BadEntry entry lot m m
-  row-broken dir k c j is past = record { number = i; row = (c, j); reached = reached; dir = dir; has = slice-has (rows_of entry m i) k (c, j) is; bad = past }
+  pub row-broken : IsDirectory lot (inode_of m i) → (k : ℕ) (c : List ℕ) (j : ℕ) → slice_get (rows_of entry m i) k ≡ Some (c, j) → 64 * length lot.groups ≤ j → BadEntry entry lot m
+  row-broken dir k c j is past = record { number = i; row = (c, j); reached = reached; dir = dir; has = slice-has (rows_of entry m i) k (c, j) is; bad = inr past }
 
   -- a search for a name
   pub find-broken : (e : OpFault) → IsFindFault e → (e ≡ Damaged Kind → ¬ IsDirectory lot (inode_of m i)) → IsNode lot (inode_of m i) → (inode_of m i).kind ≡ 2
@@ -95,7 +95,7 @@ module _ (entry : ℕ) (e64 : entry ≡ 64) (lot : LotView) (m : ℕ → List �
       directory (inr d) = d
   find-broken (Damaged Pointer) h kind node two p =
       let x = p refl in
-      record { number = i; reached = reached; node = node; bad = record { block = x.0; below = block-below entry (inode_of m i) x.0 e64 two x.1; bad = x.2 } }
+      inl (record { number = i; reached = reached; node = node; bad = record { block = x.0; below = block-below entry (inode_of m i) x.0 e64 two x.1; bad = x.2 } })
   find-broken _ h kind node two p = absurd h
 
   -- a read of an entry
@@ -104,12 +104,12 @@ module _ (entry : ℕ) (e64 : entry ≡ 64) (lot : LotView) (m : ℕ → List �
   entry-broken k has Disk h kind p n = tt
   entry-broken k has (Damaged Kind) h kind p n = absurd (kind refl has)
   entry-broken k has (Damaged Pointer) h kind p n =
-      record {
+      inl (record {
         number = i;
         reached = reached;
         node = inr has.is;
         bad = record { block = k / per_block entry; below = row-below entry (inode_of m i) k e64 has.is.kind has.below; bad = p refl };
-      }
+      })
   entry-broken k has (Damaged BadNameRule) h kind p n =
       let row = get-row entry m i k e64 has.is.kind has.below in
       record {

@@ -1,9 +1,9 @@
 -- Which rule a refusal names, and that the lot breaks it.
-use Rattle.std.proofs.Common.{◌≡◌, ◌≤◌, ◌<◌, ◌+◌, ℕ, subst, arith, inl, Bool, true, false, List, Some, None, Result, Ok, Err, IsErrOf, refl, ap, sym, ◌∙◌}
+use Rattle.std.proofs.Common.{◌≡◌, ◌≤◌, ◌<◌, ◌+◌, ℕ, subst, arith, inl, inr, Bool, true, false, List, Some, None, Result, Ok, Err, IsErrOf, refl, ap, sym, ◌∙◌}
 use Rattle.std.specs.Prelude.{◌==◌, not, ◌^◌, nat_lt, slice_index, if◌then◌else◌, IfErr, ⊤}
 use Rattle.ice_base.specs.Fields.{word_at, long_at, SameBeside}
 use Rattle.ice_base.specs.Used.{count_place}
-use Rattle.ice_base.proofs.FieldLaws.{long-beside}
+use Rattle.ice_base.proofs.FieldLaws.{long-beside, word-beside}
 use Rattle.ice_base.specs.Lots.{LotView, sub_address}
 use Rattle.ice_base.specs.declared.fault.OpFault.{OpFault}
 use Rattle.ice_base.specs.declared.fault.OpFault.TheVariants.{Disk, Damaged, NoSpace, NoNodes}
@@ -14,7 +14,8 @@ use Rattle.tree_spec.specs.declared.reply.Refusal.{Refusal}
 use Rattle.tree_spec.specs.declared.reply.Refusal.TheVariants as code
 use Rattle.ice_reads.proofs.Focus.{same_Some, None≢Some}
 use Rattle.ice_tree.specs.Broken.{IsBroken, IsBrokenBy, IsFaultBy}
-use Rattle.ice_tree.specs.Outcomes.{rule_number, refusal_by, IsSubFault, IsCountFault}
+use Rattle.ice_rules.specs.Rules.{rule_number}
+use Rattle.ice_tree.specs.Outcomes.{refusal_by, IsNamedIn, sub_rules, IsCountFault}
 
 -- a fault as a refusal names the fault's rule
 pub fault-names : (P : Rule → Type 0) (e : OpFault) (r : Refusal) → r ≡ refusal_by e → IsFaultBy P e → {A : Type 0} (n : ℕ) → IsErrOf {T = A} (Err r) (code.Damaged n) → (x : Rule) × (n ≡ rule_number x) × P x
@@ -50,6 +51,10 @@ fault-weaker P Q go NoNodes h = h
 -- the count of operations lies beside that of blocks
 pub done-beside : (old new : List ℕ) → SameBeside (count_place false) 4 old new → long_at new 16 ≡ long_at old 16
 done-beside old new same = long-beside old new 24 4 16 same (inl (omega arith))
+
+-- so does that of inodes
+pub count-beside : (old new : List ℕ) → SameBeside (count_place false) 4 old new → word_at new (count_place true) ≡ word_at old (count_place true)
+count-beside old new same = word-beside old new (count_place false) 4 (count_place true) same (inr (omega arith))
 
 -- one more operation can be counted, so that the disk failed
 pub count-broken : (P : Rule → Type 0) (done : ℕ) (e : OpFault) → IsCountFault e → (e ≡ Damaged rule.Done → 2 ^ 63 ≤ done + 1) → done + 1 < 2 ^ 63 → IsFaultBy P e
@@ -89,6 +94,21 @@ sub-names : (slot : ℕ) (bytes : List ℕ) (r : Rule) → sub_rule slot bytes �
 unfolding sub_rule
 sub-names slot bytes r h = first-rule (word_at bytes 0 == sub_magic) (word_at bytes 4 == 1) (slice_index bytes 8 == slot) (slice_index bytes 9 == 0) (nat_lt (long_at bytes 16) (2 ^ 63)) r h
 
+-- a rule of the sub-super block is one of the first five
+pub sub-named : (slot : ℕ) (bytes : List ℕ) (r : Rule) → sub_rule slot bytes ≡ Some r → IsNamedIn sub_rules (Damaged r)
+sub-named slot bytes r h = by r (sub-names slot bytes r h)
+  where
+    by : (r : Rule) → IsSubRule r → IsNamedIn sub_rules (Damaged r)
+    by rule.Magic h = refl
+    by rule.Version h = refl
+    by rule.Slot h = refl
+    by rule.Mode h = refl
+    by rule.Done h = refl
+    by _ h = absurd h
+
+no_true : false ≡ true → ⊥
+no_true h = cc
+
 module _ (entry : ℕ) (lot : LotView) (m : ℕ → List ℕ) where
   sub-broken : (r : Rule) → sub_rule lot.slot (m sub_address) ≡ Some r → IsBroken entry lot m r
   sub-broken rule.Magic h = h
@@ -108,8 +128,8 @@ module _ (entry : ℕ) (lot : LotView) (m : ℕ → List ℕ) where
   sub-broken rule.Header h = absurd (sub-names lot.slot (m sub_address) rule.Header h)
 
   -- a look at the sub-super block
-  pub sub-fault : (e : OpFault) → IsSubFault e → ((r : Rule) → e ≡ Damaged r → sub_rule lot.slot (m sub_address) ≡ Some r) → IsBrokenBy entry lot m e
+  pub sub-fault : (e : OpFault) → IsNamedIn sub_rules e → ((r : Rule) → e ≡ Damaged r → sub_rule lot.slot (m sub_address) ≡ Some r) → IsBrokenBy entry lot m e
   sub-fault Disk h named = tt
   sub-fault (Damaged r) h named = sub-broken r (named r refl)
-  sub-fault NoSpace h named = absurd h
-  sub-fault NoNodes h named = absurd h
+  sub-fault NoSpace h named = absurd (no_true h)
+  sub-fault NoNodes h named = absurd (no_true h)

@@ -1,23 +1,23 @@
 -- What a rename that fails says of the lot.
-use Rattle.std.proofs.Common.{◌≡◌, ◌≢◌, ◌<◌, ◌≤◌, ◌+◌, ◌-◌, ◌*◌, ◌%◌, ◌^◌, ℕ, true, false, List, length, nat_eq, refl, sym, ap, ◌∙◌, subst, arith, inl, inr}
+use Rattle.std.proofs.Common.{◌≡◌, ◌≢◌, ◌<◌, ◌≤◌, ◌+◌, ◌-◌, ◌*◌, ◌%◌, ◌^◌, ℕ, true, false, List, length, nat_eq, refl, sym, ap, ◌∙◌, subst, arith, inl, inr, ◌⊎◌, ⊎_elim}
 use Rattle.std.proofs.lemmas.Bool.Decides.{nat_tests}
 use Rattle.ice_base.specs.Lots.{LotView}
 use Rattle.ice_base.specs.Used.{counted, free_count, is_data, Reserved}
 use Rattle.ice_base.specs.declared.fault.OpFault.{OpFault}
 use Rattle.ice_base.specs.declared.fault.OpFault.TheVariants.{Disk, Damaged, NoSpace}
-use Rattle.ice_base.specs.declared.fault.Rule.{Rule}
 use Rattle.ice_base.specs.declared.fault.Rule.TheVariants.{Counts, Kind, Pointer, Bitmap}
 use Rattle.ice_map.specs.declared.codec.Inode.{Inode}
 use Rattle.ice_map.specs.Inodes.{inode_of}
 use Rattle.ice_map.specs.Maps.{Misleads}
 use Rattle.ice_file.specs.Writes.{uses_of}
-use Rattle.ice_dir.specs.Changes.{dir_blocks, HasRoom, EntryGone}
+use Rattle.ice_dir.specs.Changes.{dir_blocks, dir_uses, HasRoom, EntryGone}
 use Rattle.ice_dir.specs.Faults.{IsAddFault}
 use Rattle.ice_dir.specs.Rows.{IsDirectory}
-use Rattle.ice_tree.specs.Broken.{BadPointer, IsBrokenIn, IsFaultBy}
+use Rattle.ice_tree.specs.Broken.{BadPointer, TwiceUsed, IsBrokenBy}
 use Rattle.ice_tree.specs.Grounds.{MoveIs, RowFits}
 use Rattle.ice_tree.specs.declared.renames.Move.{Move}
-use Rattle.ice_tree.proofs.MapDamage.{map-dir, dir-few, bad-pointer, full-directory}
+use Rattle.ice_tree.proofs.MapDamage.{map-dir, dir-few, bad-pointer, bad-map}
+use Rattle.ice_tree.proofs.LooseDamage.{other-misled, shared}
 
 -- two numbers are one, or differ
 by-number : (P : Type 0) (a b : ℕ) → (a ≡ b → P) → (a ≢ b → P) → P
@@ -76,48 +76,75 @@ module _ (entry : ℕ) (e64 : entry ≡ 64) (lot : LotView) (few : length lot.gr
           let q = fits.blocks differ (λ x. n (sym x)) in
           omega arith
 
-  -- the directory is the other one, and full
-  full : ¬ HasRoom lot (inode_of m1 to) → (to ≢ from) × (64 * length lot.groups ≤ (inode_of m0 to).size + 1)
-  full none = (apart, full-directory lot (inode_of m0 to) is.to_is.dir (subst (λ (x : Inode). ¬ HasRoom lot x) (to-same apart) none))
+  -- the directory has room
+  has-room : IsDirectory lot (inode_of m1 to) → HasRoom lot (inode_of m1 to)
+  has-room d = record { is = d; room = by-number ((inode_of m1 to).size + 1 < 64 * length lot.groups) to from here there }
     where
-      apart : to ≢ from
-      apart e =
+      here : to ≡ from → (inode_of m1 to).size + 1 < 64 * length lot.groups
+      here e =
           let s = gone.size in
-          let d = is.from_is.dir in
-          let l = d.few in
-          let k : (inode_of m1 to).kind ≡ 2 = ap (λ i. (inode_of m1 i).kind) e ∙ gone.kind in
+          let l = is.from_is.dir.few in
           let b : (inode_of m1 to).size + 1 ≡ (inode_of m0 from).size = ap (λ i. (inode_of m1 i).size + 1) e ∙ s in
-          none (record { is = record { kind = k; few = omega arith }; room = omega arith })
+          omega arith
+
+      there : to ≢ from → (inode_of m1 to).size + 1 < 64 * length lot.groups
+      there n =
+          let e : (inode_of m1 to).size ≡ step.to.entries = ap (λ (i : Inode). i.size) (to-same n) ∙ is.to_is.entries in
+          let s = gone.size in
+          let o = is.from_is.entries in
+          let q = fits.room (λ x. n (sym x)) in
+          omega arith
+
+  dir-now : IsDirectory lot (inode_of m1 to)
+  dir-now = by-number (IsDirectory lot (inode_of m1 to)) to from here there
+    where
+      here : to ≡ from → IsDirectory lot (inode_of m1 to)
+      here e =
+          let s = gone.size in
+          let l = is.from_is.dir.few in
+          let b : (inode_of m1 to).size + 1 ≡ (inode_of m0 from).size = ap (λ i. (inode_of m1 i).size + 1) e ∙ s in
+          record { kind = ap (λ i. (inode_of m1 i).kind) e ∙ gone.kind; few = omega arith }
+
+      there : to ≢ from → IsDirectory lot (inode_of m1 to)
+      there n = subst (λ (i : Inode). IsDirectory lot i) (sym (to-same n)) is.to_is.dir
+
+  -- the map of the directory led nowhere before, or a block was used twice
+  misled-before : Misleads lot m1 (inode_of m1 to) (dir_blocks entry (inode_of m1 to).size) → BadPointer entry lot m0 ⊎ TwiceUsed entry lot m0
+  misled-before bad = by-number (BadPointer entry lot m0 ⊎ TwiceUsed entry lot m0) to from here there
+    where
+      here : to ≡ from → BadPointer entry lot m0 ⊎ TwiceUsed entry lot m0
+      here e =
+          bad-map entry lot m0 from (dir_blocks entry (inode_of m0 from).size) is.from_is.reached (inr is.from_is.dir) (map-dir entry (inode_of m0 from) is.from_is.dir.kind)
+          (gone.leads (subst (λ i. Misleads lot m1 (inode_of m1 i) (dir_blocks entry (inode_of m1 i).size)) e bad))
+
+      there : to ≢ from → BadPointer entry lot m0 ⊎ TwiceUsed entry lot m0
+      there n =
+          let x = inode_of m0 to in
+          let c = dir_blocks entry (inode_of m0 to).size in
+          ⊎_elim
+          (λ l. inl (bad-pointer entry lot m0 to c is.to_is.reached (inr is.to_is.dir) (map-dir entry x is.to_is.dir.kind) l))
+          (λ s. inr (shared entry lot m0 to from c (dir_blocks entry (inode_of m0 from).size) x.single is.to_is.reached is.from_is.reached (inr is.to_is.dir) (inr is.from_is.dir) (map-dir entry x is.to_is.dir.kind)
+          (map-dir entry (inode_of m0 from) is.from_is.dir.kind) n s.1 s.0))
+          (other-misled lot m0 m1 (dir_uses entry m0 from) gone.blocks x c (subst (λ (i : Inode). Misleads lot m1 i (dir_blocks entry i.size)) (to-same n) bad))
 
   -- each place that holds no data was marked as it is
   reserved-after : Reserved lot m0 → Reserved lot m1
   reserved-after r = record { set = λ b l h. gone.places b (low-place lot b h) ∙ r.set b l h }
 
-  pub add-blamed : (m2 : ℕ → List ℕ) (e : OpFault) → IsAddFault e
+  pub add-blamed : (e : OpFault) → IsAddFault e
       → (e ≡ NoSpace → free_count false lot m1 + uses_of (dir_blocks entry (inode_of m1 to).size) < uses_of (dir_blocks entry ((inode_of m1 to).size + 1)))
       → (e ≡ Damaged Counts → 2 ^ 32 + uses_of (dir_blocks entry (inode_of m1 to).size) ≤ counted false m1 + uses_of (dir_blocks entry ((inode_of m1 to).size + 1)))
       → (e ≡ Damaged Kind → ¬ HasRoom lot (inode_of m1 to)) → (e ≡ Damaged Bitmap → ¬ Reserved lot m1) → (e ≡ Damaged Pointer → Misleads lot m1 (inode_of m1 to) (dir_blocks entry (inode_of m1 to).size))
-      → ((r : Rule) → e ≡ Damaged r → r ≢ Kind → IsDirectory lot (inode_of m1 to)) → (e ≡ Damaged Pointer → m2 ≡ m1) → IsFaultBy (IsBrokenIn entry lot m0 m2) e
-  add-blamed m2 Disk f none most kind unreserved misled dir unmoved = tt
-  add-blamed m2 NoSpace f none most kind unreserved misled dir unmoved = absurd (no-space (none refl))
-  add-blamed m2 (Damaged Counts) f none most kind unreserved misled dir unmoved =
-      let d = dir Counts refl (λ e. absurd cc) in
+      → IsBrokenBy entry lot m0 e
+  add-blamed Disk f none most kind unreserved misled = tt
+  add-blamed NoSpace f none most kind unreserved misled = absurd (no-space (none refl))
+  add-blamed (Damaged Counts) f none most kind unreserved misled =
       let u = most refl in
-      let l = d.few in
+      let l = dir-now.few in
       let b = dir-few entry ((inode_of m1 to).size + 1) e64 (omega arith) in
       let c = gone.counts in
-      inl (inl (record { inodes = false; many = omega arith }))
-  add-blamed m2 (Damaged Kind) f none most kind unreserved misled dir unmoved =
-      let x = full (kind refl) in
-      inl (inr (record {
-        number = to;
-        reached = is.to_is.reached;
-        dir = is.to_is.dir;
-        full = x.1;
-        more = inr (record { other = from; apart = λ q. x.0 (sym q); reached = is.from_is.reached; dir = is.from_is.dir; some = omega (arith, gone.size) });
-      }))
-  add-blamed m2 (Damaged Bitmap) f none most kind unreserved misled dir unmoved = inl (inl (λ r. unreserved refl (reserved-after r)))
-  add-blamed m2 (Damaged Pointer) f none most kind unreserved misled dir unmoved =
-      let d = dir Pointer refl (λ e. absurd cc) in
-      inr (subst (λ (m : ℕ → List ℕ). BadPointer entry lot m0 m) (sym (unmoved refl)) (bad-pointer entry lot m0 m1 to (dir_blocks entry (inode_of m1 to).size) is.to_is.reached (inr d) (map-dir entry (inode_of m1 to) d.kind) (misled refl)))
-  add-blamed m2 _ f none most kind unreserved misled dir unmoved = absurd f
+      inl (record { inodes = false; many = omega arith })
+  add-blamed (Damaged Kind) f none most kind unreserved misled = absurd (kind refl (has-room dir-now))
+  add-blamed (Damaged Bitmap) f none most kind unreserved misled = inl (λ r. unreserved refl (reserved-after r))
+  add-blamed (Damaged Pointer) f none most kind unreserved misled = misled-before (misled refl)
+  add-blamed _ f none most kind unreserved misled = absurd f

@@ -24,7 +24,7 @@ use Rattle.ice_tree.specs.declared.ends.Spot.{Spot}
 use Rattle.ice_tree.specs.Broken.{IsBrokenBy}
 use Rattle.ice_tree.specs.Grounds.{NewFits}
 use Rattle.ice_tree.proofs.MakeLaws.{NodePut}
-use Rattle.ice_tree.proofs.MapDamage.{map-dir, dir-few, misleads-same, bad-pointer, full-directory}
+use Rattle.ice_tree.proofs.MapDamage.{map-dir, dir-few, misleads-same, bad-pointer}
 
 module _ (entry : ℕ) (e64 : entry ≡ 64) (lot : LotView) (few : length lot.groups ≤ 64) (m0 : Map) (spot : Spot) (fits : NewFits entry lot m0 spot) where
   -- no inode can be taken
@@ -74,17 +74,10 @@ module _ (entry : ℕ) (e64 : entry ≡ 64) (lot : LotView) (few : length lot.gr
         let small = fits.spot_is.dir.few in
         let is = fits.spot_is.entries in
         inl (record { inodes = false; many = omega (arith, few, q, same-count, dir-few entry (spot.entries + 1) e64 (omega (arith, few, small, is))) })
-    add-blamed (Damaged Kind) h none full kind pointer unreserved =
-        inr (record {
-          number = spot.number;
-          reached = fits.spot_is.reached;
-          dir = fits.spot_is.dir;
-          full = full-directory lot (inode_of m0 spot.number) fits.spot_is.dir (subst (λ (x : Inode). ¬ HasRoom lot x) same-node (kind refl));
-          more = inl fits.node;
-        })
+    add-blamed (Damaged Kind) h none full kind pointer unreserved = absurd (kind refl (subst (λ (x : Inode). HasRoom lot x) (sym same-node) (record { is = fits.spot_is.dir; room = omega (arith, fits.room, fits.spot_is.entries) })))
     add-blamed (Damaged Pointer) h none full kind pointer unreserved =
         let x = inode_of m0 spot.number in
         let bad = misleads-same lot m0 m2 x (dir_blocks entry x.size) (λ d. same-data x.single d) (subst (λ (y : Inode). Misleads lot m2 y (dir_blocks entry y.size)) same-node (pointer refl)) in
-        bad-pointer entry lot m0 m0 spot.number (dir_blocks entry x.size) fits.spot_is.reached (inr fits.spot_is.dir) (map-dir entry x fits.spot_is.dir.kind) bad
+        inl (bad-pointer entry lot m0 spot.number (dir_blocks entry x.size) fits.spot_is.reached (inr fits.spot_is.dir) (map-dir entry x fits.spot_is.dir.kind) bad)
     add-blamed (Damaged Bitmap) h none full kind pointer unreserved = inl (λ reserved. unreserved refl (record { set = λ b l r. same-blocks b ∙ reserved.set b l r }))
     add-blamed _ h none full kind pointer unreserved = absurd h

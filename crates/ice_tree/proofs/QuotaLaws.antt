@@ -16,7 +16,7 @@ use Rattle.ice_tree.specs.Stages.{nodes_refusal, blocks_refusal}
 few_nodes : (n x : ℕ) → x ≤ node_quota n → (t : Tree) → nodes t ≡ x → nodes_refusal n t ≡ None
 few_nodes n x h t e = grind (arith, nat_tests)
 
-many_nodes : (n x : ℕ) → node_quota n < x → (t : Tree) → nodes t ≡ x → nodes_refusal n t ≡ Some why.NoNodes
+pub many_nodes : (n x : ℕ) → node_quota n < x → (t : Tree) → nodes t ≡ x → nodes_refusal n t ≡ Some why.NoNodes
 many_nodes n x h t e = grind (arith, nat_tests)
 
 few_blocks : (n x : ℕ) (f : Form) → x ≤ block_quota n → (t : Tree) → blocks f t ≡ x → blocks_refusal n f t ≡ None

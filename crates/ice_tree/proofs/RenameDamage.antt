@@ -7,7 +7,7 @@ use Rattle.ice_base.specs.declared.fault.Rule.TheVariants.{InodeTwice}
 use Rattle.ice_dir.specs.Rows.{look_up, rows_of}
 use Rattle.tree_spec.specs.Costs.{Form, form_one, map_cost}
 use Rattle.tree_spec.specs.Costs as tree
-use Rattle.ice_tree.specs.Broken.{IsBrokenBy, spread_at}
+use Rattle.ice_tree.specs.Broken.{IsBrokenBy, Overfull, spread_at}
 use Rattle.ice_tree.specs.Changes.{EndsFit}
 use Rattle.ice_tree.specs.Grounds.{EndsAre, MoveIs, SpotIs, RowFits, HasFree}
 use Rattle.ice_tree.specs.Places.{PlaceFits, PlaceIs, PlaceReached, PlaceNamed, is_place, is_dir_place}
@@ -73,14 +73,28 @@ module _ (entry : ℕ) (lot : LotView) (m : ℕ → List ℕ) where
   height-broken place number size levels budget at all reached e (inl b) = b
   height-broken place number size levels budget at all reached e (inr x) =
       let many = subst (λ (p : Place). budget < spread_at entry m levels p) at x.1 in
-      subst (IsBrokenBy entry lot m) (sym x.0) (inr (record { number = number; levels = levels; reached = subst (PlaceReached entry lot m) at reached; many = omega (arith, all, many) }))
+      subst (IsBrokenBy entry lot m) (sym x.0) (inr (inr (record { number = number; levels = levels; reached = subst (PlaceReached entry lot m) at reached; many = omega (arith, all, many) })))
+
+  -- two directories that have too many entries
+  pub overfull-of : (name : List ℕ) (step : Move) → MoveIs entry lot m name step → (step.from.number ≢ step.to.number) × (64 * length lot.groups ≤ step.from.entries + step.to.entries) → Overfull entry lot m
+  overfull-of name step is many = record {
+    one = step.from.number;
+    other = step.to.number;
+    apart = many.0;
+    reached = is.from_is.reached;
+    reached_too = is.to_is.reached;
+    dir = is.from_is.dir;
+    dir_too = is.to_is.dir;
+    many = omega (arith, many.1, is.from_is.entries, is.to_is.entries);
+  }
 
   -- the blocks that a rename needs are free
-  pub row-fits : (f : Form) → f ≡ form_one → entry ≡ 64 → (step : Move) (need : Need) → step.from.entries < 4096 → step.to.entries < 4096
+  pub row-fits : (f : Form) → f ≡ form_one → entry ≡ 64 → (step : Move) (need : Need) → step.from.entries < 4096 → step.to.entries < 4096 → (step.from.number ≢ step.to.number → step.from.entries + step.to.entries < 64 * length lot.groups)
       → (step.same ≡ false → step.from.number ≢ step.to.number → (need.blocks ≡ map_cost (tree.dir_blocks f (step.to.entries + 1)) + map_cost (tree.dir_blocks f (step.from.entries - 1)))
       × (need.freed ≡ map_cost (tree.dir_blocks f step.to.entries) + map_cost (tree.dir_blocks f step.from.entries)))
       → HasFree lot m need → RowFits entry lot m step
-  row-fits f one e64 step need from to costs free = record {
+  row-fits f one e64 step need from to few costs free = record {
+    room = few;
     blocks = λ differ apart.
         let c = costs differ apart in
         let more = dir-cost f one entry e64 (step.to.entries + 1) (omega arith) in

@@ -19,9 +19,6 @@ use Rattle.ice_reads.specs.Reads.{Reads, inode_on}
 use Rattle.ice_reads.specs.Recovers.{MapRecovers}
 use Rattle.ice_reads.proofs.Focus.{Reads-part}
 use Rattle.ice_reads.proofs.Numbers.{Reads-depth}
-use Rattle.ice_base.specs.declared.fault.OpFault.{OpFault}
-use Rattle.ice_base.specs.declared.fault.OpFault.TheVariants as op
-use Rattle.ice_base.specs.declared.fault.Rule.TheVariants.{Bitmap}
 use Rattle.tree_spec.proofs.Accepted.{first_false, second_false, has_entry, tree_walk, dir_walk, IsDirWalk}
 use Rattle.ice_steps.proofs.Quotas.{free_nodes_are}
 use Rattle.tree_spec.specs.Operations.{Operation}
@@ -32,7 +29,7 @@ use Rattle.ice_tree.specs.declared.place.Place.{Place}
 use Rattle.ice_tree.specs.declared.place.Place.TheVariants as at_place
 use Rattle.ice_tree.specs.declared.renames.Move.{Move}
 use Rattle.ice_tree.specs.Changes.{IsSpot}
-use Rattle.ice_tree.specs.Outcomes.{IsTreeRefusal, RefusedAs, refusal_by}
+use Rattle.ice_tree.specs.Outcomes.{RefusedAs}
 use Rattle.ice_tree.specs.Places.{place_at, place_by}
 use Rattle.ice_tree.proofs.LookLaws.{ends_dir}
 use Rattle.ice_tree.proofs.LookLaws.{later_stage}
@@ -171,13 +168,6 @@ names-short f p q xs c h is =
     by-two true second deep h k = absurd (no h)
     by-two false true deep h k = absurd (no h)
     by-two false false deep h k = k refl
-
--- a fault of the calls below is one that a tree answers
-pub refusal-set : (e : OpFault) → IsTreeRefusal (refusal_by e)
-refusal-set op.Disk = tt
-refusal-set (op.Damaged r) = (r, refl)
-refusal-set op.NoSpace = (Bitmap, refl)
-refusal-set op.NoNodes = (Bitmap, refl)
 
 -- ---- what a rename finds
 

@@ -1,29 +1,16 @@
 -- What a call answers that changes a tree: the refusal that was found, or the value of the accepted operation with the next tree.
-use Rattle.std.proofs.Common.{◌≡◌, ◌+◌, ℕ, true, None, Ok, Err, sym, refl, ap, subst, ◌∙◌}
+use Rattle.std.proofs.Common.{◌≡◌, ◌+◌, ℕ, true, None, Ok, Err, sym, ap, subst, ◌∙◌}
 use Rattle.ice_base.specs.Lots.{LotView}
-use Rattle.ice_base.specs.declared.fault.OpFault.{OpFault}
-use Rattle.ice_base.specs.declared.fault.OpFault.TheVariants.{Disk, Damaged, NoSpace, NoNodes}
-use Rattle.ice_base.specs.declared.fault.Rule.TheVariants as rule
 use Rattle.tree_spec.specs.Trees.{Tree}
 use Rattle.tree_spec.specs.Costs.{Form}
 use Rattle.tree_spec.specs.Operations.{Operation, is_change}
 use Rattle.tree_spec.specs.Answers.{refusal, answer, next}
 use Rattle.tree_spec.specs.Replies.{Refused, Plain}
-use Rattle.tree_spec.specs.declared.reply.Refusal.{Refusal}
 use Rattle.tree_spec.proofs.Refusals.{answer-accepted, accepted_value-change}
 use Rattle.ice_reads.specs.Tables.{Map}
 use Rattle.ice_reads.specs.Recovers.{MapRecovers}
-use Rattle.ice_tree.specs.Outcomes.{AsModel, RefusedAs, IsTreeRefusal, refusal_by}
+use Rattle.ice_tree.specs.Outcomes.{AsModel, RefusedAs}
 use Rattle.ice_tree.proofs.LookLaws.{as_model}
-
-pub fault-set : (r : Refusal) (e : OpFault) → r ≡ refusal_by e → IsTreeRefusal r
-fault-set r e is = subst IsTreeRefusal (sym is) (by e)
-  where
-    by : (e : OpFault) → IsTreeRefusal (refusal_by e)
-    by Disk = tt
-    by (Damaged x) = (x, refl)
-    by NoSpace = (rule.Bitmap, refl)
-    by NoNodes = (rule.Bitmap, refl)
 
 module _ (t : Tree) (k n : ℕ) (f : Form) (op : Operation) where
   -- a refusal that is the tree's

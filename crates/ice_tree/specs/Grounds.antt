@@ -1,10 +1,14 @@
 -- What the checks before a change find in a lot, also in one that recovers no tree.
-use Rattle.std.specs.Prelude.{◌≡◌, ◌≢◌, ◌≤◌, ◌<◌, ◌^◌, ℕ, ◌+◌, ◌-◌, ◌*◌, true, false, List, length, slice_get, Some}
+use Rattle.std.specs.Prelude.{◌≡◌, ◌≢◌, ◌≤◌, ◌<◌, ◌^◌, ◌⊎◌, ℕ, ◌+◌, ◌-◌, ◌*◌, true, false, List, length, slice_get, Some}
 use Rattle.ice_base.specs.Fields.{long_at}
 use Rattle.ice_base.specs.Lots.{LotView, sub_address}
-use Rattle.ice_base.specs.Used.{free_count}
+use Rattle.ice_base.specs.Used.{is_data, used_inode, counted, free_count}
+use Rattle.ice_base.specs.declared.fault.Rule.{Rule}
+use Rattle.ice_base.specs.declared.fault.Rule.TheVariants as rule
 use Rattle.ice_map.specs.Inodes.{inode_of}
-use Rattle.ice_file.specs.Files.{ReachesTo}
+use Rattle.ice_map.specs.Maps.{uses, Misleads, UsesUnmarked}
+use Rattle.ice_map.specs.Maps.{HasTwice}
+use Rattle.ice_file.specs.Files.{longest_file, ReachesTo}
 use Rattle.ice_file.specs.Own.{blocks_for}
 use Rattle.ice_file.specs.Writes.{uses_of, blocks_with}
 use Rattle.ice_dir.specs.Changes.{dir_blocks}
@@ -43,6 +47,7 @@ pub record SpotIs (entry : ℕ) (lot : LotView) (m : ℕ → List ℕ) (spot : S
 -- such a directory, with what a new entry for a new inode needs
 pub record NewFits (entry : ℕ) (lot : LotView) (m : ℕ → List ℕ) (spot : Spot) : Type 0 where
   pub spot_is : SpotIs entry lot m spot
+  pub room : spot.entries + 1 < 64 * length lot.groups
   pub node : 1 ≤ free_count true lot m
   pub blocks : uses_of (dir_blocks entry (spot.entries + 1)) ≤ uses_of (dir_blocks entry spot.entries) + free_count false lot m
   pub done : CanCount m
@@ -65,6 +70,17 @@ pub record GoneIs (entry : ℕ) (lot : LotView) (m : ℕ → List ℕ) (name : L
   pub reached : IsReached entry lot m gone.number
   pub file : 0 < gone.bytes → ReachesTo 0 (inode_of m gone.number)
 
+-- what is damaged of a file or an empty directory at an inode, whether or not a directory names it, by the rule on counts, pointers or bitmaps
+abbrev pub LooseBroken : LotView → (ℕ → List ℕ) → ℕ → Rule → Type 0
+LooseBroken lot m number rule.Counts =
+    (((inode_of m number).kind ≡ 1) × ((inode_of m number).size ≤ longest_file) × (counted false m < uses_of (blocks_for (inode_of m number).size))) ⊎ (counted true m ≡ 0)
+LooseBroken lot m number rule.Pointer = ((inode_of m number).kind ≡ 1) × ((inode_of m number).size ≤ longest_file) × Misleads lot m (inode_of m number) (blocks_for (inode_of m number).size)
+LooseBroken lot m number rule.Bitmap =
+    (((inode_of m number).kind ≡ 1) × ((inode_of m number).size ≤ longest_file)
+    × (12 < blocks_for (inode_of m number).size → is_data lot (inode_of m number).single ≡ true)
+    × (UsesUnmarked m (inode_of m number) (blocks_for (inode_of m number).size) ⊎ HasTwice (uses m (inode_of m number) (blocks_for (inode_of m number).size)))) ⊎ (used_inode m number ≡ false)
+LooseBroken lot m number _ = ⊥
+
 -- what is renamed: a directory names it so, and another one is to take it
 pub record MoveIs (entry : ℕ) (lot : LotView) (m : ℕ → List ℕ) (name : List ℕ) (step : Move) : Type 0 where
   pub from_is : SpotIs entry lot m step.from
@@ -73,8 +89,9 @@ pub record MoveIs (entry : ℕ) (lot : LotView) (m : ℕ → List ℕ) (name : L
   pub below : number < 64 * length lot.groups
   pub named : look_up name (rows_of entry m step.from.number) ≡ Some number
 
--- as many blocks are free as a rename needs, and one more operation can be counted
+-- as many inodes and blocks are there as a rename needs, and one more operation can be counted
 pub record RowFits (entry : ℕ) (lot : LotView) (m : ℕ → List ℕ) (step : Move) : Type 0 where
+  pub room : step.from.number ≢ step.to.number → step.from.entries + step.to.entries < 64 * length lot.groups
   pub blocks : step.same ≡ false → step.from.number ≢ step.to.number
       → uses_of (dir_blocks entry (step.to.entries + 1)) + uses_of (dir_blocks entry (step.from.entries - 1)) ≤ uses_of (dir_blocks entry step.to.entries) + uses_of (dir_blocks entry step.from.entries) + free_count false lot m
   pub done : CanCount m

@@ -1,10 +1,13 @@
 -- Trees that are taken away or moved.
-use Rattle.std.specs.Prelude.{◌≡◌, ◌≤◌, ◌<◌, ℕ, ◌+◌, ◌*◌, false, List, length, slice_get, Option, Some, None, if◌then◌else◌}
+use Rattle.std.specs.Prelude.{◌≡◌, ◌≤◌, ◌<◌, ℕ, ◌+◌, ◌*◌, false, List, length, replicate, slice_get, Option, Some, None, if◌then◌else◌}
 use Rattle.std.specs.FinMap.{find}
 use Rattle.ice_base.specs.Lots.{LotView}
 use Rattle.ice_base.specs.declared.fault.OpFault.{OpFault}
 use Rattle.ice_base.specs.declared.fault.OpFault.TheVariants.{Disk, Damaged}
 use Rattle.ice_base.specs.declared.fault.Rule.TheVariants.{Kind, Pointer, InodeTwice, Name}
+use Rattle.ice_base.specs.Inodes.{inode_address, inode_index}
+use Rattle.ice_map.specs.declared.codec.Inode.{Inode}
+use Rattle.ice_map.specs.Inodes.{inode_of, Blank}
 use Rattle.ice_file.specs.Files.{longest_file}
 use Rattle.tree_spec.specs.Why.{Why}
 use Rattle.tree_spec.specs.Why as why
@@ -46,6 +49,15 @@ IsHeightFault _ = ⊥
 -- the refusal of a removal by what stands at the path
 abbrev pub gone_refusal : List (List ℕ) → Tree → Option Why
 gone_refusal p t = or_else (walk_refusal (walk p t)) (or_else (if is_root p then Some why.IsRoot else None) (if is_full_found (walk p t) then Some why.NotEmpty else None))
+
+-- the inode of nothing
+abbrev pub free_inode : Inode
+free_inode = record { kind = 0; size = 0; direct = replicate 12 0; single = 0; double = 0 }
+
+-- all 128 bytes of an inode are 0, those of its fields and those in which no field stands
+pub record Freed (m : Map) (number : ℕ) : Type 0 where
+  pub value : inode_of m number ≡ free_inode
+  pub blank : Blank (m (inode_address number)) (inode_index number)
 
 -- what stands at a path: its directory, its inode, and the bytes of a file
 pub record IsGone (f : Form) (o : Table) (p : List (List ℕ)) (t : Tree) (gone : Gone) : Type 0 where

@@ -1,13 +1,14 @@
 -- What a call over a tree may answer.
-use Rattle.std.specs.Prelude.{◌≡◌, ◌⊎◌, ℕ, Option, Some, None, Result, Ok, Err, ⊤}
+use Rattle.std.specs.Prelude.{◌≡◌, ℕ, nat_eq, true, List, [], ◌∷◌, Option, Some, None, Result, Ok, Err, ⊤}
+use Rattle.std.specs.List.{list_any}
 use Rattle.ice_base.specs.declared.fault.OpFault.{OpFault}
 use Rattle.ice_base.specs.declared.fault.OpFault.TheVariants as op
-use Rattle.ice_base.specs.declared.fault.Rule.{Rule}
 use Rattle.ice_base.specs.declared.fault.Rule.TheVariants as rule
 use Rattle.tree_spec.specs.Why.{Why}
-use Rattle.tree_spec.specs.Replies.{Response, Refused, Because, Fault, Memory, Plain, refused_of}
+use Rattle.tree_spec.specs.Replies.{Response, Refused, Because, Fault, Memory, Plain, refused_of, number_of}
 use Rattle.tree_spec.specs.declared.reply.Refusal.{Refusal}
 use Rattle.tree_spec.specs.declared.reply.Refusal.TheVariants as code
+use Rattle.ice_rules.specs.Rules.{rule_number}
 
 -- the reply is the model's, but where the disk failed
 abbrev pub AsModel : Response → Response → Type 0
@@ -27,24 +28,6 @@ RefusedAs Fault found = ⊤
 RefusedAs Memory found = ⊥
 RefusedAs (Because r) found = found ≡ Some r
 
--- the number of a rule
-abbrev pub rule_number : Rule → ℕ
-rule_number rule.Magic = 1
-rule_number rule.Version = 2
-rule_number rule.Slot = 3
-rule_number rule.Mode = 4
-rule_number rule.Done = 5
-rule_number rule.Counts = 6
-rule_number rule.Kind = 7
-rule_number rule.Pointer = 8
-rule_number rule.BlockTwice = 9
-rule_number rule.InodeTwice = 10
-rule_number rule.Name = 11
-rule_number rule.NameTwice = 12
-rule_number rule.Bitmap = 13
-rule_number rule.Depth = 14
-rule_number rule.Header = 15
-
 -- a fault of a call below as a refusal: want of space or nodes that the quota didn't show is a damaged bitmap
 abbrev pub refusal_by : OpFault → Refusal
 refusal_by op.Disk = code.Fault
@@ -52,48 +35,65 @@ refusal_by (op.Damaged r) = code.Damaged (rule_number r)
 refusal_by op.NoSpace = code.Damaged 13
 refusal_by op.NoNodes = code.Damaged 13
 
--- the refusals of a tree, 1 to 14, with a fault of the disk and a damaged lot
-abbrev pub IsTreeRefusal : Refusal → Type 0
-IsTreeRefusal code.NameLong = ⊤
-IsTreeRefusal code.TooDeep = ⊤
-IsTreeRefusal code.NotFound = ⊤
-IsTreeRefusal code.NotDir = ⊤
-IsTreeRefusal code.IsDir = ⊤
-IsTreeRefusal code.IsRoot = ⊤
-IsTreeRefusal code.Exists = ⊤
-IsTreeRefusal code.NotEmpty = ⊤
-IsTreeRefusal code.IntoItself = ⊤
-IsTreeRefusal code.BeyondEnd = ⊤
-IsTreeRefusal code.FileBig = ⊤
-IsTreeRefusal code.NoNodes = ⊤
-IsTreeRefusal code.NoSpace = ⊤
-IsTreeRefusal code.Spent = ⊤
-IsTreeRefusal (code.Damaged number) = (r : Rule) × (number ≡ rule_number r)
-IsTreeRefusal code.Fault = ⊤
-IsTreeRefusal _ = ⊥
+-- ---- the refusals of each call, and the rules that its damage names, by their numbers
 
--- the refusals of what changes nothing: those of its path and place, and damage of an inode, a pointer, an entry's inode or an entry's name
-abbrev pub IsLookRefusal : Refusal → Type 0
-IsLookRefusal code.NameLong = ⊤
-IsLookRefusal code.TooDeep = ⊤
-IsLookRefusal code.NotFound = ⊤
-IsLookRefusal code.NotDir = ⊤
-IsLookRefusal code.IsDir = ⊤
-IsLookRefusal code.BeyondEnd = ⊤
-IsLookRefusal (code.Damaged number) = (number ≡ 7) ⊎ (number ≡ 8) ⊎ (number ≡ 10) ⊎ (number ≡ 11)
-IsLookRefusal code.Fault = ⊤
-IsLookRefusal _ = ⊥
+-- a refusal is one of these, or it names damage by one of these rules, or the disk failed
+abbrev pub IsOneOf : List ℕ → List ℕ → Refusal → Type 0
+IsOneOf refusals rules (code.Damaged rule) = list_any (nat_eq rule) rules ≡ true
+IsOneOf refusals rules code.Fault = ⊤
+IsOneOf refusals rules r = list_any (nat_eq (number_of r)) refusals ≡ true
+
+-- a fault of a call below is the disk's, or as a refusal it names one of these rules
+abbrev pub IsNamedIn : List ℕ → OpFault → Type 0
+IsNamedIn rules e = IsOneOf [] rules (refusal_by e)
+
+-- `mkdir` and `make`
+abbrev pub make_refusals : List ℕ
+make_refusals = 1 ∷ 2 ∷ 3 ∷ 4 ∷ 6 ∷ 7 ∷ 12 ∷ 13 ∷ 14 ∷ []
+
+abbrev pub write_refusals : List ℕ
+write_refusals = 1 ∷ 2 ∷ 3 ∷ 4 ∷ 5 ∷ 10 ∷ 11 ∷ 13 ∷ 14 ∷ []
+
+abbrev pub trunc_refusals : List ℕ
+trunc_refusals = 1 ∷ 2 ∷ 3 ∷ 4 ∷ 5 ∷ 10 ∷ 14 ∷ []
+
+abbrev pub remove_refusals : List ℕ
+remove_refusals = 1 ∷ 2 ∷ 3 ∷ 4 ∷ 6 ∷ 8 ∷ 14 ∷ []
+
+abbrev pub rename_refusals : List ℕ
+rename_refusals = 1 ∷ 2 ∷ 3 ∷ 4 ∷ 6 ∷ 7 ∷ 9 ∷ 13 ∷ 14 ∷ []
+
+abbrev pub read_refusals : List ℕ
+read_refusals = 1 ∷ 2 ∷ 3 ∷ 4 ∷ 5 ∷ 10 ∷ []
+
+-- `stat` and `list`
+abbrev pub look_refusals : List ℕ
+look_refusals = 1 ∷ 2 ∷ 3 ∷ 4 ∷ []
+
+-- the rules of the sub-super block: its first bytes, version, slot, mode and count of operations
+abbrev pub sub_rules : List ℕ
+sub_rules = 1 ∷ 2 ∷ 3 ∷ 4 ∷ 5 ∷ []
+
+-- those of a look at inodes: a kind, a pointer, the inode of an entry
+abbrev pub look_rules : List ℕ
+look_rules = 7 ∷ 8 ∷ 10 ∷ []
+
+-- with the name of an entry
+abbrev pub list_rules : List ℕ
+list_rules = 7 ∷ 8 ∷ 10 ∷ 11 ∷ []
+
+-- those of a change: of the sub-super block with the counts, of a look, and of a bitmap
+abbrev pub change_rules : List ℕ
+change_rules = 1 ∷ 2 ∷ 3 ∷ 4 ∷ 5 ∷ 6 ∷ 7 ∷ 8 ∷ 10 ∷ 13 ∷ []
+
+-- those of a rename, which looks at the names below what it moves
+abbrev pub rename_rules : List ℕ
+rename_rules = 1 ∷ 2 ∷ 3 ∷ 4 ∷ 5 ∷ 6 ∷ 7 ∷ 8 ∷ 10 ∷ 11 ∷ 13 ∷ []
 
 -- a refusal that names alone show comes before any call of the disk
 abbrev pub ShownBy : {A : Type 0} → Option Why → Result A Refusal → Type 0
 ShownBy None result = ⊤
 ShownBy (Some r) result = meant_plain result ≡ Err (Because r)
-
--- the faults of a look at the sub-super block
-abbrev pub IsSubFault : OpFault → Type 0
-IsSubFault op.Disk = ⊤
-IsSubFault (op.Damaged r) = ⊤
-IsSubFault _ = ⊥
 
 -- those of one more accepted operation
 abbrev pub IsCountFault : OpFault → Type 0

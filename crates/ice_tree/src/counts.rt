@@ -12,7 +12,7 @@ ghost use Rattle.tree_spec.specs.Trees.{Tree};
 ghost use Rattle.tree_spec.specs.Costs.{form_of};
 ghost use Rattle.ice_reads.specs.Recovers.{MapRecovers};
 ghost use Rattle.ice_steps.specs.Beside.{DoneSet};
-ghost use Rattle.ice_tree.specs.Outcomes.{IsSubFault, IsCountFault};
+ghost use Rattle.ice_tree.specs.Outcomes.{IsNamedIn, sub_rules, IsCountFault};
 
 use ice_base::{
     Disk, Form, Keep, Lot, OpFault, Rule, SUB, View, fetch, read_u64, store, write_u64,
@@ -39,7 +39,7 @@ pub(crate) fn done_of<D: Disk, V: View<D>, F: Form>(
     ensures small { IfOk result (λ done. done < 2 ^ 63) }
     ensures rule { (r : Rule) → IsErrOf result (Damaged r) → V.shows lot.now view.old disk.old → sub_rule lot.now.slot (V.map view.old disk.old lot.now sub_address) ≡ Some r }
     ensures looked { Looked D.Disk V.View lot.now view.old disk.old view.new disk.new }
-    ensures faults { IfErr result IsSubFault }
+    ensures faults { IfErr result (IsNamedIn sub_rules) }
     ensures failed { IsErrOf result FaultDisk → Rose (D.state disk.old).faults (D.state disk.new).faults }
 {
     let mut block = [0; 1024];

@@ -19,9 +19,10 @@ ghost use Rattle.tree_spec.specs.declared.reply.Value.TheVariants.{Listed};
 ghost use Rattle.ice_reads.specs.Reads.{Reads};
 ghost use Rattle.ice_reads.specs.Recovers.{MapRecovers};
 ghost use Rattle.ice_reads.specs.Tables.{own_in, rows_in};
+ghost use Rattle.ice_rules.specs.Rules.{rule_number};
 ghost use Rattle.ice_tree.specs.Broken.{IsBroken, IsBrokenBy};
 ghost use Rattle.ice_tree.specs.Listings.{listed_as, IsListFault};
-ghost use Rattle.ice_tree.specs.Outcomes.{AsModel, ShownBy, IsTreeRefusal, IsLookRefusal, rule_number};
+ghost use Rattle.ice_tree.specs.Outcomes.{AsModel, ShownBy, IsOneOf, look_refusals, list_rules};
 ghost use Rattle.ice_tree.specs.Places.{IsReached};
 ghost use Rattle.ice_tree.specs.Stages.{paths_refusal};
 
@@ -133,8 +134,7 @@ pub fn list<D: Disk, V: View<D>, F: Form>(
     ensures tallies { Tallies result room.new }
     ensures damaged { (n : ℕ) → IsErrOf result (Damaged n) → V.shows lot.now view.old disk.old → (r : Rule) × (n ≡ rule_number r) × IsBroken F.ENTRY lot.now (V.map view.old disk.old lot.now) r }
     ensures looked { Looked D.Disk V.View lot.now view.old disk.old view.new disk.new }
-    ensures set { IfErr result IsTreeRefusal }
-    ensures few { IfErr result IsLookRefusal }
+    ensures set { IfErr result (IsOneOf look_refusals list_rules) }
     ensures failed { IsErrOf result Fault → Rose (D.state disk.old).faults (D.state disk.new).faults }
 {
     if let Err(refusal) = check_path::<F>(path, depth) {

@@ -16,8 +16,9 @@ ghost use Rattle.tree_spec.specs.declared.reply.Refusal.TheVariants.{Fault, Dama
 ghost use Rattle.ice_reads.specs.Reads.{inode_on};
 ghost use Rattle.ice_reads.specs.Recovers.{MapRecovers};
 ghost use Rattle.ice_reads.specs.Tables.{own_in};
+ghost use Rattle.ice_rules.specs.Rules.{rule_number};
 ghost use Rattle.ice_tree.specs.Broken.{IsBroken};
-ghost use Rattle.ice_tree.specs.Outcomes.{AsModel, RefusedAs, ShownBy, IsTreeRefusal, IsLookRefusal, rule_number};
+ghost use Rattle.ice_tree.specs.Outcomes.{AsModel, RefusedAs, ShownBy, IsOneOf, read_refusals, look_refusals, look_rules};
 ghost use Rattle.ice_tree.specs.Places.{IsReached, PlaceIs};
 ghost use Rattle.ice_tree.specs.Stages.{paths_refusal, file_refusal, dir_refusal};
 ghost use Rattle.ice_tree.specs.declared.place.Place.TheVariants.{File as AtFile, Dir as AtDir};
@@ -56,8 +57,7 @@ pub(crate) fn file_at<D: Disk, V: View<D>, F: Form>(
     ensures reached { V.shows lot.now view.old disk.old → IfOk result (λ file. IsReached F.ENTRY lot.now (V.map view.old disk.old lot.now) file.number) }
     ensures damaged { (n : ℕ) → IsErrOf result (Damaged n) → V.shows lot.now view.old disk.old → (r : Rule) × (n ≡ rule_number r) × IsBroken F.ENTRY lot.now (V.map view.old disk.old lot.now) r }
     ensures looked { Looked D.Disk V.View lot.now view.old disk.old view.new disk.new }
-    ensures set { IfErr result IsTreeRefusal }
-    ensures few { IfErr result IsLookRefusal }
+    ensures set { IfErr result (IsOneOf read_refusals look_rules) }
     ensures failed { IsErrOf result Fault → Rose (D.state disk.old).faults (D.state disk.new).faults }
 {
     match walk::<D, V, F>(view, disk, lot, path, depth, path.len()) {
@@ -96,8 +96,7 @@ pub(crate) fn dir_at<D: Disk, V: View<D>, F: Form>(
     ensures reached { V.shows lot.now view.old disk.old → IfOk result (λ dir. IsReached F.ENTRY lot.now (V.map view.old disk.old lot.now) dir.number) }
     ensures damaged { (n : ℕ) → IsErrOf result (Damaged n) → V.shows lot.now view.old disk.old → (r : Rule) × (n ≡ rule_number r) × IsBroken F.ENTRY lot.now (V.map view.old disk.old lot.now) r }
     ensures looked { Looked D.Disk V.View lot.now view.old disk.old view.new disk.new }
-    ensures set { IfErr result IsTreeRefusal }
-    ensures few { IfErr result IsLookRefusal }
+    ensures set { IfErr result (IsOneOf look_refusals look_rules) }
     ensures failed { IsErrOf result Fault → Rose (D.state disk.old).faults (D.state disk.new).faults }
 {
     match walk::<D, V, F>(view, disk, lot, path, depth, path.len()) {
@@ -135,8 +134,7 @@ pub fn read<D: Disk, V: View<D>, F: Form>(
     ensures tallies { Tallies result room.new }
     ensures damaged { (n : ℕ) → IsErrOf result (Damaged n) → V.shows lot.now view.old disk.old → (r : Rule) × (n ≡ rule_number r) × IsBroken F.ENTRY lot.now (V.map view.old disk.old lot.now) r }
     ensures looked { Looked D.Disk V.View lot.now view.old disk.old view.new disk.new }
-    ensures set { IfErr result IsTreeRefusal }
-    ensures few { IfErr result IsLookRefusal }
+    ensures set { IfErr result (IsOneOf read_refusals look_rules) }
     ensures failed { IsErrOf result Fault → Rose (D.state disk.old).faults (D.state disk.new).faults }
 {
     if let Err(refusal) = check_path::<F>(path, depth) {
@@ -174,8 +172,7 @@ pub fn stat<D: Disk, V: View<D>, F: Form>(
     ensures tallies { (room : Held) → Tallies result room }
     ensures damaged { (n : ℕ) → IsErrOf result (Damaged n) → V.shows lot.now view.old disk.old → (r : Rule) × (n ≡ rule_number r) × IsBroken F.ENTRY lot.now (V.map view.old disk.old lot.now) r }
     ensures looked { Looked D.Disk V.View lot.now view.old disk.old view.new disk.new }
-    ensures set { IfErr result IsTreeRefusal }
-    ensures few { IfErr result IsLookRefusal }
+    ensures set { IfErr result (IsOneOf look_refusals look_rules) }
     ensures failed { IsErrOf result Fault → Rose (D.state disk.old).faults (D.state disk.new).faults }
 {
     if let Err(refusal) = check_path::<F>(path, depth) {

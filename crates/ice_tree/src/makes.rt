@@ -15,10 +15,11 @@ ghost use Rattle.tree_spec.specs.Why.{Why};
 ghost use Rattle.tree_spec.specs.declared.reply.Refusal.TheVariants.{Fault, Damaged, NotFound, NotDir, IsRoot, Exists};
 ghost use Rattle.ice_reads.specs.Recovers.{MapRecovers};
 ghost use Rattle.ice_reads.specs.Tables.{Table, own_in};
+ghost use Rattle.ice_rules.specs.Rules.{rule_number};
 ghost use Rattle.ice_tree.specs.Broken.{IsBroken, IsBrokenBy};
 ghost use Rattle.ice_tree.specs.Changes.{IsEnds, EndsFit, IsSpot, SpotFits, new_operation, new_refusal, new_inode, Takes};
 ghost use Rattle.ice_tree.specs.Grounds.{EndsAre, SpotIs, NewFits};
-ghost use Rattle.ice_tree.specs.Outcomes.{AsModel, RefusedAs, meant_plain, ShownBy, IsTreeRefusal, rule_number};
+ghost use Rattle.ice_tree.specs.Outcomes.{AsModel, RefusedAs, meant_plain, ShownBy, IsOneOf, IsNamedIn, make_refusals, change_rules};
 ghost use Rattle.ice_tree.specs.Stages.{paths_refusal};
 
 use crate::counts::count_up;
@@ -62,6 +63,7 @@ fn new_spot(ends: &Ends, root: bool) -> Result<Spot, Refusal>
 }
 
 /// Refuses a new directory or file before anything changes: by its path, its place and the quota.
+/// A directory with an entry for each inode but the root stands in a tree that has no inode left.
 #[tactic(auto, using(ice_base::proofs::LotLaws::sited_laws))]
 fn check_new<D: Disk, K: Keep<D>, P: Pool<D, K>, F: Form>(
     keep: &mut K,
@@ -85,7 +87,7 @@ fn check_new<D: Disk, K: Keep<D>, P: Pool<D, K>, F: Form>(
     ensures looked { Looked D.Disk K.View lot.now keep.old disk.old keep.new disk.new }
     ensures ready { K.shows lot.now keep.old disk.old → IfOk result (NewFits F.ENTRY lot.now (K.map keep.old disk.old lot.now)) }
     ensures damaged { (n : ℕ) → IsErrOf result (Damaged n) → K.shows lot.now keep.old disk.old → (r : Rule) × (n ≡ rule_number r) × IsBroken F.ENTRY lot.now (K.map keep.old disk.old lot.now) r }
-    ensures set { IfErr result IsTreeRefusal }
+    ensures set { IfErr result (IsOneOf make_refusals change_rules) }
     ensures failed { IsErrOf result Fault → Rose (D.state disk.old).faults (D.state disk.new).faults }
 {
     if let Err(refusal) = check_path::<F>(path, depth) {
@@ -99,6 +101,9 @@ fn check_new<D: Disk, K: Keep<D>, P: Pool<D, K>, F: Form>(
         Ok(spot) => spot,
         Err(refusal) => return Err(refusal),
     };
+    if spot.entries + 1 >= 64 * lot.len() as u32 {
+        return Err(Refusal::NoNodes);
+    }
     let need = Need {
         nodes: 1,
         lost: 0,
@@ -147,6 +152,7 @@ fn put_node<D: Disk, K: Keep<D>, P: Pool<D, K>, F: Form>(
     ensures spent { Spent D.Disk K.View lot.now 11 keep.old disk.old keep.new disk.new }
     ensures broken { K.shows lot.now keep.old disk.old → NewFits F.ENTRY lot.now (K.map keep.old disk.old lot.now) spot.now → IfErr result (IsBrokenBy F.ENTRY lot.now (K.map keep.old disk.old lot.now)) }
     ensures done { K.shows lot.now keep.old disk.old → OnOk result (long_at (K.map keep.new disk.new lot.now sub_address) 16 ≡ long_at (K.map keep.old disk.old lot.now sub_address) 16) }
+    ensures faults { IfErr result (IsNamedIn change_rules) }
     ensures failed { IsErrOf result FaultDisk → Rose (D.state disk.old).faults (D.state disk.new).faults }
 {
     let number = pool.take_inode(keep, disk, lot)?;
@@ -179,6 +185,7 @@ fn put_new<D: Disk, K: Keep<D>, P: Pool<D, K>, F: Form>(
     ensures counted { OnOk result (K.held keep.new sub_address ≡ true) }
     ensures spent { Spent D.Disk K.View lot.now 12 keep.old disk.old keep.new disk.new }
     ensures broken { K.shows lot.now keep.old disk.old → NewFits F.ENTRY lot.now (K.map keep.old disk.old lot.now) spot.now → IfErr result (IsBrokenBy F.ENTRY lot.now (K.map keep.old disk.old lot.now)) }
+    ensures faults { IfErr result (IsNamedIn change_rules) }
     ensures failed { IsErrOf result FaultDisk → Rose (D.state disk.old).faults (D.state disk.new).faults }
 {
     put_node::<D, K, P, F>(keep, pool, disk, lot, spot, name, dir)?;
@@ -210,7 +217,7 @@ fn make_node<D: Disk, K: Keep<D>, P: Pool<D, K>, F: Form>(
     ensures refused { IfErr result (λ r. number_of r ≤ 14 → Looked D.Disk K.View lot.now keep.old disk.old keep.new disk.new) }
     ensures spent { Spent D.Disk K.View lot.now 96 keep.old disk.old keep.new disk.new }
     ensures damaged { (n : ℕ) → IsErrOf result (Damaged n) → K.shows lot.now keep.old disk.old → (r : Rule) × (n ≡ rule_number r) × IsBroken F.ENTRY lot.now (K.map keep.old disk.old lot.now) r }
-    ensures set { IfErr result IsTreeRefusal }
+    ensures set { IfErr result (IsOneOf make_refusals change_rules) }
     ensures failed { IsErrOf result Fault → Rose (D.state disk.old).faults (D.state disk.new).faults }
 {
     let spot = match check_new::<D, K, P, F>(keep, pool, disk, lot, path, depth) {
@@ -247,7 +254,7 @@ pub fn mkdir<D: Disk, K: Keep<D>, P: Pool<D, K>, F: Form>(
     ensures refused { IfErr result (λ r. number_of r ≤ 14 → Looked D.Disk K.View lot.now keep.old disk.old keep.new disk.new) }
     ensures spent { Spent D.Disk K.View lot.now 96 keep.old disk.old keep.new disk.new }
     ensures damaged { (n : ℕ) → IsErrOf result (Damaged n) → K.shows lot.now keep.old disk.old → (r : Rule) × (n ≡ rule_number r) × IsBroken F.ENTRY lot.now (K.map keep.old disk.old lot.now) r }
-    ensures set { IfErr result IsTreeRefusal }
+    ensures set { IfErr result (IsOneOf make_refusals change_rules) }
     ensures failed { IsErrOf result Fault → Rose (D.state disk.old).faults (D.state disk.new).faults }
 {
     make_node::<D, K, P, F>(keep, pool, disk, lot, path, depth, true)
@@ -276,7 +283,7 @@ pub fn make<D: Disk, K: Keep<D>, P: Pool<D, K>, F: Form>(
     ensures refused { IfErr result (λ r. number_of r ≤ 14 → Looked D.Disk K.View lot.now keep.old disk.old keep.new disk.new) }
     ensures spent { Spent D.Disk K.View lot.now 96 keep.old disk.old keep.new disk.new }
     ensures damaged { (n : ℕ) → IsErrOf result (Damaged n) → K.shows lot.now keep.old disk.old → (r : Rule) × (n ≡ rule_number r) × IsBroken F.ENTRY lot.now (K.map keep.old disk.old lot.now) r }
-    ensures set { IfErr result IsTreeRefusal }
+    ensures set { IfErr result (IsOneOf make_refusals change_rules) }
     ensures failed { IsErrOf result Fault → Rose (D.state disk.old).faults (D.state disk.new).faults }
 {
     make_node::<D, K, P, F>(keep, pool, disk, lot, path, depth, false)

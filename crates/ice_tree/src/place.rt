@@ -79,7 +79,7 @@ pub(crate) fn enter<D: Disk, V: View<D>, F: Form>(
     ensures at { IfOk result (PlaceOf number) }
     ensures is { V.shows lot.now view.old disk.old → IfOk result (PlaceIs (V.map view.old disk.old lot.now)) }
     ensures reached { V.shows lot.now view.old disk.old → Reached F.ENTRY lot.now (V.map view.old disk.old lot.now) number → IfOk result (PlaceReached F.ENTRY lot.now (V.map view.old disk.old lot.now)) }
-    ensures broken { V.shows lot.now view.old disk.old → Reached F.ENTRY lot.now (V.map view.old disk.old lot.now) number → (64 * length lot.now.groups ≤ number → BadEntry F.ENTRY lot.now (V.map view.old disk.old lot.now) (V.map view.old disk.old lot.now)) → IfErr result (IsBrokenBy F.ENTRY lot.now (V.map view.old disk.old lot.now)) }
+    ensures broken { V.shows lot.now view.old disk.old → Reached F.ENTRY lot.now (V.map view.old disk.old lot.now) number → (64 * length lot.now.groups ≤ number → BadEntry F.ENTRY lot.now (V.map view.old disk.old lot.now)) → IfErr result (IsBrokenBy F.ENTRY lot.now (V.map view.old disk.old lot.now)) }
     ensures looked { Looked D.Disk V.View lot.now view.old disk.old view.new disk.new }
     ensures faults { IfErr result IsWalkFault }
     ensures failed { IsErrOf result FaultDisk → Rose (D.state disk.old).faults (D.state disk.new).faults }

@@ -1,5 +1,5 @@
 //! What a change needs: nodes, blocks, and one more accepted operation.
-ghost use Rattle.std.specs.Prelude.{◌≡◌, ◌≤◌, ◌+◌, ℕ, true, false, None, OnOk, IfErr, IsErrOf, MatchResult, length};
+ghost use Rattle.std.specs.Prelude.{◌≡◌, ◌≤◌, ◌<◌, ◌+◌, ℕ, true, false, [], ◌∷◌, None, OnOk, IfErr, IsErrOf, MatchResult, length};
 ghost use Rattle.ice_base.specs.Disk.{Rose};
 ghost use Rattle.ice_base.specs.Lots.{is_sited};
 ghost use Rattle.ice_base.specs.Used.{free_count};
@@ -8,13 +8,14 @@ ghost use Rattle.ice_base.specs.declared.fault.Rule.{Rule};
 ghost use Rattle.tree_spec.specs.Costs.{form_of, map_cost, file_blocks, dir_blocks};
 ghost use Rattle.tree_spec.specs.Replies.{refused_of};
 ghost use Rattle.tree_spec.specs.Trees.{Tree};
-ghost use Rattle.tree_spec.specs.declared.reply.Refusal.TheVariants.{Fault, Damaged};
+ghost use Rattle.tree_spec.specs.declared.reply.Refusal.TheVariants.{NoNodes, NoSpace, Fault, Damaged};
 ghost use Rattle.ice_file.specs.Files.{longest_file};
 ghost use Rattle.ice_reads.specs.Recovers.{MapRecovers};
+ghost use Rattle.ice_rules.specs.Rules.{rule_number};
 ghost use Rattle.ice_tree.specs.Broken.{IsBroken};
 ghost use Rattle.ice_tree.specs.Changes.{Needs};
 ghost use Rattle.ice_tree.specs.Grounds.{CanCount, HasFree};
-ghost use Rattle.ice_tree.specs.Outcomes.{RefusedAs, IsTreeRefusal, rule_number};
+ghost use Rattle.ice_tree.specs.Outcomes.{RefusedAs, IsOneOf, sub_rules};
 ghost use Rattle.ice_tree.specs.Stages.{quota_refusal, nodes_refusal, blocks_refusal, done_refusal};
 
 use crate::counts::{MOST_DONE, done_of};
@@ -69,7 +70,8 @@ fn check_nodes<D: Disk, K: Keep<D>, P: Pool<D, K>, F: Form>(
     ensures enough { K.shows lot.now keep.old disk.old → OnOk result (need.now.nodes ≤ need.now.lost + free_count true lot.now (K.map keep.old disk.old lot.now)) }
     ensures damaged { (n : ℕ) → IsErrOf result (Damaged n) → K.shows lot.now keep.old disk.old → (r : Rule) × (n ≡ rule_number r) × IsBroken F.ENTRY lot.now (K.map keep.old disk.old lot.now) r }
     ensures looked { Looked D.Disk K.View lot.now keep.old disk.old keep.new disk.new }
-    ensures set { IfErr result IsTreeRefusal }
+    ensures more { IsErrOf result NoNodes → need.now.lost < need.now.nodes }
+    ensures set { IfErr result (IsOneOf (12 ∷ []) []) }
     ensures failed { IsErrOf result Fault → Rose (D.state disk.old).faults (D.state disk.new).faults }
 {
     if need.nodes <= need.lost {
@@ -100,7 +102,8 @@ fn check_blocks<D: Disk, K: Keep<D>, P: Pool<D, K>, F: Form>(
     ensures enough { K.shows lot.now keep.old disk.old → OnOk result (need.now.blocks ≤ need.now.freed + free_count false lot.now (K.map keep.old disk.old lot.now)) }
     ensures damaged { (n : ℕ) → IsErrOf result (Damaged n) → K.shows lot.now keep.old disk.old → (r : Rule) × (n ≡ rule_number r) × IsBroken F.ENTRY lot.now (K.map keep.old disk.old lot.now) r }
     ensures looked { Looked D.Disk K.View lot.now keep.old disk.old keep.new disk.new }
-    ensures set { IfErr result IsTreeRefusal }
+    ensures more { IsErrOf result NoSpace → need.now.freed < need.now.blocks }
+    ensures set { IfErr result (IsOneOf (13 ∷ []) []) }
     ensures failed { IsErrOf result Fault → Rose (D.state disk.old).faults (D.state disk.new).faults }
 {
     if need.blocks <= need.freed {
@@ -129,7 +132,7 @@ fn check_done<D: Disk, K: Keep<D>, F: Form>(
     ensures enough { K.shows lot.now keep.old disk.old → OnOk result (CanCount (K.map keep.old disk.old lot.now)) }
     ensures damaged { (n : ℕ) → IsErrOf result (Damaged n) → K.shows lot.now keep.old disk.old → (r : Rule) × (n ≡ rule_number r) × IsBroken F.ENTRY lot.now (K.map keep.old disk.old lot.now) r }
     ensures looked { Looked D.Disk K.View lot.now keep.old disk.old keep.new disk.new }
-    ensures set { IfErr result IsTreeRefusal }
+    ensures set { IfErr result (IsOneOf (14 ∷ []) sub_rules) }
     ensures failed { IsErrOf result Fault → Rose (D.state disk.old).faults (D.state disk.new).faults }
 {
     match done_of::<D, K, F>(keep, disk, lot) {
@@ -157,7 +160,9 @@ pub(crate) fn check_quota<D: Disk, K: Keep<D>, P: Pool<D, K>, F: Form>(
     ensures enough { K.shows lot.now keep.old disk.old → OnOk result (HasFree lot.now (K.map keep.old disk.old lot.now) need.now) }
     ensures damaged { (n : ℕ) → IsErrOf result (Damaged n) → K.shows lot.now keep.old disk.old → (r : Rule) × (n ≡ rule_number r) × IsBroken F.ENTRY lot.now (K.map keep.old disk.old lot.now) r }
     ensures looked { Looked D.Disk K.View lot.now keep.old disk.old keep.new disk.new }
-    ensures set { IfErr result IsTreeRefusal }
+    ensures more_nodes { IsErrOf result NoNodes → need.now.lost < need.now.nodes }
+    ensures more_blocks { IsErrOf result NoSpace → need.now.freed < need.now.blocks }
+    ensures set { IfErr result (IsOneOf (12 ∷ 13 ∷ 14 ∷ []) sub_rules) }
     ensures failed { IsErrOf result Fault → Rose (D.state disk.old).faults (D.state disk.new).faults }
 {
     match check_nodes::<D, K, P, F>(keep, pool, disk, lot, need) {

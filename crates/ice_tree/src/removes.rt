@@ -3,6 +3,7 @@ ghost use Rattle.std.specs.Prelude.{◌≡◌, ◌≢◌, ◌≤◌, ◌<◌, �
 ghost use Rattle.ice_base.specs.Disk.{Rose};
 ghost use Rattle.ice_base.specs.Fields.{long_at};
 ghost use Rattle.ice_base.specs.Lots.{LotView, is_sited, sub_address};
+ghost use Rattle.ice_base.specs.Used.{used_inode, counted};
 ghost use Rattle.ice_base.specs.Views.{Looked, Spent};
 ghost use Rattle.ice_base.specs.declared.fault.OpFault.TheVariants.{Disk as FaultDisk};
 ghost use Rattle.ice_base.specs.declared.fault.Rule.{Rule};
@@ -16,14 +17,16 @@ ghost use Rattle.tree_spec.specs.Trees.{Tree, last_name};
 ghost use Rattle.tree_spec.specs.Why.{Why};
 ghost use Rattle.tree_spec.specs.declared.reply.Refusal.TheVariants.{NotDir, Fault, Damaged};
 ghost use Rattle.ice_reads.specs.Tables.{Table, own_in};
+ghost use Rattle.ice_reads.specs.Reads.{inode_on};
 ghost use Rattle.ice_reads.specs.Recovers.{MapRecovers};
 ghost use Rattle.ice_steps.specs.Beside.{Beside};
-ghost use Rattle.ice_tree.specs.Broken.{IsBroken, IsBrokenFrom, IsBrokenIn, IsFaultBy};
+ghost use Rattle.ice_rules.specs.Rules.{rule_number};
+ghost use Rattle.ice_tree.specs.Broken.{IsBroken, IsBrokenBy, IsFaultBy};
 ghost use Rattle.ice_tree.specs.Changes.{IsEnds, EndsFit};
-ghost use Rattle.ice_tree.specs.Grounds.{CanCount, EndsAre, GoneIs};
-ghost use Rattle.ice_tree.specs.Moves.{gone_refusal, IsGone, GoneFits, Loses, StandsLoose};
-ghost use Rattle.ice_tree.specs.Outcomes.{AsModel, RefusedAs, meant_plain, ShownBy, IsTreeRefusal, rule_number};
-ghost use Rattle.ice_tree.specs.Places.{IsReached, PlaceNamed};
+ghost use Rattle.ice_tree.specs.Grounds.{CanCount, EndsAre, GoneIs, LooseBroken};
+ghost use Rattle.ice_tree.specs.Moves.{gone_refusal, IsGone, GoneFits, Loses, StandsLoose, free_inode, Freed};
+ghost use Rattle.ice_tree.specs.Outcomes.{AsModel, RefusedAs, meant_plain, ShownBy, IsOneOf, IsNamedIn, remove_refusals, sub_rules, change_rules};
+ghost use Rattle.ice_tree.specs.Places.{PlaceNamed};
 ghost use Rattle.ice_tree.specs.declared.place.Place.TheVariants.{Dir};
 ghost use Rattle.ice_tree.specs.Stages.{or_else, paths_refusal, quota_refusal};
 
@@ -72,7 +75,7 @@ fn gone_of(ends: &Ends) -> Result<Gone, Refusal>
     ensures fits { (lot : LotView) → EndsFit lot ends.now → IfOk result (GoneFits lot) }
     ensures is { (entry : ℕ) (lot : LotView) (m : ℕ → List ℕ) (name : List ℕ) → EndsAre entry lot m ends.now → EndsFit lot ends.now → PlaceNamed entry m ends.now.parent name ends.now.end → IfOk result (GoneIs entry lot m name) }
     ensures undamaged { (n : ℕ) → IsErrOf result (Damaged n) → ⊥ }
-    ensures set { IfErr result IsTreeRefusal }
+    ensures set { IfErr result (IsOneOf remove_refusals []) }
     ensures faultless { IsErrOf result Fault → ⊥ }
 {
     match ends.end {
@@ -107,7 +110,7 @@ fn find_gone<D: Disk, V: View<D>, F: Form>(
     ensures looked { Looked D.Disk V.View lot.now view.old disk.old view.new disk.new }
     ensures is { V.shows lot.now view.old disk.old → IfOk result (GoneIs F.ENTRY lot.now (V.map view.old disk.old lot.now) (last_name (drop depth path.now))) }
     ensures damaged { (n : ℕ) → IsErrOf result (Damaged n) → V.shows lot.now view.old disk.old → (r : Rule) × (n ≡ rule_number r) × IsBroken F.ENTRY lot.now (V.map view.old disk.old lot.now) r }
-    ensures set { IfErr result IsTreeRefusal }
+    ensures set { IfErr result (IsOneOf remove_refusals change_rules) }
     ensures failed { IsErrOf result Fault → Rose (D.state disk.old).faults (D.state disk.new).faults }
 {
     if path.len() == depth {
@@ -135,7 +138,7 @@ fn check_gone<D: Disk, K: Keep<D>, P: Pool<D, K>, F: Form>(
     ensures looked { Looked D.Disk K.View lot.now keep.old disk.old keep.new disk.new }
     ensures room { K.shows lot.now keep.old disk.old → OnOk result (CanCount (K.map keep.old disk.old lot.now)) }
     ensures damaged { (n : ℕ) → IsErrOf result (Damaged n) → K.shows lot.now keep.old disk.old → (r : Rule) × (n ≡ rule_number r) × IsBroken F.ENTRY lot.now (K.map keep.old disk.old lot.now) r }
-    ensures set { IfErr result IsTreeRefusal }
+    ensures set { IfErr result (IsOneOf remove_refusals sub_rules) }
     ensures failed { IsErrOf result Fault → Rose (D.state disk.old).faults (D.state disk.new).faults }
 {
     let need = Need {
@@ -169,7 +172,7 @@ fn may_remove<D: Disk, K: Keep<D>, P: Pool<D, K>, F: Form>(
     ensures is { K.shows lot.now keep.old disk.old → IfOk result (GoneIs F.ENTRY lot.now (K.map keep.old disk.old lot.now) (last_name (drop depth path.now))) }
     ensures room { K.shows lot.now keep.old disk.old → OnOk result (CanCount (K.map keep.old disk.old lot.now)) }
     ensures damaged { (n : ℕ) → IsErrOf result (Damaged n) → K.shows lot.now keep.old disk.old → (r : Rule) × (n ≡ rule_number r) × IsBroken F.ENTRY lot.now (K.map keep.old disk.old lot.now) r }
-    ensures set { IfErr result IsTreeRefusal }
+    ensures set { IfErr result (IsOneOf remove_refusals change_rules) }
     ensures failed { IsErrOf result Fault → Rose (D.state disk.old).faults (D.state disk.new).faults }
 {
     match find_gone::<D, K, F>(keep, disk, lot, path, depth) {
@@ -197,8 +200,11 @@ fn drop_bytes<D: Disk, K: Keep<D>, P: Pool<D, K>, F: Form>(
         → OnOk result (Beside (form_of F.VERSION) mode lot.now (K.map keep.new disk.new lot.now) t k [] (number ∷ [])) }
     ensures sound { (mode k : ℕ) (t : Tree) → K.shows lot.now keep.old disk.old → StandsLoose (form_of F.VERSION) mode lot.now (K.map keep.old disk.old lot.now) t k number bytes → IfErr result (λ e. e ≡ FaultDisk) }
     ensures spent { Spent D.Disk K.View lot.now 72 keep.old disk.old keep.new disk.new }
-    ensures broken { (o : ℕ → List ℕ) → K.shows lot.now keep.old disk.old → IsReached F.ENTRY lot.now o number → (0 < bytes → ReachesTo 0 (inode_of (K.map keep.old disk.old lot.now) number)) → IfErr result (IsFaultBy (IsBrokenFrom F.ENTRY lot.now o (K.map keep.new disk.new lot.now))) }
+    ensures broken { K.shows lot.now keep.old disk.old → (0 < bytes → ReachesTo 0 (inode_of (K.map keep.old disk.old lot.now) number)) → IfErr result (IsFaultBy (LooseBroken lot.now (K.map keep.old disk.old lot.now) number)) }
+    ensures inodes { K.shows lot.now keep.old disk.old → OnOk result ((i : ℕ) → used_inode (K.map keep.new disk.new lot.now) i ≡ used_inode (K.map keep.old disk.old lot.now) i) }
+    ensures count { K.shows lot.now keep.old disk.old → OnOk result (counted true (K.map keep.new disk.new lot.now) ≡ counted true (K.map keep.old disk.old lot.now)) }
     ensures done { K.shows lot.now keep.old disk.old → OnOk result (long_at (K.map keep.new disk.new lot.now sub_address) 16 ≡ long_at (K.map keep.old disk.old lot.now sub_address) 16) }
+    ensures faults { IfErr result (IsNamedIn change_rules) }
     ensures failed { IsErrOf result FaultDisk → Rose (D.state disk.old).faults (D.state disk.new).faults }
 {
     if bytes == 0 {
@@ -208,7 +214,9 @@ fn drop_bytes<D: Disk, K: Keep<D>, P: Pool<D, K>, F: Form>(
 }
 
 /// The inode of nothing.
-fn free_node() -> Inode {
+fn free_node() -> Inode
+    ensures { result ≡ free_inode }
+{
     Inode {
         kind: 0,
         size: 0,
@@ -234,9 +242,11 @@ fn clear<D: Disk, K: Keep<D>, P: Pool<D, K>, F: Form>(
     ensures cleared { (mode k : ℕ) (t : Tree) → K.shows lot.now keep.old disk.old → StandsLoose (form_of F.VERSION) mode lot.now (K.map keep.old disk.old lot.now) t k number bytes
         → OnOk result (MapRecovers (form_of F.VERSION) mode lot.now (K.map keep.new disk.new lot.now) t k) }
     ensures sound { (mode k : ℕ) (t : Tree) → K.shows lot.now keep.old disk.old → StandsLoose (form_of F.VERSION) mode lot.now (K.map keep.old disk.old lot.now) t k number bytes → IfErr result (λ e. e ≡ FaultDisk) }
+    ensures freed { K.shows lot.now keep.old disk.old → OnOk result (Freed (K.map keep.new disk.new lot.now) number) }
     ensures spent { Spent D.Disk K.View lot.now 75 keep.old disk.old keep.new disk.new }
-    ensures broken { (o : ℕ → List ℕ) → K.shows lot.now keep.old disk.old → IsReached F.ENTRY lot.now o number → (0 < bytes → ReachesTo 0 (inode_of (K.map keep.old disk.old lot.now) number)) → IfErr result (IsFaultBy (IsBrokenFrom F.ENTRY lot.now o (K.map keep.new disk.new lot.now))) }
+    ensures broken { K.shows lot.now keep.old disk.old → (0 < bytes → ReachesTo 0 (inode_of (K.map keep.old disk.old lot.now) number)) → IfErr result (IsFaultBy (LooseBroken lot.now (K.map keep.old disk.old lot.now) number)) }
     ensures done { K.shows lot.now keep.old disk.old → OnOk result (long_at (K.map keep.new disk.new lot.now sub_address) 16 ≡ long_at (K.map keep.old disk.old lot.now sub_address) 16) }
+    ensures faults { IfErr result (IsNamedIn change_rules) }
     ensures failed { IsErrOf result FaultDisk → Rose (D.state disk.old).faults (D.state disk.new).faults }
 {
     drop_bytes::<D, K, P, F>(keep, pool, disk, lot, number, bytes)?;
@@ -259,9 +269,11 @@ fn take_away<D: Disk, K: Keep<D>, P: Pool<D, K>, F: Form>(
     ensures taken { (mode k : ℕ) (t : Tree) (p : List (List ℕ)) → K.shows lot.now keep.old disk.old → Loses (form_of F.VERSION) mode lot.now (K.map keep.old disk.old lot.now) t k p gone.now name.now
         → OnOk result (MapRecovers (form_of F.VERSION) mode lot.now (K.map keep.new disk.new lot.now) (next (Remove p) t) k) }
     ensures sound { (mode k : ℕ) (t : Tree) (p : List (List ℕ)) → K.shows lot.now keep.old disk.old → Loses (form_of F.VERSION) mode lot.now (K.map keep.old disk.old lot.now) t k p gone.now name.now → IfErr result (λ e. e ≡ FaultDisk) }
+    ensures freed { K.shows lot.now keep.old disk.old → OnOk result (Freed (K.map keep.new disk.new lot.now) gone.now.number) }
     ensures spent { Spent D.Disk K.View lot.now 83 keep.old disk.old keep.new disk.new }
-    ensures broken { K.shows lot.now keep.old disk.old → GoneIs F.ENTRY lot.now (K.map keep.old disk.old lot.now) name.now gone.now → IfErr result (IsFaultBy (IsBrokenIn F.ENTRY lot.now (K.map keep.old disk.old lot.now) (K.map keep.new disk.new lot.now))) }
+    ensures broken { K.shows lot.now keep.old disk.old → GoneIs F.ENTRY lot.now (K.map keep.old disk.old lot.now) name.now gone.now → IfErr result (IsBrokenBy F.ENTRY lot.now (K.map keep.old disk.old lot.now)) }
     ensures done { K.shows lot.now keep.old disk.old → OnOk result (long_at (K.map keep.new disk.new lot.now sub_address) 16 ≡ long_at (K.map keep.old disk.old lot.now sub_address) 16) }
+    ensures faults { IfErr result (IsNamedIn change_rules) }
     ensures failed { IsErrOf result FaultDisk → Rose (D.state disk.old).faults (D.state disk.new).faults }
 {
     match take::<D, K, P, F>(keep, pool, disk, lot, gone.spot.number, name)? {
@@ -286,8 +298,10 @@ fn put_away<D: Disk, K: Keep<D>, P: Pool<D, K>, F: Form>(
         → OnOk result (MapRecovers (form_of F.VERSION) mode lot.now (K.map keep.new disk.new lot.now) (next (Remove p) t) (k + 1)) }
     ensures sound { (mode k : ℕ) (t : Tree) (p : List (List ℕ)) → K.shows lot.now keep.old disk.old → Loses (form_of F.VERSION) mode lot.now (K.map keep.old disk.old lot.now) t k p gone.now name.now → IfErr result (λ e. e ≡ FaultDisk) }
     ensures counted { OnOk result (K.held keep.new sub_address ≡ true) }
+    ensures freed { K.shows lot.now keep.old disk.old → OnOk result (Freed (K.map keep.new disk.new lot.now) gone.now.number) }
     ensures spent { Spent D.Disk K.View lot.now 84 keep.old disk.old keep.new disk.new }
-    ensures broken { K.shows lot.now keep.old disk.old → GoneIs F.ENTRY lot.now (K.map keep.old disk.old lot.now) name.now gone.now → CanCount (K.map keep.old disk.old lot.now) → IfErr result (IsFaultBy (IsBrokenIn F.ENTRY lot.now (K.map keep.old disk.old lot.now) (K.map keep.new disk.new lot.now))) }
+    ensures broken { K.shows lot.now keep.old disk.old → GoneIs F.ENTRY lot.now (K.map keep.old disk.old lot.now) name.now gone.now → CanCount (K.map keep.old disk.old lot.now) → IfErr result (IsBrokenBy F.ENTRY lot.now (K.map keep.old disk.old lot.now)) }
+    ensures faults { IfErr result (IsNamedIn change_rules) }
     ensures failed { IsErrOf result FaultDisk → Rose (D.state disk.old).faults (D.state disk.new).faults }
 {
     take_away::<D, K, P, F>(keep, pool, disk, lot, gone, name)?;
@@ -312,13 +326,15 @@ pub fn remove<D: Disk, K: Keep<D>, P: Pool<D, K>, F: Form>(
         → AsModel (meant_plain result) (answer t k (length lot.now.groups) (form_of F.VERSION) (Remove (drop depth path.now))).0 }
     ensures changed { (mode k : ℕ) (t : Tree) → K.shows lot.now keep.old disk.old → MapRecovers (form_of F.VERSION) mode lot.now (K.map keep.old disk.old lot.now) t k
         → OnOk result (MapRecovers (form_of F.VERSION) mode lot.now (K.map keep.new disk.new lot.now) (answer t k (length lot.now.groups) (form_of F.VERSION) (Remove (drop depth path.now))).1 (k + 1)) }
+    ensures freed { (mode k : ℕ) (t : Tree) → K.shows lot.now keep.old disk.old → MapRecovers (form_of F.VERSION) mode lot.now (K.map keep.old disk.old lot.now) t k
+        → OnOk result (Freed (K.map keep.new disk.new lot.now) (inode_on (form_of F.VERSION) (own_in (form_of F.VERSION) (K.map keep.old disk.old lot.now)) 0 (drop depth path.now))) }
     ensures counted { OnOk result (K.held keep.new sub_address ≡ true) }
     ensures paths { ShownBy (paths_refusal (form_of F.VERSION) (drop depth path.now ∷ [])) result }
     ensures untouched { (r : Why) → paths_refusal (form_of F.VERSION) (drop depth path.now ∷ []) ≡ Some r → (disk.new ≡ disk.old) × (keep.new ≡ keep.old) × (pool.new ≡ pool.old) }
     ensures refused { IfErr result (λ r. number_of r ≤ 14 → Looked D.Disk K.View lot.now keep.old disk.old keep.new disk.new) }
     ensures spent { Spent D.Disk K.View lot.now 96 keep.old disk.old keep.new disk.new }
-    ensures damaged { (n : ℕ) → IsErrOf result (Damaged n) → K.shows lot.now keep.old disk.old → (r : Rule) × (n ≡ rule_number r) × IsBrokenIn F.ENTRY lot.now (K.map keep.old disk.old lot.now) (K.map keep.new disk.new lot.now) r }
-    ensures set { IfErr result IsTreeRefusal }
+    ensures damaged { (n : ℕ) → IsErrOf result (Damaged n) → K.shows lot.now keep.old disk.old → (r : Rule) × (n ≡ rule_number r) × IsBroken F.ENTRY lot.now (K.map keep.old disk.old lot.now) r }
+    ensures set { IfErr result (IsOneOf remove_refusals change_rules) }
     ensures failed { IsErrOf result Fault → Rose (D.state disk.old).faults (D.state disk.new).faults }
 {
     if let Err(refusal) = check_path::<F>(path, depth) {

@@ -16,10 +16,11 @@ ghost use Rattle.tree_spec.specs.Why.{Why};
 ghost use Rattle.tree_spec.specs.declared.reply.Refusal.TheVariants.{Fault, Damaged};
 ghost use Rattle.ice_reads.specs.Tables.{Map, Table, own_in};
 ghost use Rattle.ice_reads.specs.Recovers.{MapRecovers};
-ghost use Rattle.ice_tree.specs.Broken.{IsBroken, IsBrokenIn, IsFaultBy};
+ghost use Rattle.ice_rules.specs.Rules.{rule_number};
+ghost use Rattle.ice_tree.specs.Broken.{IsBroken, IsBrokenBy};
 ghost use Rattle.ice_tree.specs.Changes.{IsEnds, EndsFit, Needs};
 ghost use Rattle.ice_tree.specs.Grounds.{EndsAre, MoveIs, RowFits};
-ghost use Rattle.ice_tree.specs.Outcomes.{AsModel, RefusedAs, meant_plain, ShownBy, IsTreeRefusal, rule_number};
+ghost use Rattle.ice_tree.specs.Outcomes.{AsModel, RefusedAs, meant_plain, ShownBy, IsOneOf, IsNamedIn, rename_refusals, look_rules, change_rules, list_rules, rename_rules};
 ghost use Rattle.ice_tree.specs.Places.{PlaceFits, PlaceIs, PlaceReached, PlaceNamed, is_place, is_dir_place, place_at, place_by};
 ghost use Rattle.ice_tree.specs.Renames.{height_refusal, ends_refusal, move_refusal, IsMove, MoveFits, Renames};
 ghost use Rattle.ice_tree.specs.Stages.{or_else, paths_refusal, quota_refusal};
@@ -147,7 +148,7 @@ fn check_height<D: Disk, V: View<D>, F: Form>(
         → MatchResult result (λ u. height_refusal p q t ≡ None) (λ r. RefusedAs (refused_of r) (height_refusal p q t)) }
     ensures looked { Looked D.Disk V.View lot.now view.old disk.old view.new disk.new }
     ensures damaged { (n : ℕ) → IsErrOf result (Damaged n) → V.shows lot.now view.old disk.old → PlaceIs (V.map view.old disk.old lot.now) place → PlaceReached F.ENTRY lot.now (V.map view.old disk.old lot.now) place → (r : Rule) × (n ≡ rule_number r) × IsBroken F.ENTRY lot.now (V.map view.old disk.old lot.now) r }
-    ensures set { IfErr result IsTreeRefusal }
+    ensures set { IfErr result (IsOneOf rename_refusals list_rules) }
     ensures failed { IsErrOf result Fault → Rose (D.state disk.old).faults (D.state disk.new).faults }
 {
     if there <= here {
@@ -176,7 +177,7 @@ fn check_ends(from: &Ends, into: &Ends, root: bool, begins: bool, same: bool) ->
     ensures rootless { OnOk result (root ≡ false) }
     ensures there { OnOk result ((is_place from.now.end ≡ true) × (is_dir_place into.now.parent ≡ true)) }
     ensures undamaged { (n : ℕ) → IsErrOf result (Damaged n) → ⊥ }
-    ensures set { IfErr result IsTreeRefusal }
+    ensures set { IfErr result (IsOneOf rename_refusals []) }
     ensures faultless { IsErrOf result Fault → ⊥ }
 {
     if is_one_missing(from.end, into.parent) {
@@ -221,7 +222,7 @@ fn move_of(from: &Ends, into: &Ends, same: bool) -> Result<Move, Refusal>
     ensures fits { (lot : LotView) → EndsFit lot from.now → EndsFit lot into.now → IfOk result (MoveFits lot) }
     ensures is { (entry : ℕ) (lot : LotView) (m : ℕ → List ℕ) (name : List ℕ) → EndsAre entry lot m from.now → EndsAre entry lot m into.now → EndsFit lot from.now → EndsFit lot into.now → PlaceNamed entry m from.now.parent name from.now.end → is_place from.now.end ≡ true → is_dir_place into.now.parent ≡ true
         → MatchResult result (MoveIs entry lot m name) (λ r. ⊥) }
-    ensures set { IfErr result IsTreeRefusal }
+    ensures set { IfErr result (IsOneOf rename_refusals look_rules) }
     ensures faultless { IsErrOf result Fault → ⊥ }
 {
     match spot_at(from.parent) {
@@ -259,7 +260,7 @@ fn find_move<D: Disk, V: View<D>, F: Form>(
     ensures looked { Looked D.Disk V.View lot.now view.old disk.old view.new disk.new }
     ensures is { V.shows lot.now view.old disk.old → IfOk result (MoveIs F.ENTRY lot.now (V.map view.old disk.old lot.now) (last_name (drop depth path.now))) }
     ensures damaged { (n : ℕ) → IsErrOf result (Damaged n) → V.shows lot.now view.old disk.old → (r : Rule) × (n ≡ rule_number r) × IsBroken F.ENTRY lot.now (V.map view.old disk.old lot.now) r }
-    ensures set { IfErr result IsTreeRefusal }
+    ensures set { IfErr result (IsOneOf rename_refusals list_rules) }
     ensures failed { IsErrOf result Fault → Rose (D.state disk.old).faults (D.state disk.new).faults }
 {
     let from = match find_ends::<D, V, F>(view, disk, lot, path, depth) {
@@ -298,6 +299,7 @@ fn need_of<F: Form>(step: &Move) -> Need
     requires to { step.now.to.entries < 4096 }
     ensures needs { (mode k : ℕ) (lot : LotView) (m : Map) (t : Tree) (p q : List (List ℕ)) → MapRecovers (form_of F.VERSION) mode lot m t k → paths_refusal (form_of F.VERSION) (p ∷ q ∷ []) ≡ None → move_refusal p q t ≡ None
         → IsMove (form_of F.VERSION) (own_in (form_of F.VERSION) m) p q t step.now → Needs (form_of F.VERSION) t (next (Rename p q) t) result }
+    ensures nodeless { result.nodes ≡ 0 }
     ensures apart { step.now.same ≡ false → step.now.from.number ≢ step.now.to.number → (result.blocks ≡ map_cost (dir_blocks (form_of F.VERSION) (step.now.to.entries + 1)) + map_cost (dir_blocks (form_of F.VERSION) (step.now.from.entries - 1)))
         × (result.freed ≡ map_cost (dir_blocks (form_of F.VERSION) step.now.to.entries) + map_cost (dir_blocks (form_of F.VERSION) step.now.from.entries)) }
 {
@@ -317,7 +319,20 @@ fn need_of<F: Form>(step: &Move) -> Need
     }
 }
 
-/// What a rename moves, where nothing but the names of the paths refuses it.
+/// Whether two different directories have together as many entries as the lot has inodes, one more than there are to name.
+fn is_overfull(lot: &Lot, step: &Move) -> bool
+    requires few { length lot.now.groups ≤ 64 }
+    requires from { step.now.from.entries < 4096 }
+    requires to { step.now.to.entries < 4096 }
+    ensures many { result ≡ true → (step.now.from.number ≢ step.now.to.number) × (64 * length lot.now.groups ≤ step.now.from.entries + step.now.to.entries) }
+    ensures room { result ≡ false → step.now.from.number ≢ step.now.to.number → step.now.from.entries + step.now.to.entries < 64 * length lot.now.groups }
+{
+    step.from.number != step.to.number
+        && step.from.entries + step.to.entries >= 64 * lot.len() as u32
+}
+
+/// What a rename moves, where nothing but the names of the paths refuses it. Damaged, with the rule on inodes: one is named twice, or the root
+/// or none of the lot, since the two directories have too many entries.
 fn may_move<D: Disk, K: Keep<D>, P: Pool<D, K>, F: Form>(
     keep: &mut K,
     pool: &mut P,
@@ -342,12 +357,15 @@ fn may_move<D: Disk, K: Keep<D>, P: Pool<D, K>, F: Form>(
     ensures is { K.shows lot.now keep.old disk.old → IfOk result (MoveIs F.ENTRY lot.now (K.map keep.old disk.old lot.now) (last_name (drop depth path.now))) }
     ensures room { K.shows lot.now keep.old disk.old → IfOk result (RowFits F.ENTRY lot.now (K.map keep.old disk.old lot.now)) }
     ensures damaged { (n : ℕ) → IsErrOf result (Damaged n) → K.shows lot.now keep.old disk.old → (r : Rule) × (n ≡ rule_number r) × IsBroken F.ENTRY lot.now (K.map keep.old disk.old lot.now) r }
-    ensures set { IfErr result IsTreeRefusal }
+    ensures set { IfErr result (IsOneOf rename_refusals rename_rules) }
     ensures failed { IsErrOf result Fault → Rose (D.state disk.old).faults (D.state disk.new).faults }
 {
     match find_move::<D, K, F>(keep, disk, lot, path, to, depth) {
         Err(refusal) => Err(refusal),
         Ok(step) => {
+            if is_overfull(lot, &step) {
+                return Err(Refusal::Damaged(Rule::InodeTwice as u8));
+            }
             let need = need_of::<F>(&step);
             match check_quota::<D, K, P, F>(keep, pool, disk, lot, &need) {
                 Err(refusal) => Err(refusal),
@@ -377,8 +395,9 @@ fn move_row<D: Disk, K: Keep<D>, P: Pool<D, K>, F: Form>(
     ensures sound { (mode k : ℕ) (t : Tree) (p q : List (List ℕ)) → K.shows lot.now keep.old disk.old → Renames (form_of F.VERSION) mode lot.now (K.map keep.old disk.old lot.now) t k p q step.now name.now new.now → step.now.same ≡ false
         → IfErr result (λ e. e ≡ FaultDisk) }
     ensures spent { Spent D.Disk K.View lot.now 16 keep.old disk.old keep.new disk.new }
-    ensures broken { K.shows lot.now keep.old disk.old → MoveIs F.ENTRY lot.now (K.map keep.old disk.old lot.now) name.now step.now → RowFits F.ENTRY lot.now (K.map keep.old disk.old lot.now) step.now → step.now.same ≡ false → IfErr result (IsFaultBy (IsBrokenIn F.ENTRY lot.now (K.map keep.old disk.old lot.now) (K.map keep.new disk.new lot.now))) }
+    ensures broken { K.shows lot.now keep.old disk.old → MoveIs F.ENTRY lot.now (K.map keep.old disk.old lot.now) name.now step.now → RowFits F.ENTRY lot.now (K.map keep.old disk.old lot.now) step.now → step.now.same ≡ false → IfErr result (IsBrokenBy F.ENTRY lot.now (K.map keep.old disk.old lot.now)) }
     ensures done { K.shows lot.now keep.old disk.old → OnOk result (long_at (K.map keep.new disk.new lot.now sub_address) 16 ≡ long_at (K.map keep.old disk.old lot.now sub_address) 16) }
+    ensures faults { IfErr result (IsNamedIn change_rules) }
     ensures failed { IsErrOf result FaultDisk → Rose (D.state disk.old).faults (D.state disk.new).faults }
 {
     let _bytes = new.bytes();
@@ -414,7 +433,8 @@ fn put_moved<D: Disk, K: Keep<D>, P: Pool<D, K>, F: Form>(
         → IfErr result (λ e. e ≡ FaultDisk) }
     ensures counted { OnOk result (K.held keep.new sub_address ≡ true) }
     ensures spent { Spent D.Disk K.View lot.now 17 keep.old disk.old keep.new disk.new }
-    ensures broken { K.shows lot.now keep.old disk.old → MoveIs F.ENTRY lot.now (K.map keep.old disk.old lot.now) name.now step.now → RowFits F.ENTRY lot.now (K.map keep.old disk.old lot.now) step.now → IfErr result (IsFaultBy (IsBrokenIn F.ENTRY lot.now (K.map keep.old disk.old lot.now) (K.map keep.new disk.new lot.now))) }
+    ensures broken { K.shows lot.now keep.old disk.old → MoveIs F.ENTRY lot.now (K.map keep.old disk.old lot.now) name.now step.now → RowFits F.ENTRY lot.now (K.map keep.old disk.old lot.now) step.now → IfErr result (IsBrokenBy F.ENTRY lot.now (K.map keep.old disk.old lot.now)) }
+    ensures faults { IfErr result (IsNamedIn change_rules) }
     ensures failed { IsErrOf result FaultDisk → Rose (D.state disk.old).faults (D.state disk.new).faults }
 {
     if step.same {
@@ -450,8 +470,8 @@ pub fn rename<D: Disk, K: Keep<D>, P: Pool<D, K>, F: Form>(
     ensures untouched { (r : Why) → paths_refusal (form_of F.VERSION) (drop depth path.now ∷ drop depth to.now ∷ []) ≡ Some r → (disk.new ≡ disk.old) × (keep.new ≡ keep.old) × (pool.new ≡ pool.old) }
     ensures refused { IfErr result (λ r. number_of r ≤ 14 → Looked D.Disk K.View lot.now keep.old disk.old keep.new disk.new) }
     ensures spent { Spent D.Disk K.View lot.now 96 keep.old disk.old keep.new disk.new }
-    ensures damaged { (n : ℕ) → IsErrOf result (Damaged n) → K.shows lot.now keep.old disk.old → (r : Rule) × (n ≡ rule_number r) × IsBrokenIn F.ENTRY lot.now (K.map keep.old disk.old lot.now) (K.map keep.new disk.new lot.now) r }
-    ensures set { IfErr result IsTreeRefusal }
+    ensures damaged { (n : ℕ) → IsErrOf result (Damaged n) → K.shows lot.now keep.old disk.old → (r : Rule) × (n ≡ rule_number r) × IsBroken F.ENTRY lot.now (K.map keep.old disk.old lot.now) r }
+    ensures set { IfErr result (IsOneOf rename_refusals rename_rules) }
     ensures failed { IsErrOf result Fault → Rose (D.state disk.old).faults (D.state disk.new).faults }
 {
     if let Err(refusal) = check_paths::<F>(path, to, depth) {

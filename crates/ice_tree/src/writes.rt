@@ -17,10 +17,11 @@ ghost use Rattle.tree_spec.specs.declared.reply.Refusal.TheVariants.{Fault, Dama
 ghost use Rattle.ice_reads.specs.Reads.{inode_on};
 ghost use Rattle.ice_reads.specs.Recovers.{MapRecovers};
 ghost use Rattle.ice_reads.specs.Tables.{own_in};
-ghost use Rattle.ice_tree.specs.Broken.{IsBroken, IsBrokenIn, IsFaultBy};
+ghost use Rattle.ice_rules.specs.Rules.{rule_number};
+ghost use Rattle.ice_tree.specs.Broken.{IsBroken, IsBrokenBy};
 ghost use Rattle.ice_tree.specs.Changes.{IsFile, FileFits, TakesAt, reach_refusal};
 ghost use Rattle.ice_tree.specs.Grounds.{CanCount, FileIs, BytesFit};
-ghost use Rattle.ice_tree.specs.Outcomes.{AsModel, RefusedAs, meant_plain, ShownBy, IsTreeRefusal, rule_number};
+ghost use Rattle.ice_tree.specs.Outcomes.{AsModel, RefusedAs, meant_plain, ShownBy, IsOneOf, IsNamedIn, write_refusals, trunc_refusals, read_refusals, look_rules, change_rules};
 ghost use Rattle.ice_tree.specs.Stages.{paths_refusal};
 
 use crate::counts::count_up;
@@ -71,7 +72,7 @@ fn reach_file<D: Disk, V: View<D>, F: Form>(
     ensures is { V.shows lot.now view.old disk.old → IfOk result (λ file. FileIs F.ENTRY lot.now (V.map view.old disk.old lot.now) at file.number) }
     ensures size { V.shows lot.now view.old disk.old → IfOk result (λ file. (inode_of (V.map view.old disk.old lot.now) file.number).size ≡ file.size) }
     ensures damaged { (n : ℕ) → IsErrOf result (Damaged n) → V.shows lot.now view.old disk.old → (r : Rule) × (n ≡ rule_number r) × IsBroken F.ENTRY lot.now (V.map view.old disk.old lot.now) r }
-    ensures set { IfErr result IsTreeRefusal }
+    ensures set { IfErr result (IsOneOf read_refusals look_rules) }
     ensures failed { IsErrOf result Fault → Rose (D.state disk.old).faults (D.state disk.new).faults }
 {
     if let Err(refusal) = check_path::<F>(path, depth) {
@@ -114,7 +115,7 @@ fn check_write<D: Disk, K: Keep<D>, P: Pool<D, K>, F: Form>(
     ensures looked { Looked D.Disk K.View lot.now keep.old disk.old keep.new disk.new }
     ensures ready { K.shows lot.now keep.old disk.old → IfOk result (BytesFit F.ENTRY lot.now (K.map keep.old disk.old lot.now) at (at + length bytes.now)) }
     ensures damaged { (n : ℕ) → IsErrOf result (Damaged n) → K.shows lot.now keep.old disk.old → (r : Rule) × (n ≡ rule_number r) × IsBroken F.ENTRY lot.now (K.map keep.old disk.old lot.now) r }
-    ensures set { IfErr result IsTreeRefusal }
+    ensures set { IfErr result (IsOneOf write_refusals change_rules) }
     ensures failed { IsErrOf result Fault → Rose (D.state disk.old).faults (D.state disk.new).faults }
 {
     let file = match reach_file::<D, K, F>(keep, disk, lot, path, depth, at) {
@@ -156,7 +157,7 @@ fn check_trunc<D: Disk, K: Keep<D>, P: Pool<D, K>, F: Form>(
     ensures ready { K.shows lot.now keep.old disk.old → IfOk result (FileIs F.ENTRY lot.now (K.map keep.old disk.old lot.now) len) }
     ensures room { K.shows lot.now keep.old disk.old → OnOk result (CanCount (K.map keep.old disk.old lot.now)) }
     ensures damaged { (n : ℕ) → IsErrOf result (Damaged n) → K.shows lot.now keep.old disk.old → (r : Rule) × (n ≡ rule_number r) × IsBroken F.ENTRY lot.now (K.map keep.old disk.old lot.now) r }
-    ensures set { IfErr result IsTreeRefusal }
+    ensures set { IfErr result (IsOneOf trunc_refusals change_rules) }
     ensures failed { IsErrOf result Fault → Rose (D.state disk.old).faults (D.state disk.new).faults }
 {
     let file = match reach_file::<D, K, F>(keep, disk, lot, path, depth, len) {
@@ -191,7 +192,8 @@ fn put_bytes<D: Disk, K: Keep<D>, P: Pool<D, K>, F: Form>(
         → IfErr result (λ e. e ≡ FaultDisk) }
     ensures counted { OnOk result (K.held keep.new sub_address ≡ true) }
     ensures spent { Spent D.Disk K.View lot.now 49 keep.old disk.old keep.new disk.new }
-    ensures broken { K.shows lot.now keep.old disk.old → BytesFit F.ENTRY lot.now (K.map keep.old disk.old lot.now) at (at + length bytes.now) number → IfErr result (IsFaultBy (IsBrokenIn F.ENTRY lot.now (K.map keep.old disk.old lot.now) (K.map keep.new disk.new lot.now))) }
+    ensures broken { K.shows lot.now keep.old disk.old → BytesFit F.ENTRY lot.now (K.map keep.old disk.old lot.now) at (at + length bytes.now) number → IfErr result (IsBrokenBy F.ENTRY lot.now (K.map keep.old disk.old lot.now)) }
+    ensures faults { IfErr result (IsNamedIn change_rules) }
     ensures failed { IsErrOf result FaultDisk → Rose (D.state disk.old).faults (D.state disk.new).faults }
 {
     write_at::<D, K, P, F>(keep, pool, disk, lot, number, at, bytes)?;
@@ -217,7 +219,8 @@ fn put_cut<D: Disk, K: Keep<D>, P: Pool<D, K>, F: Form>(
         → IfErr result (λ e. e ≡ FaultDisk) }
     ensures counted { OnOk result (K.held keep.new sub_address ≡ true) }
     ensures spent { Spent D.Disk K.View lot.now 73 keep.old disk.old keep.new disk.new }
-    ensures broken { K.shows lot.now keep.old disk.old → FileIs F.ENTRY lot.now (K.map keep.old disk.old lot.now) len number → CanCount (K.map keep.old disk.old lot.now) → IfErr result (IsFaultBy (IsBrokenIn F.ENTRY lot.now (K.map keep.old disk.old lot.now) (K.map keep.new disk.new lot.now))) }
+    ensures broken { K.shows lot.now keep.old disk.old → FileIs F.ENTRY lot.now (K.map keep.old disk.old lot.now) len number → CanCount (K.map keep.old disk.old lot.now) → IfErr result (IsBrokenBy F.ENTRY lot.now (K.map keep.old disk.old lot.now)) }
+    ensures faults { IfErr result (IsNamedIn change_rules) }
     ensures failed { IsErrOf result FaultDisk → Rose (D.state disk.old).faults (D.state disk.new).faults }
 {
     cut_to::<D, K, P, F>(keep, pool, disk, lot, number, len)?;
@@ -250,8 +253,8 @@ pub fn write<D: Disk, K: Keep<D>, P: Pool<D, K>, F: Form>(
     ensures untouched { (r : Why) → paths_refusal (form_of F.VERSION) (drop depth path.now ∷ []) ≡ Some r → (disk.new ≡ disk.old) × (keep.new ≡ keep.old) × (pool.new ≡ pool.old) }
     ensures refused { IfErr result (λ r. number_of r ≤ 14 → Looked D.Disk K.View lot.now keep.old disk.old keep.new disk.new) }
     ensures spent { Spent D.Disk K.View lot.now 96 keep.old disk.old keep.new disk.new }
-    ensures damaged { (n : ℕ) → IsErrOf result (Damaged n) → K.shows lot.now keep.old disk.old → (r : Rule) × (n ≡ rule_number r) × IsBrokenIn F.ENTRY lot.now (K.map keep.old disk.old lot.now) (K.map keep.new disk.new lot.now) r }
-    ensures set { IfErr result IsTreeRefusal }
+    ensures damaged { (n : ℕ) → IsErrOf result (Damaged n) → K.shows lot.now keep.old disk.old → (r : Rule) × (n ≡ rule_number r) × IsBroken F.ENTRY lot.now (K.map keep.old disk.old lot.now) r }
+    ensures set { IfErr result (IsOneOf write_refusals change_rules) }
     ensures failed { IsErrOf result Fault → Rose (D.state disk.old).faults (D.state disk.new).faults }
 {
     let number = match check_write::<D, K, P, F>(keep, pool, disk, lot, path, depth, at, bytes) {
@@ -287,8 +290,8 @@ pub fn trunc<D: Disk, K: Keep<D>, P: Pool<D, K>, F: Form>(
     ensures untouched { (r : Why) → paths_refusal (form_of F.VERSION) (drop depth path.now ∷ []) ≡ Some r → (disk.new ≡ disk.old) × (keep.new ≡ keep.old) × (pool.new ≡ pool.old) }
     ensures refused { IfErr result (λ r. number_of r ≤ 14 → Looked D.Disk K.View lot.now keep.old disk.old keep.new disk.new) }
     ensures spent { Spent D.Disk K.View lot.now 96 keep.old disk.old keep.new disk.new }
-    ensures damaged { (n : ℕ) → IsErrOf result (Damaged n) → K.shows lot.now keep.old disk.old → (r : Rule) × (n ≡ rule_number r) × IsBrokenIn F.ENTRY lot.now (K.map keep.old disk.old lot.now) (K.map keep.new disk.new lot.now) r }
-    ensures set { IfErr result IsTreeRefusal }
+    ensures damaged { (n : ℕ) → IsErrOf result (Damaged n) → K.shows lot.now keep.old disk.old → (r : Rule) × (n ≡ rule_number r) × IsBroken F.ENTRY lot.now (K.map keep.old disk.old lot.now) r }
+    ensures set { IfErr result (IsOneOf trunc_refusals change_rules) }
     ensures failed { IsErrOf result Fault → Rose (D.state disk.old).faults (D.state disk.new).faults }
 {
     let number = match check_trunc::<D, K, P, F>(keep, pool, disk, lot, path, depth, len) {

@@ -1,13 +1,16 @@
 -- Worked examples: what a tree answers, one operation after another.
-use Rattle.std.proofs.Common.{◌≡◌, ℕ, zero, suc, ◌+◌, ◌-◌, ◌^◌, true, false, List, [], ◌∷◌, length, refl, ap, arith}
+use Rattle.std.proofs.Common.{◌≡◌, ℕ, zero, suc, ◌+◌, ◌-◌, ◌*◌, ◌^◌, nat_eq, if◌then◌else◌, true, false, List, [], ◌∷◌, length, refl, ap, arith}
 use Rattle.std.specs.Prelude.{Ok, Err, Option, None, Some, replicate, map, slice_get}
 use Rattle.tree_spec.specs.Replies.{Response, Because, Plain, Bytes, Listed}
 use Rattle.tree_spec.specs.Replies as value
 use Rattle.tree_spec.specs.Why as why
 use Rattle.tree_spec.specs.Trees.{Tree, File, Dir, Nil, Entry}
-use Rattle.tree_spec.specs.Costs.{form_one, form_two, blocks, nodes, map_cost, file_blocks}
-use Rattle.tree_spec.specs.Operations.{Operation, Mkdir, Make, Write, Read, Trunc, Remove, Rename, ListDir, Stat}
-use Rattle.tree_spec.specs.Answers.{answer, refusal}
+use Rattle.tree_spec.specs.Costs.{form_one, form_two, blocks, nodes, map_cost, file_blocks, dir_blocks}
+use Rattle.tree_spec.specs.Lines as line
+use Rattle.tree_spec.specs.Operations.{Operation, Mkdir, Make, Write, Read, Trunc, Remove, Rename, ListDir, Stat, operation}
+use Rattle.tree_spec.specs.Answers.{answer, refusal, tree_after}
+use Rattle.tree_spec.specs.Records.{Cube}
+use Rattle.tree_spec.specs.World.{World, rows_of}
 use Rattle.tree_spec.specs.Routes.{route}
 use Rattle.tree_spec.proofs.Writes.{length-written}
 
@@ -194,6 +197,14 @@ read_when_spent = refl
 map_costs : map_cost 0 ∷ map_cost 12 ∷ map_cost 13 ∷ map_cost 268 ∷ map_cost 269 ∷ map_cost 524 ∷ map_cost 525 ∷ [] ≡ 0 ∷ 12 ∷ 14 ∷ 269 ∷ 272 ∷ 527 ∷ 529 ∷ []
 map_costs = refl
 
+-- version 2: the longest file has just the blocks of the longest map, and an entry takes twice the place
+form_two_rows : file_blocks form_two.longest_file ∷ form_two.entries_per_block ∷ form_two.longest_name ∷ dir_blocks form_one 9 ∷ dir_blocks form_two 8 ∷ dir_blocks form_two 9 ∷ []
+    ≡ 65804 ∷ 8 ∷ 123 ∷ 1 ∷ 1 ∷ 2 ∷ []
+form_two_rows = refl
+
+longest_files : form_one.longest_file ∷ form_two.longest_file ∷ 1024 * (12 + 256 + 256 * 256) ∷ [] ≡ 274432 ∷ 67383296 ∷ 67383296 ∷ []
+longest_files = refl
+
 -- what a root costs with one file of so many bytes
 abbrev with_file : List ℕ → Tree
 with_file bytes = Dir (Entry f (File bytes) Nil)
@@ -249,3 +260,24 @@ routes = refl
 routes_of_the_root : map (route (λ s. slice_get ([] ∷ (a ∷ []) ∷ []) s) 2) ((b ∷ []) ∷ [] ∷ (a ∷ b ∷ []) ∷ []) ≡ Some 0 ∷ Some 0 ∷ Some 1 ∷ []
 unfolding route
 routes_of_the_root = refl
+
+-- ---- what a request asks of a cube's tree: its paths lose the names of the cube's path
+
+asks_below : operation 1 (line.Rename (a ∷ b ∷ []) (a ∷ d ∷ e ∷ [])) ∷ operation 1 (line.Mkdir (a ∷ b ∷ [])) ∷ operation 2 (line.Write (a ∷ b ∷ f ∷ []) 3 (7 ∷ [])) ∷ operation 0 (line.Make (f ∷ [])) ∷ []
+    ≡ Some (Rename (b ∷ []) (d ∷ e ∷ [])) ∷ Some (Mkdir (b ∷ [])) ∷ Some (Write (f ∷ []) 3 (7 ∷ [])) ∷ Some (Make (f ∷ [])) ∷ []
+asks_below = refl
+
+asks_each : operation 1 (line.Read (a ∷ f ∷ []) 1 2) ∷ operation 1 (line.Trunc (a ∷ f ∷ []) 3) ∷ operation 1 (line.Remove (a ∷ f ∷ [])) ∷ operation 1 (line.ListDir (a ∷ d ∷ [])) ∷ operation 1 (line.Stat (a ∷ d ∷ [])) ∷ []
+    ≡ Some (Read (f ∷ []) 1 2) ∷ Some (Trunc (f ∷ []) 3) ∷ Some (Remove (f ∷ [])) ∷ Some (ListDir (d ∷ [])) ∷ Some (Stat (d ∷ [])) ∷ []
+asks_each = refl
+
+-- ---- operations one after another
+
+after_two : tree_after (Mkdir (a ∷ []) ∷ Make (a ∷ f ∷ []) ∷ []) empty ≡ Dir (Entry a (Dir (Entry f (File []) Nil)) Nil)
+after_two = refl
+
+-- ---- the rows of a world with one cube, in slot 1 of 3
+
+world_rows : (c : Cube) → rows_of (record { slots = 3; groups = 9; cube = λ s. if nat_eq s 1 then Some c else None }) ≡ record { slot = 1; groups = c.groups; state = c.state; path = c.path } ∷ []
+unfolding rows_of
+world_rows c = refl

@@ -202,6 +202,30 @@ fn damaged_inodes_and_entries_stop_what_meets_them(rt: HostRuntime) -> Result<()
     names(&rt, alloc, &base, &twice, 10, &into)
 }
 
+/// The root of 63 entries, whose second to fourth blocks are the one of `f`.
+#[test]
+fn a_full_directory_takes_no_entry(rt: HostRuntime) -> Result<(), Fail> {
+    let alloc = rt.alloc();
+    let base = sound(&rt, alloc)?;
+    let full = [
+        (INODES, 4, 63),
+        (INODES, 12, 10),
+        (INODES, 16, 10),
+        (INODES, 20, 10),
+    ];
+    let into = [renames(b"/a/e/y", b"/a/z")];
+    names(&rt, alloc, &base, &full, 10, &into)?;
+    let mut room = Room::new(alloc)?;
+    for command in [mkdirs(b"/a/z"), makes(b"/a/z")] {
+        let mut host = damaged(&rt, alloc, &base, &full)?;
+        let mut keep = ThroughKeep::new();
+        assert!(&rt; host.blocks() == BLOCKS);
+        let got = reply(&rt, &mut keep, &mut host, &one_group(), &command, &mut room);
+        assert_eq!(&rt; got, Err(Refusal::NoNodes));
+    }
+    Ok(())
+}
+
 #[test]
 fn a_damaged_bitmap_stops_what_takes_and_gives(rt: HostRuntime) -> Result<(), Fail> {
     let alloc = rt.alloc();

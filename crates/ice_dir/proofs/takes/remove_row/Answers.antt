@@ -1,8 +1,9 @@
-use Rattle.std.proofs.Common.{rules, false, List, ℕ, ◌∙◌, ap, inl, arith}
+use Rattle.std.proofs.Common.{rules, false, List, ℕ, ◌∙◌, sym, ap, inl, arith}
 use Rattle.ice_base.proofs.LotLaws.{sited-few}
 use Rattle.ice_base.specs.Fields.{word_at}
 use Rattle.ice_base.specs.Used.{count_place}
-use Rattle.ice_map.proofs.PutsLaws.{spent-then}
+use Rattle.ice_map.proofs.MarkLaws.{data_not_bitmap, data_not_sub}
+use Rattle.ice_map.proofs.PutsLaws.{spent-then, bitmaps-only}
 use Rattle.ice_file.specs.Writes.{uses_of}
 use Rattle.ice_dir.proofs.PutLaws.{made-dir}
 use Rattle.ice_dir.proofs.TakeLaws.{row-free, row-misled, dir-removed, text-removed, cut-six, off-length, beside-inode, entry-gone}
@@ -74,7 +75,8 @@ returns-clause-left g c = λ s is.
     entry-gone c.args.lot.now g.F.Form.ENTRY (g.K.View.map c.args.keep.now c.args.disk.now c.args.lot.now) (g.K.View.map c.move_last.new.keep c.move_last.new.disk c.args.lot.now) (g.K.View.map c.cut.new.keep c.cut.new.disk c.args.lot.now) (g.K.View.map c.put_inode.new.keep c.put_inode.new.disk c.args.lot.now)
     c.args.dir c.cut.new.inode c.args.number c.args.k c.blocks_for_rows-count.result c.blocks_for_rows-rest.result one.1 (sited-few _ _ c.requires.sited) c.requires.is c.requires.below is c.move_last.ensures.beside
     c.blocks_for_rows-count.ensures.value c.blocks_for_rows-rest.ensures.value (c.in_ok-cut.ensures.cut t) c.cut.ensures.stays (c.in_ok-cut.ensures.placed t) c.in_ok-cut.ensures.fields
-    (c.in_ok-put_inode.ensures.written (c.cut.ensures.spent.shows t)) c.in_ok-put_inode.ensures.puts.only
+    (c.in_ok-put_inode.ensures.written (c.cut.ensures.spent.shows t)) c.in_ok-put_inode.ensures.puts.only (c.in_ok-move_last.ensures.within s)
+    (λ b d. bitmaps-only g.K.View c.args.lot.now _ _ _ _ _ _ c.cut.ensures.bitmaps b (λ e. data_not_sub c.args.lot.now b (sited-few _ _ c.requires.sited) d (sym e)) (λ o e. data_not_bitmap c.args.lot.now b o d (sym e)))
 
 pub returns-in_err-move_last-clause-misled : goal.returns-in_err-move_last-clause-misled
 returns-in_err-move_last-clause-misled g c = λ e s. inl (c.in_err-move_last.ensures.misled (search rules) s)

@@ -1,5 +1,9 @@
-use Rattle.std.proofs.Common.{rules, ◌≤◌, ℕ, List, false, ap, arith}
-use Rattle.ice_base.specs.Used.{counted}
+use Rattle.std.proofs.Common.{rules, ◌≤◌, ◌*◌, ℕ, List, true, false, ap, sym, ◌∙◌, arith}
+use Rattle.ice_base.specs.Used.{counted, used_inode}
+use Rattle.ice_map.specs.declared.codec.Inode.{Inode}
+use Rattle.ice_map.proofs.GrowLaws.{inode_not_bitmap}
+use Rattle.ice_map.proofs.MarkLaws.{used-same}
+use Rattle.ice_file.specs.Own.{blocks_for}
 use Rattle.std.proofs.lemmas.Bool.Decides.{nat_tests}
 use Rattle.ice_map.proofs.PutsLaws.{spent-after, spent-then}
 use Rattle.ice_map.specs.Maps.{cut_room}
@@ -46,3 +50,20 @@ pub returns-in_err-cut-clause-unused : goal.returns-in_err-cut-clause-unused
 returns-in_err-cut-clause-unused g c = λ e s.
     cut-loses (g.K.View.map c.args.keep.now c.args.disk.now c.args.lot.now) (g.K.View.map c.file_inode.new.view c.file_inode.new.disk c.args.lot.now) c.in_ok-inode.inode c.args.number c.args.len c.map_length-count.result c.map_length-rest.result
     c.file_inode.ensures.looked.map (c.in_ok-inode.ensures.value s) (omega arith) (omega arith) (c.in_err-cut.ensures.unused (search rules) (c.file_inode.ensures.looked.shows s))
+
+pub returns-clause-inodes : goal.returns-clause-inodes
+returns-clause-inodes g c = λ s i.
+    let lot = c.args.lot.now in
+    let m0 : ℕ → List ℕ = g.K.View.map c.file_inode.new.view c.file_inode.new.disk lot in
+    let m1 : ℕ → List ℕ = g.K.View.map c.cut.new.keep c.cut.new.disk lot in
+    let m2 : ℕ → List ℕ = g.K.View.map c.put_inode.new.keep c.put_inode.new.disk lot in
+    used-same true m1 m2 i (λ o. c.in_ok-put_inode.ensures.puts.only (256 * o) (λ e. inode_not_bitmap c.args.number o (sym e)))
+    ∙ (c.in_ok-cut.ensures.cut (c.file_inode.ensures.looked.shows s)).gave.inodes i
+    ∙ ap (λ (m : ℕ → List ℕ). used_inode m i) c.file_inode.ensures.looked.map
+
+pub returns-in_err-cut-clause-single_placed : goal.returns-in_err-cut-clause-single_placed
+returns-in_err-cut-clause-single_placed g c = λ e s long.
+    let same = c.in_ok-inode.ensures.value s in
+    let d = c.in_err-cut.ensures.single_placed (search rules) (let z = ap (λ (x : Inode). blocks_for x.size) same in omega (arith, c.map_length-count.ensures)) in
+    let y = ap (λ (x : Inode). x.single) same in
+    cc

@@ -54,7 +54,7 @@ returns-clause-broken g c = λ s reached has.
     (c.enter.ensures.broken (looked.shows s)
     (subst (λ (n : ℕ → List ℕ). Reached g.F.Form.ENTRY c.args.lot.now n c.in_ok-inode.inode) (sym looked.map) (row-reached g.F.Form.ENTRY c.args.lot.now m c.args.number c.args.k c.entry.new.into c.in_ok-inode.inode reached has.is row))
     (λ past.
-    subst (λ (n : ℕ → List ℕ). BadEntry g.F.Form.ENTRY c.args.lot.now n n) (sym looked.map)
+    subst (λ (n : ℕ → List ℕ). BadEntry g.F.Form.ENTRY c.args.lot.now n) (sym looked.map)
     (row-broken g.F.Form.ENTRY g.F.Form.is_one.1 c.args.lot.now m c.args.number reached has.is c.args.k c.entry.new.into c.in_ok-inode.inode row past)))
 
 pub returns-clause-child : goal.returns-clause-child

@@ -68,5 +68,5 @@ returns-in_err-place-clause-broken g c = λ s reached has.
     (c.in_err-place.ensures.broken (looked.shows s)
     (subst (λ (n : ℕ → List ℕ). Reached g.F.Form.ENTRY c.args.lot.now n c.in_ok-next.next) (sym looked.map) (row-reached g.F.Form.ENTRY c.args.lot.now m c.args.number c.args.k c.entry.new.into c.in_ok-next.next reached has.is (c.in_ok-next.ensures.row s)))
     (λ past.
-    subst (λ (n : ℕ → List ℕ). BadEntry g.F.Form.ENTRY c.args.lot.now n n) (sym looked.map)
+    subst (λ (n : ℕ → List ℕ). BadEntry g.F.Form.ENTRY c.args.lot.now n) (sym looked.map)
     (row-broken g.F.Form.ENTRY g.F.Form.is_one.1 c.args.lot.now m c.args.number reached has.is c.args.k c.entry.new.into c.in_ok-next.next (c.in_ok-next.ensures.row s) past))))

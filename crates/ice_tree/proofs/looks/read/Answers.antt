@@ -6,6 +6,12 @@ use Rattle.ice_reads.specs.Reads.{Reads}
 use Rattle.ice_reads.specs.Tables.{own_in}
 use Rattle.ice_reads.proofs.Focus.{Reads-part}
 use Rattle.ice_tree.proofs.LookLaws.{read-paths, read-walk, read-beyond, read-value, read-fails, file-bytes, fault_model}
+use Rattle.ice_map.specs.Inodes.{inode_of}
+use Rattle.ice_file.specs.Files.{ReachesTo}
+use Rattle.ice_tree.specs.Broken.{IsBroken, IsBrokenBy}
+use Rattle.ice_tree.specs.Places.{IsReached}
+use Rattle.ice_tree.proofs.FaultLaws.{fault-names}
+use Rattle.ice_tree.proofs.FileDamage.{read-blamed}
 use Rattle.ice_tree.proofs.looks.read.Goals as goal
 
 pub returns-in-Err-clause-answers : goal.returns-in-Err-clause-answers
@@ -48,3 +54,19 @@ returns-in-Err-read_at-clause-answers g c = λ mode k t s recovers.
     fault_model _ c.in-Err-read_at.fault _ c.refusal_of.ensures
     (read-fails f (ap form_of g.F.Form.is_one.0) c.args.lot.now (g.V.View.map c.file_at.new.view c.file_at.new.disk c.args.lot.now) c.in-Ok.file.number (0 + length names) x.0 (r _ looked.map)
     c.args.at (omega (arith, x.3)) c.in-Err-read_at.fault e.faults (λ q. e.kind (ap (λ y. Err y) q) (looked.shows s)) (λ q. e.pointer (ap (λ y. Err y) q) (looked.shows s)))
+
+pub returns-in-Err-read_at-clause-damaged : goal.returns-in-Err-read_at-clause-damaged
+returns-in-Err-read_at-clause-damaged g c = λ n named s.
+    let entry = g.F.Form.ENTRY in
+    let lot = c.args.lot.now in
+    let m0 : ℕ → List ℕ = g.V.View.map c.args.view.now c.args.disk.now lot in
+    let m1 : ℕ → List ℕ = g.V.View.map c.file_at.new.view c.file_at.new.disk lot in
+    let looked = c.file_at.ensures.looked in
+    let number = c.in-Ok.file.number in
+    let is = c.in-Ok.ensures.is s in
+    let reaches : ReachesTo c.args.at (inode_of m0 number) = record { kind = is.0; small = omega (arith, is.1, c.in-Ok.ensures.fits.1); reaches = omega (arith, is.1) } in
+    let e = c.in-Err-read_at.ensures in
+    let broken = read-blamed entry lot m1 c.args.at number (subst (λ (m : ℕ → List ℕ). IsReached entry lot m number) (sym looked.map) (c.in-Ok.ensures.reached s))
+    (subst (λ (m : ℕ → List ℕ). ReachesTo c.args.at (inode_of m number)) (sym looked.map) reaches)
+    c.in-Err-read_at.fault e.faults (λ q. e.kind (ap (λ y. Err y) q) (looked.shows s)) (λ q. e.pointer (ap (λ y. Err y) q) (looked.shows s)) in
+    fault-names (IsBroken entry lot m0) c.in-Err-read_at.fault c.refusal_of.result c.refusal_of.ensures (subst (λ (m : ℕ → List ℕ). IsBrokenBy entry lot m c.in-Err-read_at.fault) looked.map broken) n named

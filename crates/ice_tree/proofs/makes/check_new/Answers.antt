@@ -1,4 +1,4 @@
-use Rattle.std.proofs.Common.{◌+◌, ◌∙◌, length, drop, sym, ap, subst, [], ◌∷◌, arith}
+use Rattle.std.proofs.Common.{◌+◌, ◌∙◌, length, drop, sym, refl, ap, subst, [], ◌∷◌, arith}
 use Rattle.ice_base.proofs.LotLaws.{sited-few}
 use Rattle.ice_reads.specs.Tables.{Map}
 use Rattle.ice_tree.specs.Broken.{IsBroken}
@@ -15,6 +15,13 @@ use Rattle.ice_tree.specs.Stages.{or_else, paths_refusal, quota_refusal}
 use Rattle.ice_tree.proofs.SpotLaws.{new-stages, new-needs, root-is}
 use Rattle.ice_tree.proofs.StageLaws.{refused-now, refused-later, none-both, recovers-same}
 use Rattle.ice_tree.proofs.LookLaws.{fault_as}
+use Rattle.tree_spec.specs.Why as why
+use Rattle.tree_spec.specs.Replies.{Because}
+use Rattle.ice_tree.specs.Stages.{nodes_refusal, blocks_refusal, done_refusal}
+use Rattle.ice_tree.proofs.QuotaLaws.{many_nodes}
+use Rattle.ice_tree.proofs.SoundLaws.{spot-nodes}
+use Rattle.tree_spec.specs.Costs.{nodes}
+use Rattle.tree_spec.specs.Trees.{parent}
 use Rattle.ice_tree.proofs.makes.check_new.Goals as goal
 
 pub returns-in-Err-clause-spot : goal.returns-in-Err-clause-spot
@@ -80,6 +87,7 @@ returns-in-Ok-check_quota-clause-ready g c = λ s.
     let small = c.in-Ok-new_spot.ensures.fits c.args.lot.now c.in-Ok.ensures.fits in
     record {
       spot_is = spot;
+      room = omega arith;
       node = omega (arith, enough.nodes);
       blocks = omega (
         arith,
@@ -99,3 +107,18 @@ returns-in-Err-check_quota-clause-damaged g c = λ n e s.
 
 pub returns-in-Err-find_ends-clause-spot : goal.returns-in-Err-find_ends-clause-spot
 returns-in-Err-find_ends-clause-spot g c = λ dir mode k t s r. fault_as _ c.in-Err-find_ends.fault _ c.refusal_of.ensures (c.in-Err-find_ends.ensures.sound mode k t s r)
+
+pub returns-then-spot-len-clause-spot : goal.returns-then-spot-len-clause-spot
+returns-then-spot-len-clause-spot g c = λ dir mode k t s r.
+    let f = form_of g.F.Form.VERSION in
+    let p = drop c.args.depth c.args.path.now in
+    let n = length c.args.lot.now.groups in
+    let o = own_in f (g.K.View.map c.args.keep.now c.args.disk.now c.args.lot.now) in
+    let x = Because why.NoNodes in
+    let now = next (new_operation dir p) t in
+    let spot = c.in-Ok-new_spot.ensures.spot f o p t (c.in-Ok.ensures.found mode k t s r) (root-is c.args.path.now c.args.depth c.len.result c.requires.depth c.len.ensures) in
+    let needs = new-needs f (ap form_of g.F.Form.is_one.0) o p t c.in-Ok-new_spot.spot dir spot.0 spot.1 _ _ refl refl in
+    let many = many_nodes n (nodes now) (omega (arith, needs.nodes_move, spot-nodes f o (parent p) t c.in-Ok-new_spot.spot spot.0)) now refl in
+    new-stages dir t k n f p
+    ∙ refused-later x (paths_refusal f (p ∷ [])) (or_else (new_refusal p t) (quota_refusal n f k now)) c.in_default.ensures.refusal
+    (refused-later x (new_refusal p t) (quota_refusal n f k now) spot.1 (refused-now x (nodes_refusal n now) (or_else (blocks_refusal n f now) (done_refusal k)) many))

@@ -1,16 +1,18 @@
-use Rattle.std.proofs.Common.{drop, length, sym, subst}
+use Rattle.std.proofs.Common.{drop, length, refl, sym, subst}
 use Rattle.tree_spec.specs.Costs.{form_of}
 use Rattle.tree_spec.specs.Answers.{answer}
 use Rattle.tree_spec.specs.Replies.{refused_of}
 use Rattle.ice_tree.specs.Changes.{new_operation}
 use Rattle.ice_tree.proofs.LookLaws.{fault_model}
 use Rattle.ice_tree.proofs.MakeLaws.{new-changes}
-use Rattle.ice_tree.proofs.ReplyLaws.{fault-set, refused-model, accepted-model, accepted-recovers}
+use Rattle.ice_tree.proofs.ReplyLaws.{refused-model, accepted-model, accepted-recovers}
 use Rattle.ice_tree.proofs.SpotLaws.{takes-after}
 use Rattle.ice_reads.specs.Tables.{Map}
 use Rattle.ice_tree.specs.Broken.{IsBroken, IsBrokenBy}
 use Rattle.ice_tree.specs.Grounds.{NewFits}
 use Rattle.ice_tree.proofs.FaultLaws.{fault-names}
+use Rattle.ice_tree.specs.Outcomes.{make_refusals, change_rules}
+use Rattle.ice_tree.proofs.Sets.{fault-set}
 use Rattle.ice_tree.proofs.makes.make_node.Goals as goal
 
 pub returns-in-Err-clause-answers : goal.returns-in-Err-clause-answers
@@ -43,7 +45,7 @@ returns-in-Err-put_new-clause-answers g c = λ mode k t s r.
     fault_model c.refusal_of.result c.in-Err-put_new.fault (answer t k (length lot.groups) f (new_operation c.args.dir p)).0 c.refusal_of.ensures (c.in-Err-put_new.ensures.sound mode k t p (looked.shows s) takes)
 
 pub returns-in-Err-put_new-clause-set : goal.returns-in-Err-put_new-clause-set
-returns-in-Err-put_new-clause-set g c = fault-set c.refusal_of.result c.in-Err-put_new.fault c.refusal_of.ensures
+returns-in-Err-put_new-clause-set g c = fault-set make_refusals change_rules change_rules refl c.refusal_of.result c.in-Err-put_new.fault c.refusal_of.ensures c.in-Err-put_new.ensures.faults
 
 pub returns-in-Err-put_new-clause-damaged : goal.returns-in-Err-put_new-clause-damaged
 returns-in-Err-put_new-clause-damaged g c = λ n named s.

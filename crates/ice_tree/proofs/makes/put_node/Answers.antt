@@ -13,6 +13,9 @@ use Rattle.ice_steps.proofs.Keeps.{only-one}
 use Rattle.ice_tree.proofs.FaultLaws.{done-beside}
 use Rattle.ice_tree.proofs.NewDamage.{take-blamed, add-blamed}
 use Rattle.ice_tree.proofs.MakeLaws.{NodePut, take_sound, spot_apart, spot_well, add_sound, node_recovers}
+use Rattle.ice_tree.proofs.Sets.{take_inode-in, add-in}
+use Rattle.ice_tree.proofs.WellLaws.{dir-misled}
+use Rattle.ice_base.specs.declared.fault.Rule.TheVariants.{Pointer}
 use Rattle.ice_tree.proofs.makes.put_node.Goals as goal
 
 pub returns-in_err-number-clause-sound : goal.returns-in_err-number-clause-sound
@@ -42,7 +45,8 @@ returns-in_err-add-clause-sound g c = λ mode k t p s takes.
       put = subst (λ (x : Inode). InodeSet m1 m2 c.in_ok-number.number x) c.new_node.ensures (c.in_ok-put_inode.ensures.written s1);
       there = c.put_inode.ensures.puts.only;
     })
-    _ e.faults (λ q. e.none (ap (λ y. Err y) q) s2) (λ q. e.full (ap (λ y. Err y) q) s2) (λ q. e.kind (ap (λ y. Err y) q) s2) (λ q. e.pointer (ap (λ y. Err y) q) s2) (λ q. e.unreserved (ap (λ y. Err y) q) s2))
+    _ e.faults (λ q. e.none (ap (λ y. Err y) q) s2) (λ q. e.full (ap (λ y. Err y) q) s2) (λ q. e.kind (ap (λ y. Err y) q) s2)
+    (λ q. dir-misled c.args.lot.now g.F.Form.ENTRY m2 c.args.spot.now.number (e.is_dir Pointer (ap (λ y. Err y) q) (λ w. absurd cc) s2) (e.misled (ap (λ y. Err y) q) s2)) (λ q. e.unreserved (ap (λ y. Err y) q) s2))
 
 pub returns-clause-made : goal.returns-clause-made
 returns-clause-made g c = λ mode k t p s takes.
@@ -111,3 +115,13 @@ returns-clause-done g c = λ s.
     done-beside _ _ (c.in_ok-add.ensures.sub s2)
     ∙ ap (λ (b : List ℕ). long_at b 16) (only-one (inode_address c.in_ok-number.number) m1 m2 c.put_inode.ensures.puts.only sub_address (λ e. inode_not_sub c.in_ok-number.number (sym e)))
     ∙ long-beside _ _ 28 4 16 (c.in_ok-number.ensures.took s).counts.others (inl (omega arith))
+
+pub returns-in_err-number-clause-faults : goal.returns-in_err-number-clause-faults
+returns-in_err-number-clause-faults g c =
+    let x = err_from_is_err_and c.from_residual.result c.from_residual.ensures.1 in
+    rw (x.1, x.2) (take_inode-in _ c.in_err-number.ensures.faults)
+
+pub returns-in_err-add-clause-faults : goal.returns-in_err-add-clause-faults
+returns-in_err-add-clause-faults g c =
+    let x = err_from_is_err_and c.from_residual-in_err-add.result c.from_residual-in_err-add.ensures.1 in
+    rw (x.1, x.2) (add-in _ c.in_err-add.ensures.faults)

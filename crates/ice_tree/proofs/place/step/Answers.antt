@@ -78,5 +78,5 @@ returns-in-Some-clause-broken g c = λ s is reached.
     let next = named-reached g.F.Form.ENTRY c.args.lot.now m c.in-Dir.number c.args.name.now c.in-Some.next by (c.in_ok-find-in-Dir.ensures.is s) there in
     subst (λ (n : ℕ → List ℕ). IfErr c.enter.result (IsBrokenBy g.F.Form.ENTRY c.args.lot.now n)) looked.map
     (c.enter.ensures.broken (looked.shows s) (subst (λ (n : ℕ → List ℕ). Reached g.F.Form.ENTRY c.args.lot.now n c.in-Some.next) (sym looked.map) next) (λ past.
-    subst (λ (n : ℕ → List ℕ). BadEntry g.F.Form.ENTRY c.args.lot.now n n) (sym looked.map)
+    subst (λ (n : ℕ → List ℕ). BadEntry g.F.Form.ENTRY c.args.lot.now n) (sym looked.map)
     (named-broken g.F.Form.ENTRY g.F.Form.is_one.1 c.args.lot.now m c.in-Dir.number by (c.in_ok-find-in-Dir.ensures.is s) c.args.name.now _ there past)))

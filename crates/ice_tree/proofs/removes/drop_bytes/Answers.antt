@@ -7,9 +7,14 @@ use Rattle.ice_base.specs.declared.fault.OpFault.TheVariants.{Disk as FaultDisk}
 use Rattle.ice_file.specs.Files.{IsCutToFault}
 use Rattle.tree_spec.specs.Costs.{form_of}
 use Rattle.ice_tree.proofs.RemoveLaws.{err-is, loose-made, nothing-dropped, bytes-dropped, can-drop}
-use Rattle.ice_tree.proofs.FaultLaws.{err-by, done-beside}
-use Rattle.ice_tree.proofs.FileDamage.{cut-blamed}
-use Rattle.ice_tree.specs.Broken.{IsBrokenFrom, IsFaultBy}
+use Rattle.ice_tree.proofs.FaultLaws.{err-by, done-beside, count-beside}
+use Rattle.ice_tree.proofs.FileDamage.{cut-loose}
+use Rattle.ice_tree.proofs.Sets.{cut-in}
+use Rattle.ice_tree.proofs.WellLaws.{err-at, file-free, file-misled}
+use Rattle.ice_tree.specs.Broken.{IsFaultBy}
+use Rattle.ice_tree.specs.Grounds.{LooseBroken}
+use Rattle.ice_tree.specs.Outcomes.{IsNamedIn, change_rules}
+use Rattle.ice_base.specs.declared.fault.Rule.TheVariants.{Pointer, Bitmap}
 use Rattle.ice_tree.proofs.removes.drop_bytes.Goals as goal
 
 pub returns-then-bytes-eq0-clause-dropped : goal.returns-then-bytes-eq0-clause-dropped
@@ -34,17 +39,28 @@ returns-clause-sound g c = λ mode k t s l.
     err-is c.cut_to.result IsCutToFault FaultDisk x.faults
     (λ e is fault.
     can-drop (form_of g.F.Form.VERSION) (ap form_of g.F.Form.is_one.0) mode c.args.lot.now few m t k c.args.number c.args.bytes g.F.Form.ENTRY g.F.Form.is_one.1 l c.if-bytes-eq0.false
-    e fault (λ q. x.kind (is ∙ ap (λ (y : OpFault). Err y) q) s) (λ q. x.zero (is ∙ ap (λ (y : OpFault). Err y) q) s) (λ q. x.unused (is ∙ ap (λ (y : OpFault). Err y) q) s) (λ q. x.pointer (is ∙ ap (λ (y : OpFault). Err y) q) s))
+    e fault (λ q. x.kind (is ∙ ap (λ (y : OpFault). Err y) q) s) (λ q. let z = x.zero (is ∙ ap (λ (y : OpFault). Err y) q) s in omega arith)
+    (λ q. file-free c.args.lot.now g.F.Form.ENTRY m c.args.number 0 (err-at _ c.cut_to.result e is x.file Bitmap q (λ z. absurd cc) s) (x.unused (is ∙ ap (λ (y : OpFault). Err y) q) s))
+    (λ q. file-misled c.args.lot.now g.F.Form.ENTRY m c.args.number 0 (err-at _ c.cut_to.result e is x.file Pointer q (λ z. absurd cc) s) (x.misled (is ∙ ap (λ (y : OpFault). Err y) q) s)))
 
 pub returns-clause-broken : goal.returns-clause-broken
-returns-clause-broken g c = λ o s reached file.
+returns-clause-broken g c = λ s file.
+    let lot = c.args.lot.now in
+    let m : ℕ → List ℕ = g.K.View.map c.args.keep.now c.args.disk.now lot in
+    let x = c.cut_to.ensures in
+    err-by c.cut_to.result IsCutToFault (IsFaultBy (LooseBroken lot m c.args.number)) x.faults
+    (λ e is fault.
+    cut-loose lot m 0 c.args.number (file (omega arith)) e fault (λ q. x.kind (is ∙ ap (λ (y : OpFault). Err y) q) s) (λ q. x.zero (is ∙ ap (λ (y : OpFault). Err y) q) s) (λ q. x.unused (is ∙ ap (λ (y : OpFault). Err y) q) s)
+    (λ q. x.single_placed (is ∙ ap (λ (y : OpFault). Err y) q) s) (λ q. x.misled (is ∙ ap (λ (y : OpFault). Err y) q) s))
+
+pub returns-clause-faults : goal.returns-clause-faults
+returns-clause-faults g c = err-by c.cut_to.result IsCutToFault (IsNamedIn change_rules) c.cut_to.ensures.faults (λ e is fault. cut-in e fault)
+
+pub returns-clause-count : goal.returns-clause-count
+returns-clause-count g c = λ s.
     let m0 : ℕ → List ℕ = g.K.View.map c.args.keep.now c.args.disk.now c.args.lot.now in
     let m1 : ℕ → List ℕ = g.K.View.map c.cut_to.new.keep c.cut_to.new.disk c.args.lot.now in
-    let x = c.cut_to.ensures in
-    err-by c.cut_to.result IsCutToFault (IsFaultBy (IsBrokenFrom g.F.Form.ENTRY c.args.lot.now o m1)) x.faults
-    (λ e is fault.
-    cut-blamed g.F.Form.ENTRY c.args.lot.now o m0 m1 0 c.args.number reached (file (omega arith)) e fault (λ q. x.kind (is ∙ ap (λ (y : OpFault). Err y) q) s) (λ q. x.zero (is ∙ ap (λ (y : OpFault). Err y) q) s)
-    (λ r q. x.kept r (is ∙ ap (λ (y : OpFault). Err y) q) s) (λ q. x.empty (is ∙ ap (λ (y : OpFault). Err y) q) s) (λ q. x.unmarked (is ∙ ap (λ (y : OpFault). Err y) q) s) (λ q. x.misled (is ∙ ap (λ (y : OpFault). Err y) q) s))
+    on_ok_weaker c.cut_to.result (λ same. count-beside (m0 sub_address) (m1 sub_address) same) (c.cut_to.ensures.sub s)
 
 pub returns-clause-done : goal.returns-clause-done
 returns-clause-done g c = λ s.

@@ -5,6 +5,8 @@ use Rattle.tree_spec.specs.Costs.{form_of}
 use Rattle.tree_spec.specs.Answers.{next}
 use Rattle.tree_spec.specs.Operations.{Remove}
 use Rattle.ice_tree.proofs.CountLaws.{counts_up, count_room}
+use Rattle.ice_tree.proofs.RemoveDamage.{freed-counted}
+use Rattle.ice_tree.proofs.Sets.{count-in}
 use Rattle.ice_tree.proofs.removes.put_away.Goals as goal
 
 pub returns-in_err-take_away-clause-sound : goal.returns-in_err-take_away-clause-sound
@@ -29,3 +31,14 @@ returns-clause-taken g c = λ mode k t p s l.
     (sited-few c.args.lot.now _ c.requires.sited)
     (g.K.View.map c.count_up.new.keep c.count_up.new.disk c.args.lot.now)
     (c.in_ok-count_up.ensures.counted (c.take_away.ensures.spent.shows s))
+
+pub returns-in_err-count_up-clause-faults : goal.returns-in_err-count_up-clause-faults
+returns-in_err-count_up-clause-faults g c =
+    let x = err_from_is_err_and c.from_residual-in_err-count_up.result c.from_residual-in_err-count_up.ensures.1 in
+    rw (x.1, x.2) (count-in _ c.in_err-count_up.ensures.faults)
+
+pub returns-clause-freed : goal.returns-clause-freed
+returns-clause-freed g c = λ s.
+    let lot = c.args.lot.now in
+    freed-counted (g.K.View.map c.take_away.new.keep c.take_away.new.disk lot) (g.K.View.map c.count_up.new.keep c.count_up.new.disk lot) c.args.gone.now.number _
+    (c.in_ok-count_up.ensures.counted (c.take_away.ensures.spent.shows s)) (c.in_ok-take_away.ensures.freed s)

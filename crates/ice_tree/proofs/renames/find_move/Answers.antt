@@ -10,7 +10,7 @@ use Rattle.ice_reads.specs.Tables.{Map, own_in}
 use Rattle.ice_tree.specs.Broken.{IsBroken}
 use Rattle.ice_tree.specs.Changes.{IsEnds}
 use Rattle.ice_tree.specs.Grounds.{EndsAre, MoveIs}
-use Rattle.ice_tree.specs.Outcomes.{rule_number}
+use Rattle.ice_rules.specs.Rules.{rule_number}
 use Rattle.ice_tree.specs.Places.{place_at, PlaceIs, PlaceReached}
 use Rattle.ice_tree.specs.Renames.{height_refusal, ends_refusal, IsMove}
 use Rattle.ice_tree.proofs.LookLaws.{fault_as}

@@ -1,15 +1,7 @@
-use Rattle.std.proofs.Common.{refl}
-use Rattle.ice_base.specs.declared.fault.Rule.TheVariants.{Kind}
 use Rattle.tree_spec.specs.Trees.{parent}
 use Rattle.ice_tree.proofs.RenameLaws.{ends-dirs, spot-is, spot-there}
 use Rattle.ice_tree.proofs.RenameDamage.{move-is}
 use Rattle.ice_tree.proofs.renames.move_of.Goals as goal
-
-pub returns-in-None-clause-set : goal.returns-in-None-clause-set
-returns-in-None-clause-set c = (Kind, refl)
-
-pub returns-in-None-spot_at-clause-set : goal.returns-in-None-spot_at-clause-set
-returns-in-None-spot_at-clause-set c = (Kind, refl)
 
 pub returns-in-None-clause-step : goal.returns-in-None-clause-step
 returns-in-None-clause-step c = λ f o p q t a b same none. spot-there f o (parent p) t _ a.at_parent (ends-dirs p q t none).0 c.in-None.ensures

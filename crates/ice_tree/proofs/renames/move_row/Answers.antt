@@ -7,6 +7,9 @@ use Rattle.ice_tree.proofs.RenameLawsRows.{from_well, take_sound, row_there, row
 use Rattle.ice_tree.proofs.FaultLaws.{done-beside}
 use Rattle.ice_tree.proofs.TakeDamage.{take-blamed}
 use Rattle.ice_tree.proofs.MoveDamage.{add-blamed}
+use Rattle.ice_tree.proofs.Sets.{take-in, add-in}
+use Rattle.ice_tree.proofs.WellLaws.{dir-free, dir-confused, dir-misled}
+use Rattle.ice_base.specs.declared.fault.Rule.TheVariants.{Pointer, Bitmap}
 use Rattle.ice_tree.proofs.renames.move_row.Goals as goal
 
 pub returns-in_err-take-clause-sound : goal.returns-in_err-take-clause-sound
@@ -18,7 +21,9 @@ returns-in_err-take-clause-sound g c = λ mode k t p q s x differ.
     let y = err_from_is_err_and c.from_residual.result c.from_residual.ensures.1 in
     let e = c.in_err-take.ensures in
     rw (y.1, y.2) (take_sound f one g.F.Form.ENTRY g.F.Form.is_one.1 mode c.args.lot.now m t k p q c.args.step.now c.args.name.now c.args.new.now few x differ _ e.faults
-    (λ z. e.zero (ap (λ y. Err y) z) s) (λ z. e.kind (ap (λ y. Err y) z) s) (λ z. e.unused (ap (λ y. Err y) z) s) (λ z. e.pointer (ap (λ y. Err y) z) s))
+    (λ z. e.zero (ap (λ y. Err y) z) s) (λ z. e.kind (ap (λ y. Err y) z) s) 
+    (λ z. dir-free c.args.lot.now g.F.Form.ENTRY m c.args.step.now.from.number (e.is_dir Bitmap (ap (λ y. Err y) z) (λ w. absurd cc) s) (e.unused (ap (λ y. Err y) z) s))
+    (λ z. dir-confused c.args.lot.now g.F.Form.ENTRY m c.args.step.now.from.number (e.is_dir Pointer (ap (λ y. Err y) z) (λ w. absurd cc) s) (e.misled (ap (λ y. Err y) z) s)))
 
 pub returns-in-None-clause-sound : goal.returns-in-None-clause-sound
 returns-in-None-clause-sound g c = λ mode k t p q s x differ.
@@ -55,7 +60,7 @@ returns-in_err-add-in-Some-clause-sound g c = λ mode k t p q s x differ.
     let e = c.in_err-add-in-Some.ensures in
     let s1 = c.take.ensures.spent.shows s in
     rw (y.1, y.2) (add_sound f one g.F.Form.ENTRY g.F.Form.is_one.1 mode c.args.lot.now m t k p q c.args.step.now c.args.name.now c.args.new.now few x differ m1 c.in-Some.number found set _ e.faults
-    (λ z. e.none (ap (λ y. Err y) z) s1) (λ z. e.full (ap (λ y. Err y) z) s1) (λ z. e.kind (ap (λ y. Err y) z) s1) (λ z. e.pointer (ap (λ y. Err y) z) s1) (λ z. e.unreserved (ap (λ y. Err y) z) s1))
+    (λ z. e.none (ap (λ y. Err y) z) s1) (λ z. e.full (ap (λ y. Err y) z) s1) (λ z. e.kind (ap (λ y. Err y) z) s1) (λ z. dir-misled c.args.lot.now g.F.Form.ENTRY m1 c.args.step.now.to.number (e.is_dir Pointer (ap (λ y. Err y) z) (λ w. absurd cc) s1) (e.misled (ap (λ y. Err y) z) s1)) (λ z. e.unreserved (ap (λ y. Err y) z) s1))
 
 pub returns-in_ok-add-in-Some-clause-moved : goal.returns-in_ok-add-in-Some-clause-moved
 returns-in_ok-add-in-Some-clause-moved g c = λ mode k t p q s x differ.
@@ -76,28 +81,25 @@ pub returns-in_err-take-clause-broken : goal.returns-in_err-take-clause-broken
 returns-in_err-take-clause-broken g c = λ s is fits differ.
     let lot = c.args.lot.now in
     let m0 : ℕ → List ℕ = g.K.View.map c.args.keep.now c.args.disk.now lot in
-    let m1 : ℕ → List ℕ = g.K.View.map c.take.new.keep c.take.new.disk lot in
     let x = err_from_is_err_and c.from_residual.result c.from_residual.ensures.1 in
     let e = c.in_err-take.ensures in
     rw (x.1, x.2)
-    (take-blamed g.F.Form.ENTRY lot m0 m1 c.args.step.now.from.number is.from_is.reached is.from_is.dir _ e.faults (λ q. e.zero (ap (λ y. Err y) q) s) (λ q. e.kind (ap (λ y. Err y) q) s)
-    (λ r q. e.kept r (ap (λ y. Err y) q) s) (λ q. e.unmarked (ap (λ y. Err y) q) s) (λ q. e.misled (ap (λ y. Err y) q) s))
+    (take-blamed g.F.Form.ENTRY lot m0 c.args.step.now.from.number is.from_is.reached is.from_is.dir _ e.faults (λ q. e.zero (ap (λ y. Err y) q) s) (λ q. e.kind (ap (λ y. Err y) q) s)
+    (λ q. e.unused (ap (λ y. Err y) q) s) (λ q. e.misled (ap (λ y. Err y) q) s))
 
 pub returns-in_err-add-in-Some-clause-broken : goal.returns-in_err-add-in-Some-clause-broken
 returns-in_err-add-in-Some-clause-broken g c = λ s is fits differ.
     let lot = c.args.lot.now in
     let m0 : ℕ → List ℕ = g.K.View.map c.args.keep.now c.args.disk.now lot in
     let m1 : ℕ → List ℕ = g.K.View.map c.take.new.keep c.take.new.disk lot in
-    let m2 : ℕ → List ℕ = g.K.View.map c.add.new.keep c.add.new.disk lot in
     let few = sited-few lot _ c.requires.sited in
     let left = c.in_ok-take.ensures.left s (subst (λ (o : Option ℕ). IsSome o) (sym c.in-Some.is) refl) in
     let x = err_from_is_err_and c.from_residual-in_err-add-in-Some.result c.from_residual-in_err-add-in-Some.ensures.1 in
     let e = c.in_err-add-in-Some.ensures in
     let s1 = c.take.ensures.spent.shows s in
     rw (x.1, x.2)
-    (add-blamed g.F.Form.ENTRY g.F.Form.is_one.1 lot few m0 m1 c.args.name.now c.args.step.now is fits differ left m2 _ e.faults
-    (λ z. e.none (ap (λ y. Err y) z) s1) (λ z. e.full (ap (λ y. Err y) z) s1) (λ z. e.kind (ap (λ y. Err y) z) s1) (λ z. e.unreserved (ap (λ y. Err y) z) s1) (λ z. e.misled (ap (λ y. Err y) z) s1)
-    (λ r z n. e.is_dir r (ap (λ y. Err y) z) n s1) (λ z. (e.unmoved (ap (λ y. Err y) z)).map))
+    (add-blamed g.F.Form.ENTRY g.F.Form.is_one.1 lot few m0 m1 c.args.name.now c.args.step.now is fits differ left _ e.faults
+    (λ z. e.none (ap (λ y. Err y) z) s1) (λ z. e.full (ap (λ y. Err y) z) s1) (λ z. e.kind (ap (λ y. Err y) z) s1) (λ z. e.unreserved (ap (λ y. Err y) z) s1) (λ z. e.misled (ap (λ y. Err y) z) s1))
 
 pub returns-in_ok-add-in-Some-clause-done : goal.returns-in_ok-add-in-Some-clause-done
 returns-in_ok-add-in-Some-clause-done g c = λ s.
@@ -107,3 +109,13 @@ returns-in_ok-add-in-Some-clause-done g c = λ s.
     let m2 : ℕ → List ℕ = g.K.View.map c.add.new.keep c.add.new.disk lot in
     let left = c.in_ok-take.ensures.left s (subst (λ (o : Option ℕ). IsSome o) (sym c.in-Some.is) refl) in
     done-beside (m1 sub_address) (m2 sub_address) (c.in_ok-add-in-Some.ensures.sub (c.take.ensures.spent.shows s)) ∙ done-beside (m0 sub_address) (m1 sub_address) left.sub
+
+pub returns-in_err-take-clause-faults : goal.returns-in_err-take-clause-faults
+returns-in_err-take-clause-faults g c =
+    let x = err_from_is_err_and c.from_residual.result c.from_residual.ensures.1 in
+    rw (x.1, x.2) (take-in _ c.in_err-take.ensures.faults)
+
+pub returns-in_err-add-in-Some-clause-faults : goal.returns-in_err-add-in-Some-clause-faults
+returns-in_err-add-in-Some-clause-faults g c =
+    let x = err_from_is_err_and c.from_residual-in_err-add-in-Some.result c.from_residual-in_err-add-in-Some.ensures.1 in
+    rw (x.1, x.2) (add-in _ c.in_err-add-in-Some.ensures.faults)

@@ -1,4 +1,4 @@
-use Rattle.std.proofs.Common.{◌≡◌, ℕ, ◌+◌, ◌-◌, List, [], ◌∷◌, Err, length, drop, take, get_or, sym, ap, ◌∙◌, arith, subst, inl}
+use Rattle.std.proofs.Common.{◌≡◌, ℕ, ◌+◌, ◌-◌, List, [], ◌∷◌, Err, length, drop, take, get_or, sym, ap, ◌∙◌, arith, subst, refl}
 use Rattle.tree_spec.specs.Costs.{form_of}
 use Rattle.tree_spec.specs.Operations.{Rename}
 use Rattle.tree_spec.specs.Answers.{next, refusal}
@@ -12,11 +12,13 @@ use Rattle.ice_tree.specs.Stages.{or_else, paths_refusal, quota_refusal}
 use Rattle.ice_tree.proofs.EndLaws.{names-last}
 use Rattle.ice_tree.proofs.LookLaws.{as_model, as_accepted, fault_model, first_stage}
 use Rattle.ice_tree.proofs.Names.{name-of}
-use Rattle.ice_tree.proofs.RenameLaws.{rename-stages, refusal-set, names-short, renames-are, answer-next}
-use Rattle.ice_tree.specs.Broken.{IsBrokenIn, IsFaultBy}
+use Rattle.ice_tree.proofs.RenameLaws.{rename-stages, names-short, renames-are, answer-next}
+use Rattle.ice_tree.specs.Broken.{IsBroken, IsBrokenBy}
 use Rattle.ice_tree.specs.Grounds.{MoveIs, RowFits}
 use Rattle.ice_tree.proofs.FaultLaws.{fault-names}
 use Rattle.ice_tree.proofs.SpotLaws.{last-is}
+use Rattle.ice_tree.specs.Outcomes.{rename_refusals, change_rules, rename_rules}
+use Rattle.ice_tree.proofs.Sets.{fault-set}
 use Rattle.ice_tree.proofs.renames.rename.Goals as goal
 
 pub returns-in-Err-clause-answers : goal.returns-in-Err-clause-answers
@@ -50,7 +52,7 @@ returns-in-Err-may_move-clause-answers g c = λ mode k t s r.
     as_model t k n f (Rename p q) (refused_of c.in-Err-may_move.refusal) (refusal t k n f (Rename p q)) (c.in-Err-may_move.ensures.found mode k t s r) (λ w h. h)
 
 pub returns-in-Err-put_moved-clause-set : goal.returns-in-Err-put_moved-clause-set
-returns-in-Err-put_moved-clause-set g c = rw c.refusal_of.ensures (refusal-set c.in-Err-put_moved.fault)
+returns-in-Err-put_moved-clause-set g c = fault-set rename_refusals change_rules rename_rules refl c.refusal_of.result c.in-Err-put_moved.fault c.refusal_of.ensures c.in-Err-put_moved.ensures.faults
 
 pub returns-in-Err-put_moved-clause-answers : goal.returns-in-Err-put_moved-clause-answers
 returns-in-Err-put_moved-clause-answers g c = λ mode k t s r.
@@ -86,18 +88,17 @@ pub returns-in-Err-may_move-clause-damaged : goal.returns-in-Err-may_move-clause
 returns-in-Err-may_move-clause-damaged g c = λ n e s.
     let same : c.in-Err-may_move.refusal ≡ Damaged n = cc in
     let x = c.in-Err-may_move.ensures.damaged n (ap (λ y. Err y) same) s in
-    (x.0, x.1, inl x.2)
+    (x.0, x.1, x.2)
 
 pub returns-in-Err-put_moved-clause-damaged : goal.returns-in-Err-put_moved-clause-damaged
 returns-in-Err-put_moved-clause-damaged g c = λ n e s.
     let entry = g.F.Form.ENTRY in
     let lot = c.args.lot.now in
     let m : Map = g.K.View.map c.args.keep.now c.args.disk.now lot in
-    let last : Map = g.K.View.map c.put_moved.new.keep c.put_moved.new.disk lot in
     let step = c.in-Ok.step in
     let looked = c.may_move.ensures.looked in
     let below = c.in-Ok.ensures.below.0 in
     let name = last-is c.args.path.now c.args.depth (c.len.result - 1) c.name-name.result (omega (arith, below, c.len.ensures)) (omega (arith, below, c.len.ensures)) (c.name-name.ensures []) in
     let is = subst (λ (x : List ℕ). MoveIs entry lot m x step) (sym name) (c.in-Ok.ensures.is s) in
     let broken = c.in-Err-put_moved.ensures.broken (looked.shows s) (subst (λ (x : Map). MoveIs entry lot x c.name-name.result step) (sym looked.map) is) (subst (λ (x : Map). RowFits entry lot x step) (sym looked.map) (c.in-Ok.ensures.room s)) in
-    fault-names (IsBrokenIn entry lot m last) c.in-Err-put_moved.fault _ c.refusal_of.ensures (subst (λ (x : Map). IsFaultBy (IsBrokenIn entry lot x last) c.in-Err-put_moved.fault) looked.map broken) n e
+    fault-names (IsBroken entry lot m) c.in-Err-put_moved.fault _ c.refusal_of.ensures (subst (λ (x : Map). IsBrokenBy entry lot x c.in-Err-put_moved.fault) looked.map broken) n e

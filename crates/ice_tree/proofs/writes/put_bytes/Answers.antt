@@ -8,6 +8,8 @@ use Rattle.ice_base.specs.Fields.{long_at}
 use Rattle.ice_base.specs.Lots.{sub_address}
 use Rattle.ice_tree.proofs.FaultLaws.{count-broken, done-beside}
 use Rattle.ice_tree.proofs.FileDamage.{write-blamed}
+use Rattle.ice_tree.proofs.WellLaws.{file-confused}
+use Rattle.ice_tree.proofs.Sets.{write-in, count-in}
 use Rattle.ice_tree.proofs.CountLaws.{counts_up, count_room}
 use Rattle.ice_tree.proofs.FileLaws.{write-made, write-recovers, write-sound}
 use Rattle.ice_tree.proofs.writes.put_bytes.Goals as goal
@@ -18,7 +20,7 @@ returns-in_err-write_at-clause-sound g c = λ mode k t p s takes.
     let e = c.in_err-write_at.ensures in
     rw (x.1, x.2)
     (write-sound (form_of g.F.Form.VERSION) (ap form_of g.F.Form.is_one.0) g.F.Form.ENTRY g.F.Form.is_one.1 mode c.args.lot.now (g.K.View.map c.args.keep.now c.args.disk.now c.args.lot.now) t k p c.args.number (sited-few c.args.lot.now _ c.requires.sited)
-    c.args.at c.args.bytes.now takes _ e.faults (λ q. e.none (ap (λ y. Err y) q) s) (λ q. e.full (ap (λ y. Err y) q) s) (λ q. e.kind (ap (λ y. Err y) q) s) (λ q. e.pointer (ap (λ y. Err y) q) s) (λ q. e.unreserved (ap (λ y. Err y) q) s))
+    c.args.at c.args.bytes.now takes _ e.faults (λ q. e.none (ap (λ y. Err y) q) s) (λ q. e.full (ap (λ y. Err y) q) s) (λ q. e.kind (ap (λ y. Err y) q) s) (λ q. file-confused c.args.lot.now g.F.Form.ENTRY (g.K.View.map c.args.keep.now c.args.disk.now c.args.lot.now) c.args.number c.args.at (e.file (ap (λ y. Err y) q) s) (e.misled (ap (λ y. Err y) q) s)) (λ q. e.unreserved (ap (λ y. Err y) q) s))
 
 pub returns-in_err-count_up-clause-sound : goal.returns-in_err-count_up-clause-sound
 returns-in_err-count_up-clause-sound g c = λ mode k t p s takes.
@@ -55,8 +57,8 @@ returns-in_err-write_at-clause-broken g c = λ s fits.
     let e = c.in_err-write_at.ensures in
     let m0 = g.K.View.map c.args.keep.now c.args.disk.now c.args.lot.now in
     rw (x.1, x.2)
-    (write-blamed g.F.Form.ENTRY c.args.lot.now m0 (g.K.View.map c.write_at.new.keep c.write_at.new.disk c.args.lot.now) c.args.at (c.args.at + length c.args.bytes.now) c.args.number (sited-few c.args.lot.now _ c.requires.sited) c.requires.short fits _ e.faults
-    (λ q. e.none (ap (λ y. Err y) q) s) (λ q. e.full (ap (λ y. Err y) q) s) (λ q. e.kind (ap (λ y. Err y) q) s) (λ q. e.unreserved (ap (λ y. Err y) q) s) (λ q. e.misled (ap (λ y. Err y) q) s) (λ q. e.kept _ (ap (λ y. Err y) q) s))
+    (write-blamed g.F.Form.ENTRY c.args.lot.now m0 c.args.at (c.args.at + length c.args.bytes.now) c.args.number (sited-few c.args.lot.now _ c.requires.sited) c.requires.short fits _ e.faults
+    (λ q. e.none (ap (λ y. Err y) q) s) (λ q. e.full (ap (λ y. Err y) q) s) (λ q. e.kind (ap (λ y. Err y) q) s) (λ q. e.unreserved (ap (λ y. Err y) q) s) (λ q. e.misled (ap (λ y. Err y) q) s))
 
 pub returns-in_err-count_up-clause-broken : goal.returns-in_err-count_up-clause-broken
 returns-in_err-count_up-clause-broken g c = λ s fits.
@@ -66,3 +68,13 @@ returns-in_err-count_up-clause-broken g c = λ s fits.
     let m1 = g.K.View.map c.write_at.new.keep c.write_at.new.disk c.args.lot.now in
     let stays = done-beside (m0 sub_address) (m1 sub_address) (c.in_ok-write_at.ensures.sub s) in
     rw (x.1, x.2) (count-broken _ (long_at (m1 sub_address) 16) _ e.faults (λ q. e.full (ap (λ y. Err y) q) (c.write_at.ensures.spent.shows s)) (omega (arith, stays, fits.done)))
+
+pub returns-in_err-write_at-clause-faults : goal.returns-in_err-write_at-clause-faults
+returns-in_err-write_at-clause-faults g c =
+    let x = err_from_is_err_and c.from_residual.result c.from_residual.ensures.1 in
+    rw (x.1, x.2) (write-in _ c.in_err-write_at.ensures.faults)
+
+pub returns-in_err-count_up-clause-faults : goal.returns-in_err-count_up-clause-faults
+returns-in_err-count_up-clause-faults g c =
+    let x = err_from_is_err_and c.from_residual-in_err-count_up.result c.from_residual-in_err-count_up.ensures.1 in
+    rw (x.1, x.2) (count-in _ c.in_err-count_up.ensures.faults)

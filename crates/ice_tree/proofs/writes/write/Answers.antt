@@ -1,15 +1,17 @@
-use Rattle.std.proofs.Common.{drop, length, refl, ◌+◌, sym, subst, inl}
+use Rattle.std.proofs.Common.{drop, length, refl, ◌+◌, sym, subst}
 use Rattle.tree_spec.specs.Costs.{form_of}
 use Rattle.tree_spec.specs.Answers.{answer}
 use Rattle.tree_spec.specs.Operations.{Write}
 use Rattle.tree_spec.specs.Replies.{refused_of}
 use Rattle.ice_tree.proofs.FileLaws.{takes_at-after}
 use Rattle.ice_tree.proofs.LookLaws.{fault_model}
-use Rattle.ice_tree.proofs.ReplyLaws.{fault-set, refused-model, accepted-model, accepted-recovers}
+use Rattle.ice_tree.proofs.ReplyLaws.{refused-model, accepted-model, accepted-recovers}
 use Rattle.ice_reads.specs.Tables.{Map}
-use Rattle.ice_tree.specs.Broken.{IsBrokenIn, IsFaultBy}
+use Rattle.ice_tree.specs.Broken.{IsBroken, IsBrokenBy}
 use Rattle.ice_tree.specs.Grounds.{BytesFit}
 use Rattle.ice_tree.proofs.FaultLaws.{broke-too, fault-names}
+use Rattle.ice_tree.specs.Outcomes.{write_refusals, change_rules}
+use Rattle.ice_tree.proofs.Sets.{fault-set}
 use Rattle.ice_tree.proofs.writes.write.Goals as goal
 
 pub returns-in-Err-clause-answers : goal.returns-in-Err-clause-answers
@@ -41,17 +43,16 @@ returns-in-Err-put_bytes-clause-answers g c = λ mode k t s r.
     fault_model c.refusal_of.result c.in-Err-put_bytes.fault (answer t k (length lot.groups) f (Write p c.args.at c.args.bytes.now)).0 c.refusal_of.ensures (c.in-Err-put_bytes.ensures.sound mode k t p (looked.shows s) takes)
 
 pub returns-in-Err-put_bytes-clause-set : goal.returns-in-Err-put_bytes-clause-set
-returns-in-Err-put_bytes-clause-set g c = fault-set c.refusal_of.result c.in-Err-put_bytes.fault c.refusal_of.ensures
+returns-in-Err-put_bytes-clause-set g c = fault-set write_refusals change_rules change_rules refl c.refusal_of.result c.in-Err-put_bytes.fault c.refusal_of.ensures c.in-Err-put_bytes.ensures.faults
 
 pub returns-in-Err-clause-damaged : goal.returns-in-Err-clause-damaged
-returns-in-Err-clause-damaged g c = λ n named s. broke-too _ _ (λ r h. inl h) c.in-Err.refusal (λ i is. c.in-Err.ensures.damaged i is s) n named
+returns-in-Err-clause-damaged g c = λ n named s. broke-too _ _ (λ r h. h) c.in-Err.refusal (λ i is. c.in-Err.ensures.damaged i is s) n named
 
 pub returns-in-Err-put_bytes-clause-damaged : goal.returns-in-Err-put_bytes-clause-damaged
 returns-in-Err-put_bytes-clause-damaged g c = λ n named s.
     let lot = c.args.lot.now in
     let m0 = g.K.View.map c.args.keep.now c.args.disk.now lot in
-    let m2 = g.K.View.map c.put_bytes.new.keep c.put_bytes.new.disk lot in
     let looked = c.check_write.ensures.looked in
     let broken = c.in-Err-put_bytes.ensures.broken (looked.shows s) (subst (λ (m : Map). BytesFit g.F.Form.ENTRY lot m c.args.at (c.args.at + length c.args.bytes.now) c.in-Ok.number) (sym looked.map) (c.in-Ok.ensures.ready s)) in
-    fault-names (IsBrokenIn g.F.Form.ENTRY lot m0 m2) c.in-Err-put_bytes.fault c.refusal_of.result c.refusal_of.ensures
-    (subst (λ (m : Map). IsFaultBy (IsBrokenIn g.F.Form.ENTRY lot m m2) c.in-Err-put_bytes.fault) looked.map broken) n named
+    fault-names (IsBroken g.F.Form.ENTRY lot m0) c.in-Err-put_bytes.fault c.refusal_of.result c.refusal_of.ensures
+    (subst (λ (m : Map). IsBrokenBy g.F.Form.ENTRY lot m c.in-Err-put_bytes.fault) looked.map broken) n named
