@@ -3,7 +3,7 @@ ghost use Rattle.std.specs.Prelude.{◌≡◌, ◌≤◌, ◌<◌, ◌+◌, ◌^
 ghost use Rattle.ice_base.specs.Disk.{Rose};
 ghost use Rattle.ice_base.specs.Fields.{long_at};
 ghost use Rattle.ice_base.specs.Lots.{is_sited, sub_address};
-ghost use Rattle.ice_base.specs.Views.{Looked, Spent};
+ghost use Rattle.ice_base.specs.Views.{Looked, Spent, AsShown, IfShown};
 ghost use Rattle.ice_base.specs.declared.fault.OpFault.TheVariants.{Disk as FaultDisk, Damaged};
 ghost use Rattle.ice_base.specs.declared.fault.Rule.{Rule};
 ghost use Rattle.ice_base.specs.declared.fault.Rule.TheVariants.{Done};
@@ -33,11 +33,15 @@ pub(crate) fn done_of<D: Disk, V: View<D>, F: Form>(
     lot: &Lot,
 ) -> Result<u64, OpFault>
     requires { is_sited lot.now (D.state disk.old).size ≡ true }
-    ensures done { (mode k : ℕ) (t : Tree) → V.shows lot.now view.old disk.old → MapRecovers (form_of F.VERSION) mode lot.now (V.map view.old disk.old lot.now) t k → IfOk result (λ done. done ≡ k) }
-    ensures sound { (mode k : ℕ) (t : Tree) → V.shows lot.now view.old disk.old → MapRecovers (form_of F.VERSION) mode lot.now (V.map view.old disk.old lot.now) t k → IfErr result (λ e. e ≡ FaultDisk) }
-    ensures value { V.shows lot.now view.old disk.old → IfOk result (λ done. done ≡ long_at (V.map view.old disk.old lot.now sub_address) 16) }
+    ensures done { (mode k : ℕ) (t : Tree) → IfShown V.View lot.now view.old disk.old (λ old.
+        MapRecovers (form_of F.VERSION) mode lot.now old t k → IfOk result (λ done. done ≡ k)) }
+    ensures sound { (mode k : ℕ) (t : Tree) → IfShown V.View lot.now view.old disk.old (λ old.
+        MapRecovers (form_of F.VERSION) mode lot.now old t k → IfErr result (λ e. e ≡ FaultDisk)) }
+    ensures value { IfShown V.View lot.now view.old disk.old (λ old.
+        IfOk result (λ done. done ≡ long_at (old sub_address) 16)) }
     ensures small { IfOk result (λ done. done < 2 ^ 63) }
-    ensures rule { (r : Rule) → IsErrOf result (Damaged r) → V.shows lot.now view.old disk.old → sub_rule lot.now.slot (V.map view.old disk.old lot.now sub_address) ≡ Some r }
+    ensures rule { (r : Rule) → IsErrOf result (Damaged r) → IfShown V.View lot.now view.old disk.old (λ old.
+        sub_rule lot.now.slot (old sub_address) ≡ Some r) }
     ensures looked { Looked D.Disk V.View lot.now view.old disk.old view.new disk.new }
     ensures faults { IfErr result (IsNamedIn sub_rules) }
     ensures failed { IsErrOf result FaultDisk → Rose (D.state disk.old).faults (D.state disk.new).faults }
@@ -59,9 +63,11 @@ pub(crate) fn count_up<D: Disk, K: Keep<D>>(
 ) -> Result<(), OpFault>
     requires sited { is_sited lot.now (D.state disk.old).size ≡ true }
     requires room { 1 ≤ K.room keep.old }
-    ensures counted { K.shows lot.now keep.old disk.old → OnOk result (DoneSet (K.map keep.old disk.old lot.now) (K.map keep.new disk.new lot.now) (long_at (K.map keep.old disk.old lot.now sub_address) 16 + 1)) }
+    ensures counted { AsShown K.View lot.now keep.old disk.old keep.new disk.new (λ old new.
+        OnOk result (DoneSet old new (long_at (old sub_address) 16 + 1))) }
     ensures held { OnOk result (K.held keep.new sub_address ≡ true) }
-    ensures full { IsErrOf result (Damaged Done) → K.shows lot.now keep.old disk.old → 2 ^ 63 ≤ long_at (K.map keep.old disk.old lot.now sub_address) 16 + 1 }
+    ensures full { IsErrOf result (Damaged Done) → IfShown K.View lot.now keep.old disk.old (λ old.
+        2 ^ 63 ≤ long_at (old sub_address) 16 + 1) }
     ensures spent { Spent D.Disk K.View lot.now 1 keep.old disk.old keep.new disk.new }
     ensures faults { IfErr result IsCountFault }
     ensures failed { IsErrOf result FaultDisk → Rose (D.state disk.old).faults (D.state disk.new).faults }

@@ -2,7 +2,7 @@
 ghost use Rattle.std.specs.Prelude.{◌≡◌, ◌≤◌, ◌<◌, ℕ, true, [], ◌∷◌, None, IfOk, IfErr, IsErrOf, length, drop};
 ghost use Rattle.ice_base.specs.Disk.{Rose};
 ghost use Rattle.ice_base.specs.Lots.{is_sited};
-ghost use Rattle.ice_base.specs.Views.{Looked};
+ghost use Rattle.ice_base.specs.Views.{Looked, IfShown};
 ghost use Rattle.ice_base.specs.declared.fault.OpFault.TheVariants.{Disk as FaultDisk};
 ghost use Rattle.tree_spec.specs.Costs.{form_of};
 ghost use Rattle.tree_spec.specs.Names.{is_name};
@@ -38,7 +38,8 @@ pub(crate) fn last_of<F: Form>(path: &Path, depth: usize) -> Name
     requires { depth < length path.now }
     ensures last { result ≡ last_name (drop depth path.now) }
     ensures name { is_name result ≡ true }
-    ensures short { paths_refusal (form_of F.VERSION) (drop depth path.now ∷ []) ≡ None → length result ≤ F.NAME }
+    ensures short { paths_refusal (form_of F.VERSION) (drop depth path.now ∷ []) ≡ None
+        → length result ≤ F.NAME }
 {
     let name = path.name(path.len() - 1);
     let _ = name.bytes();
@@ -56,13 +57,19 @@ pub(crate) fn find_ends<D: Disk, V: View<D>, F: Form>(
     requires sited { is_sited lot.now (D.state disk.old).size ≡ true }
     requires some { 1 ≤ length lot.now.groups }
     requires depth { depth ≤ length path.now }
-    ensures found { (mode k : ℕ) (t : Tree) → V.shows lot.now view.old disk.old → MapRecovers (form_of F.VERSION) mode lot.now (V.map view.old disk.old lot.now) t k
-        → IfOk result (IsEnds (form_of F.VERSION) (own_in (form_of F.VERSION) (V.map view.old disk.old lot.now)) (drop depth path.now) t) }
-    ensures sound { (mode k : ℕ) (t : Tree) → V.shows lot.now view.old disk.old → MapRecovers (form_of F.VERSION) mode lot.now (V.map view.old disk.old lot.now) t k → IfErr result (λ e. e ≡ FaultDisk) }
+    ensures found { (mode k : ℕ) (t : Tree) → IfShown V.View lot.now view.old disk.old (λ old.
+        MapRecovers (form_of F.VERSION) mode lot.now old t k
+        → IfOk result (IsEnds (form_of F.VERSION) (own_in (form_of F.VERSION) old) (drop depth path.now) t)) }
+    ensures sound { (mode k : ℕ) (t : Tree) → IfShown V.View lot.now view.old disk.old (λ old.
+        MapRecovers (form_of F.VERSION) mode lot.now old t k → IfErr result (λ e. e ≡ FaultDisk)) }
     ensures fits { IfOk result (EndsFit lot.now) }
-    ensures are { V.shows lot.now view.old disk.old → IfOk result (EndsAre F.ENTRY lot.now (V.map view.old disk.old lot.now)) }
-    ensures named { V.shows lot.now view.old disk.old → depth < length path.now → IfOk result (λ ends. PlaceNamed F.ENTRY (V.map view.old disk.old lot.now) ends.parent (last_name (drop depth path.now)) ends.end) }
-    ensures broken { V.shows lot.now view.old disk.old → IfErr result (IsBrokenBy F.ENTRY lot.now (V.map view.old disk.old lot.now)) }
+    ensures are { IfShown V.View lot.now view.old disk.old (λ old.
+        IfOk result (EndsAre F.ENTRY lot.now old)) }
+    ensures named { IfShown V.View lot.now view.old disk.old (λ old.
+        depth < length path.now
+        → IfOk result (λ ends. PlaceNamed F.ENTRY old ends.parent (last_name (drop depth path.now)) ends.end)) }
+    ensures broken { IfShown V.View lot.now view.old disk.old (λ old.
+        IfErr result (IsBrokenBy F.ENTRY lot.now old)) }
     ensures looked { Looked D.Disk V.View lot.now view.old disk.old view.new disk.new }
     ensures faults { IfErr result IsWalkFault }
     ensures failed { IsErrOf result FaultDisk → Rose (D.state disk.old).faults (D.state disk.new).faults }

@@ -2,7 +2,7 @@
 ghost use Rattle.std.specs.Prelude.{◌≡◌, ◌≤◌, ◌<◌, ◌+◌, ◌*◌, ◌⊎◌, ℕ, true, false, nat_lt, IfOk, IfErr, IsErrOf, length};
 ghost use Rattle.ice_base.specs.Disk.{Rose};
 ghost use Rattle.ice_base.specs.Lots.{is_sited};
-ghost use Rattle.ice_base.specs.Views.{Looked};
+ghost use Rattle.ice_base.specs.Views.{Looked, IfShown};
 ghost use Rattle.ice_base.specs.declared.fault.OpFault.TheVariants.{Disk as FaultDisk, Damaged};
 ghost use Rattle.ice_base.specs.declared.fault.Rule.TheVariants.{InodeTwice};
 ghost use Rattle.ice_map.specs.Inodes.{inode_of};
@@ -31,14 +31,20 @@ fn entry_place<D: Disk, V: View<D>, F: Form>(
 ) -> Result<Place, OpFault>
     requires sited { is_sited lot.now (D.state disk.old).size ≡ true }
     requires number { number < 64 * length lot.now.groups }
-    ensures place { (h : ℕ) (es : Entries) → V.shows lot.now view.old disk.old → Reads (form_of F.VERSION) lot.now (own_in (form_of F.VERSION) (V.map view.old disk.old lot.now)) number h (Dir es) → k < length (rows es)
-        → IfOk result (IsChild (form_of F.VERSION) lot.now (own_in (form_of F.VERSION) (V.map view.old disk.old lot.now)) number h k es) }
-    ensures sound { (h : ℕ) (es : Entries) → V.shows lot.now view.old disk.old → Reads (form_of F.VERSION) lot.now (own_in (form_of F.VERSION) (V.map view.old disk.old lot.now)) number h (Dir es) → k < length (rows es) → IfErr result (λ e. e ≡ FaultDisk) }
+    ensures place { (h : ℕ) (es : Entries) → IfShown V.View lot.now view.old disk.old (λ old.
+        Reads (form_of F.VERSION) lot.now (own_in (form_of F.VERSION) old) number h (Dir es)
+        → k < length (rows es)
+        → IfOk result (IsChild (form_of F.VERSION) lot.now (own_in (form_of F.VERSION) old) number h k es)) }
+    ensures sound { (h : ℕ) (es : Entries) → IfShown V.View lot.now view.old disk.old (λ old.
+        Reads (form_of F.VERSION) lot.now (own_in (form_of F.VERSION) old) number h (Dir es)
+        → k < length (rows es) → IfErr result (λ e. e ≡ FaultDisk)) }
     ensures fits { IfOk result (PlaceFits lot.now) }
-    ensures child { V.shows lot.now view.old disk.old → IsReached F.ENTRY lot.now (V.map view.old disk.old lot.now) number → HasEntry lot.now k (inode_of (V.map view.old disk.old lot.now) number)
-        → IfOk result (IsEntry F.ENTRY lot.now (V.map view.old disk.old lot.now) number k) }
-    ensures broken { V.shows lot.now view.old disk.old → IsReached F.ENTRY lot.now (V.map view.old disk.old lot.now) number → HasEntry lot.now k (inode_of (V.map view.old disk.old lot.now) number)
-        → IfErr result (IsBrokenBy F.ENTRY lot.now (V.map view.old disk.old lot.now)) }
+    ensures child { IfShown V.View lot.now view.old disk.old (λ old.
+        IsReached F.ENTRY lot.now old number → HasEntry lot.now k (inode_of old number)
+        → IfOk result (IsEntry F.ENTRY lot.now old number k)) }
+    ensures broken { IfShown V.View lot.now view.old disk.old (λ old.
+        IsReached F.ENTRY lot.now old number → HasEntry lot.now k (inode_of old number)
+        → IfErr result (IsBrokenBy F.ENTRY lot.now old)) }
     ensures looked { Looked D.Disk V.View lot.now view.old disk.old view.new disk.new }
     ensures faults { IfErr result IsHeightFault }
     ensures failed { IsErrOf result FaultDisk → Rose (D.state disk.old).faults (D.state disk.new).faults }
@@ -62,15 +68,29 @@ fn has_higher<D: Disk, V: View<D>, F: Form>(
     requires sited { is_sited lot.now (D.state disk.old).size ≡ true }
     requires number { number < 64 * length lot.now.groups }
     requires levels { levels < 24 }
-    ensures higher { (h : ℕ) (es : Entries) → V.shows lot.now view.old disk.old → Reads (form_of F.VERSION) lot.now (own_in (form_of F.VERSION) (V.map view.old disk.old lot.now)) number h (Dir es) → size ≡ length (rows es) → nodes (Dir es) ≤ budget.old + 1
-        → IfOk result (λ b. b ≡ nat_lt (levels + 1) (height (Dir es))) }
-    ensures sound { (h : ℕ) (es : Entries) → V.shows lot.now view.old disk.old → Reads (form_of F.VERSION) lot.now (own_in (form_of F.VERSION) (V.map view.old disk.old lot.now)) number h (Dir es) → size ≡ length (rows es) → nodes (Dir es) ≤ budget.old + 1 → IfErr result (λ e. e ≡ FaultDisk) }
-    ensures budget { (h : ℕ) (es : Entries) → V.shows lot.now view.old disk.old → Reads (form_of F.VERSION) lot.now (own_in (form_of F.VERSION) (V.map view.old disk.old lot.now)) number h (Dir es) → size ≡ length (rows es) → nodes (Dir es) ≤ budget.old + 1 → budget.old + 1 ≤ budget.new + nodes (Dir es) }
+    ensures higher { (h : ℕ) (es : Entries) → IfShown V.View lot.now view.old disk.old (λ old.
+        Reads (form_of F.VERSION) lot.now (own_in (form_of F.VERSION) old) number h (Dir es)
+        → size ≡ length (rows es) → nodes (Dir es) ≤ budget.old + 1
+        → IfOk result (λ b. b ≡ nat_lt (levels + 1) (height (Dir es)))) }
+    ensures sound { (h : ℕ) (es : Entries) → IfShown V.View lot.now view.old disk.old (λ old.
+        Reads (form_of F.VERSION) lot.now (own_in (form_of F.VERSION) old) number h (Dir es)
+        → size ≡ length (rows es) → nodes (Dir es) ≤ budget.old + 1
+        → IfErr result (λ e. e ≡ FaultDisk)) }
+    ensures budget { (h : ℕ) (es : Entries) → IfShown V.View lot.now view.old disk.old (λ old.
+        Reads (form_of F.VERSION) lot.now (own_in (form_of F.VERSION) old) number h (Dir es)
+        → size ≡ length (rows es) → nodes (Dir es) ≤ budget.old + 1
+        → budget.old + 1 ≤ budget.new + nodes (Dir es)) }
     ensures falls { budget.new ≤ budget.old }
-    ensures pays { V.shows lot.now view.old disk.old → IsReached F.ENTRY lot.now (V.map view.old disk.old lot.now) number → IsDirectory lot.now (inode_of (V.map view.old disk.old lot.now) number) → (inode_of (V.map view.old disk.old lot.now) number).size ≡ size
-        → IfOk result (λ b. b ≡ false → budget.old + 1 ≤ budget.new + spread F.ENTRY (V.map view.old disk.old lot.now) (levels + 1) number) }
-    ensures broken { V.shows lot.now view.old disk.old → IsReached F.ENTRY lot.now (V.map view.old disk.old lot.now) number → IsDirectory lot.now (inode_of (V.map view.old disk.old lot.now) number) → (inode_of (V.map view.old disk.old lot.now) number).size ≡ size
-        → IfErr result (λ e. IsBrokenBy F.ENTRY lot.now (V.map view.old disk.old lot.now) e ⊎ ((e ≡ Damaged InodeTwice) × (budget.old + 1 < spread F.ENTRY (V.map view.old disk.old lot.now) (levels + 1) number))) }
+    ensures pays { IfShown V.View lot.now view.old disk.old (λ old.
+        IsReached F.ENTRY lot.now old number → IsDirectory lot.now (inode_of old number)
+        → (inode_of old number).size ≡ size
+        → IfOk result (λ b. b ≡ false
+        → budget.old + 1 ≤ budget.new + spread F.ENTRY old (levels + 1) number)) }
+    ensures broken { IfShown V.View lot.now view.old disk.old (λ old.
+        IsReached F.ENTRY lot.now old number → IsDirectory lot.now (inode_of old number)
+        → (inode_of old number).size ≡ size
+        → IfErr result (λ e. IsBrokenBy F.ENTRY lot.now old e
+        ⊎ ((e ≡ Damaged InodeTwice) × (budget.old + 1 < spread F.ENTRY old (levels + 1) number)))) }
     ensures looked { Looked D.Disk V.View lot.now view.old disk.old view.new disk.new }
     ensures faults { IfErr result IsHeightFault }
     ensures failed { IsErrOf result FaultDisk → Rose (D.state disk.old).faults (D.state disk.new).faults }
@@ -100,15 +120,25 @@ pub(crate) fn is_higher<D: Disk, V: View<D>, F: Form>(
     requires sited { is_sited lot.now (D.state disk.old).size ≡ true }
     requires fits { PlaceFits lot.now place }
     requires levels { levels ≤ 24 }
-    ensures higher { (i h : ℕ) (s : Tree) → V.shows lot.now view.old disk.old → Reads (form_of F.VERSION) lot.now (own_in (form_of F.VERSION) (V.map view.old disk.old lot.now)) i h s → place ≡ place_by i (Found s) → nodes s ≤ budget.old
-        → IfOk result (λ b. b ≡ nat_lt levels (height s)) }
-    ensures sound { (i h : ℕ) (s : Tree) → V.shows lot.now view.old disk.old → Reads (form_of F.VERSION) lot.now (own_in (form_of F.VERSION) (V.map view.old disk.old lot.now)) i h s → place ≡ place_by i (Found s) → nodes s ≤ budget.old → IfErr result (λ e. e ≡ FaultDisk) }
-    ensures budget { (i h : ℕ) (s : Tree) → V.shows lot.now view.old disk.old → Reads (form_of F.VERSION) lot.now (own_in (form_of F.VERSION) (V.map view.old disk.old lot.now)) i h s → place ≡ place_by i (Found s) → nodes s ≤ budget.old → budget.old ≤ budget.new + nodes s }
+    ensures higher { (i h : ℕ) (s : Tree) → IfShown V.View lot.now view.old disk.old (λ old.
+        Reads (form_of F.VERSION) lot.now (own_in (form_of F.VERSION) old) i h s
+        → place ≡ place_by i (Found s) → nodes s ≤ budget.old
+        → IfOk result (λ b. b ≡ nat_lt levels (height s))) }
+    ensures sound { (i h : ℕ) (s : Tree) → IfShown V.View lot.now view.old disk.old (λ old.
+        Reads (form_of F.VERSION) lot.now (own_in (form_of F.VERSION) old) i h s
+        → place ≡ place_by i (Found s) → nodes s ≤ budget.old → IfErr result (λ e. e ≡ FaultDisk)) }
+    ensures budget { (i h : ℕ) (s : Tree) → IfShown V.View lot.now view.old disk.old (λ old.
+        Reads (form_of F.VERSION) lot.now (own_in (form_of F.VERSION) old) i h s
+        → place ≡ place_by i (Found s) → nodes s ≤ budget.old → budget.old ≤ budget.new + nodes s) }
     ensures falls { budget.new ≤ budget.old }
-    ensures pays { V.shows lot.now view.old disk.old → PlaceIs (V.map view.old disk.old lot.now) place → PlaceReached F.ENTRY lot.now (V.map view.old disk.old lot.now) place
-        → IfOk result (λ b. b ≡ false → budget.old ≤ budget.new + spread_at F.ENTRY (V.map view.old disk.old lot.now) levels place) }
-    ensures broken { V.shows lot.now view.old disk.old → PlaceIs (V.map view.old disk.old lot.now) place → PlaceReached F.ENTRY lot.now (V.map view.old disk.old lot.now) place
-        → IfErr result (λ e. IsBrokenBy F.ENTRY lot.now (V.map view.old disk.old lot.now) e ⊎ ((e ≡ Damaged InodeTwice) × (budget.old < spread_at F.ENTRY (V.map view.old disk.old lot.now) levels place))) }
+    ensures pays { IfShown V.View lot.now view.old disk.old (λ old.
+        PlaceIs old place → PlaceReached F.ENTRY lot.now old place
+        → IfOk result (λ b. b ≡ false
+        → budget.old ≤ budget.new + spread_at F.ENTRY old levels place)) }
+    ensures broken { IfShown V.View lot.now view.old disk.old (λ old.
+        PlaceIs old place → PlaceReached F.ENTRY lot.now old place
+        → IfErr result (λ e. IsBrokenBy F.ENTRY lot.now old e
+        ⊎ ((e ≡ Damaged InodeTwice) × (budget.old < spread_at F.ENTRY old levels place)))) }
     ensures looked { Looked D.Disk V.View lot.now view.old disk.old view.new disk.new }
     ensures faults { IfErr result IsHeightFault }
     ensures failed { IsErrOf result FaultDisk → Rose (D.state disk.old).faults (D.state disk.new).faults }

@@ -2,7 +2,7 @@
 ghost use Rattle.std.specs.Prelude.{◌≡◌, ◌≤◌, ◌<◌, ◌+◌, ◌*◌, ◌++◌, ℕ, true, [], ◌∷◌, Some, OnOk, OnErr, IfErr, IsErrOf, length, drop, map, slice_get, IsPermutation, IsSorted};
 ghost use Rattle.ice_base.specs.Disk.{Rose};
 ghost use Rattle.ice_base.specs.Lots.{is_sited};
-ghost use Rattle.ice_base.specs.Views.{Looked};
+ghost use Rattle.ice_base.specs.Views.{Looked, IfShown};
 ghost use Rattle.ice_base.specs.declared.fault.OpFault.TheVariants.{Disk as FaultDisk};
 ghost use Rattle.ice_base.specs.declared.fault.Rule.{Rule};
 ghost use Rattle.ice_map.specs.Inodes.{inode_of};
@@ -47,15 +47,20 @@ fn add_entry<D: Disk, V: View<D>, F: Form>(
     requires sited { is_sited lot.now (D.state disk.old).size ≡ true }
     requires number { number < 64 * length lot.now.groups }
     requires fits { length room.old.entries < most_entries }
-    ensures added { (h : ℕ) (es : Entries) (row : Row) → V.shows lot.now view.old disk.old → Reads (form_of F.VERSION) lot.now (own_in (form_of F.VERSION) (V.map view.old disk.old lot.now)) number h (Dir es)
-        → slice_get (rows_in (form_of F.VERSION) (own_in (form_of F.VERSION) (V.map view.old disk.old lot.now) number)) k ≡ Some row → OnOk result (room.new.entries ≡ room.old.entries ++ listed_as es row ∷ []) }
-    ensures sound { (h : ℕ) (es : Entries) → V.shows lot.now view.old disk.old → Reads (form_of F.VERSION) lot.now (own_in (form_of F.VERSION) (V.map view.old disk.old lot.now)) number h (Dir es) → k < length (rows es)
-        → IfErr result (λ e. e ≡ FaultDisk) }
+    ensures added { (h : ℕ) (es : Entries) (row : Row) → IfShown V.View lot.now view.old disk.old (λ old.
+        Reads (form_of F.VERSION) lot.now (own_in (form_of F.VERSION) old) number h (Dir es)
+        → slice_get (rows_in (form_of F.VERSION) (own_in (form_of F.VERSION) old number)) k ≡ Some row
+        → OnOk result (room.new.entries ≡ room.old.entries ++ listed_as es row ∷ [])) }
+    ensures sound { (h : ℕ) (es : Entries) → IfShown V.View lot.now view.old disk.old (λ old.
+        Reads (form_of F.VERSION) lot.now (own_in (form_of F.VERSION) old) number h (Dir es)
+        → k < length (rows es) → IfErr result (λ e. e ≡ FaultDisk)) }
     ensures one { OnOk result (length room.new.entries ≡ length room.old.entries + 1) }
     ensures kept { OnErr result (room.new.entries ≡ room.old.entries) }
     ensures bytes { room.new.bytes ≡ room.old.bytes }
     ensures rows { room.new.rows ≡ room.old.rows }
-    ensures broken { V.shows lot.now view.old disk.old → IsReached F.ENTRY lot.now (V.map view.old disk.old lot.now) number → HasEntry lot.now k (inode_of (V.map view.old disk.old lot.now) number) → IfErr result (IsBrokenBy F.ENTRY lot.now (V.map view.old disk.old lot.now)) }
+    ensures broken { IfShown V.View lot.now view.old disk.old (λ old.
+        IsReached F.ENTRY lot.now old number → HasEntry lot.now k (inode_of old number)
+        → IfErr result (IsBrokenBy F.ENTRY lot.now old)) }
     ensures looked { Looked D.Disk V.View lot.now view.old disk.old view.new disk.new }
     ensures faults { IfErr result IsListFault }
     ensures failed { IsErrOf result FaultDisk → Rose (D.state disk.old).faults (D.state disk.new).faults }
@@ -81,14 +86,19 @@ fn add_entries<D: Disk, V: View<D>, F: Form>(
     requires number { number < 64 * length lot.now.groups }
     requires few { count ≤ most_entries }
     requires empty { room.old.entries ≡ [] }
-    ensures listed { (h : ℕ) (es : Entries) → V.shows lot.now view.old disk.old → Reads (form_of F.VERSION) lot.now (own_in (form_of F.VERSION) (V.map view.old disk.old lot.now)) number h (Dir es) → count ≡ length (rows es)
-        → OnOk result (room.new.entries ≡ map (listed_as es) (rows_in (form_of F.VERSION) (own_in (form_of F.VERSION) (V.map view.old disk.old lot.now) number))) }
-    ensures sound { (h : ℕ) (es : Entries) → V.shows lot.now view.old disk.old → Reads (form_of F.VERSION) lot.now (own_in (form_of F.VERSION) (V.map view.old disk.old lot.now)) number h (Dir es) → count ≡ length (rows es)
-        → IfErr result (λ e. e ≡ FaultDisk) }
+    ensures listed { (h : ℕ) (es : Entries) → IfShown V.View lot.now view.old disk.old (λ old.
+        Reads (form_of F.VERSION) lot.now (own_in (form_of F.VERSION) old) number h (Dir es)
+        → count ≡ length (rows es)
+        → OnOk result (room.new.entries ≡ map (listed_as es) (rows_in (form_of F.VERSION) (own_in (form_of F.VERSION) old number)))) }
+    ensures sound { (h : ℕ) (es : Entries) → IfShown V.View lot.now view.old disk.old (λ old.
+        Reads (form_of F.VERSION) lot.now (own_in (form_of F.VERSION) old) number h (Dir es)
+        → count ≡ length (rows es) → IfErr result (λ e. e ≡ FaultDisk)) }
     ensures all { OnOk result (length room.new.entries ≡ count) }
     ensures bytes { room.new.bytes ≡ room.old.bytes }
     ensures rows { room.new.rows ≡ room.old.rows }
-    ensures broken { V.shows lot.now view.old disk.old → IsReached F.ENTRY lot.now (V.map view.old disk.old lot.now) number → IsDirectory lot.now (inode_of (V.map view.old disk.old lot.now) number) → count ≤ (inode_of (V.map view.old disk.old lot.now) number).size → IfErr result (IsBrokenBy F.ENTRY lot.now (V.map view.old disk.old lot.now)) }
+    ensures broken { IfShown V.View lot.now view.old disk.old (λ old.
+        IsReached F.ENTRY lot.now old number → IsDirectory lot.now (inode_of old number)
+        → count ≤ (inode_of old number).size → IfErr result (IsBrokenBy F.ENTRY lot.now old)) }
     ensures looked { Looked D.Disk V.View lot.now view.old disk.old view.new disk.new }
     ensures faults { IfErr result IsListFault }
     ensures failed { IsErrOf result FaultDisk → Rose (D.state disk.old).faults (D.state disk.new).faults }
@@ -127,12 +137,15 @@ pub fn list<D: Disk, V: View<D>, F: Form>(
     requires bytes { room.old.bytes ≡ [] }
     requires entries { room.old.entries ≡ [] }
     requires rows { room.old.rows ≡ [] }
-    ensures answers { (mode k : ℕ) (t : Tree) → V.shows lot.now view.old disk.old → MapRecovers (form_of F.VERSION) mode lot.now (V.map view.old disk.old lot.now) t k
-        → AsModel (meant result room.new) (answer t k (length lot.now.groups) (form_of F.VERSION) (ListDir (drop depth path.now))).0 }
+    ensures answers { (mode k : ℕ) (t : Tree) → IfShown V.View lot.now view.old disk.old (λ old.
+        MapRecovers (form_of F.VERSION) mode lot.now old t k
+        → AsModel (meant result room.new) (answer t k (length lot.now.groups) (form_of F.VERSION) (ListDir (drop depth path.now))).0) }
     ensures paths { ShownBy (paths_refusal (form_of F.VERSION) (drop depth path.now ∷ [])) result }
-    ensures untouched { (r : Why) → paths_refusal (form_of F.VERSION) (drop depth path.now ∷ []) ≡ Some r → (disk.new ≡ disk.old) × (view.new ≡ view.old) }
+    ensures untouched { (r : Why) → paths_refusal (form_of F.VERSION) (drop depth path.now ∷ []) ≡ Some r
+        → (disk.new ≡ disk.old) × (view.new ≡ view.old) }
     ensures tallies { Tallies result room.new }
-    ensures damaged { (n : ℕ) → IsErrOf result (Damaged n) → V.shows lot.now view.old disk.old → (r : Rule) × (n ≡ rule_number r) × IsBroken F.ENTRY lot.now (V.map view.old disk.old lot.now) r }
+    ensures damaged { (n : ℕ) → IsErrOf result (Damaged n) → IfShown V.View lot.now view.old disk.old (λ old.
+        (r : Rule) × (n ≡ rule_number r) × IsBroken F.ENTRY lot.now old r) }
     ensures looked { Looked D.Disk V.View lot.now view.old disk.old view.new disk.new }
     ensures set { IfErr result (IsOneOf look_refusals list_rules) }
     ensures failed { IsErrOf result Fault → Rose (D.state disk.old).faults (D.state disk.new).faults }

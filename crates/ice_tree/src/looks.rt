@@ -2,7 +2,7 @@
 ghost use Rattle.std.specs.Prelude.{◌≡◌, ◌≤◌, ◌<◌, ◌*◌, ℕ, List, true, false, [], ◌∷◌, Some, IfOk, IfErr, IsErrOf, MatchResult, length, drop};
 ghost use Rattle.ice_base.specs.Disk.{Rose};
 ghost use Rattle.ice_base.specs.Lots.{is_sited};
-ghost use Rattle.ice_base.specs.Views.{Looked};
+ghost use Rattle.ice_base.specs.Views.{Looked, IfShown};
 ghost use Rattle.ice_base.specs.declared.fault.Rule.{Rule};
 ghost use Rattle.ice_file.specs.Files.{longest_file, most_at_once};
 ghost use Rattle.tree_spec.specs.Answers.{answer};
@@ -48,14 +48,19 @@ pub(crate) fn file_at<D: Disk, V: View<D>, F: Form>(
     requires sited { is_sited lot.now (D.state disk.old).size ≡ true }
     requires some { 1 ≤ length lot.now.groups }
     requires depth { depth ≤ length path.now }
-    ensures found { (mode k : ℕ) (t : Tree) → V.shows lot.now view.old disk.old → MapRecovers (form_of F.VERSION) mode lot.now (V.map view.old disk.old lot.now) t k
-        → MatchResult result
-        (λ file. (bytes : List ℕ) × (walk (drop depth path.now) t ≡ Found (File bytes)) × (file.number ≡ inode_on (form_of F.VERSION) (own_in (form_of F.VERSION) (V.map view.old disk.old lot.now)) 0 (drop depth path.now)) × (file.size ≡ length bytes))
-        (λ r. RefusedAs (refused_of r) (file_refusal (walk (drop depth path.now) t))) }
-    ensures fits { IfOk result (λ file. (file.number < 64 * length lot.now.groups) × (file.size ≤ longest_file)) }
-    ensures is { V.shows lot.now view.old disk.old → IfOk result (λ file. PlaceIs (V.map view.old disk.old lot.now) (AtFile file.number file.size)) }
-    ensures reached { V.shows lot.now view.old disk.old → IfOk result (λ file. IsReached F.ENTRY lot.now (V.map view.old disk.old lot.now) file.number) }
-    ensures damaged { (n : ℕ) → IsErrOf result (Damaged n) → V.shows lot.now view.old disk.old → (r : Rule) × (n ≡ rule_number r) × IsBroken F.ENTRY lot.now (V.map view.old disk.old lot.now) r }
+    ensures found { (mode k : ℕ) (t : Tree) → IfShown V.View lot.now view.old disk.old (λ old.
+        MapRecovers (form_of F.VERSION) mode lot.now old t k
+        → MatchResult result (λ file. (bytes : List ℕ)
+        × (walk (drop depth path.now) t ≡ Found (File bytes))
+        × (file.number ≡ inode_on (form_of F.VERSION) (own_in (form_of F.VERSION) old) 0 (drop depth path.now)) × (file.size ≡ length bytes)) (λ r. RefusedAs (refused_of r) (file_refusal (walk (drop depth path.now) t)))) }
+    ensures fits { IfOk result (λ file. (file.number < 64 * length lot.now.groups)
+        × (file.size ≤ longest_file)) }
+    ensures is { IfShown V.View lot.now view.old disk.old (λ old.
+        IfOk result (λ file. PlaceIs old (AtFile file.number file.size))) }
+    ensures reached { IfShown V.View lot.now view.old disk.old (λ old.
+        IfOk result (λ file. IsReached F.ENTRY lot.now old file.number)) }
+    ensures damaged { (n : ℕ) → IsErrOf result (Damaged n) → IfShown V.View lot.now view.old disk.old (λ old.
+        (r : Rule) × (n ≡ rule_number r) × IsBroken F.ENTRY lot.now old r) }
     ensures looked { Looked D.Disk V.View lot.now view.old disk.old view.new disk.new }
     ensures set { IfErr result (IsOneOf read_refusals look_rules) }
     ensures failed { IsErrOf result Fault → Rose (D.state disk.old).faults (D.state disk.new).faults }
@@ -87,14 +92,18 @@ pub(crate) fn dir_at<D: Disk, V: View<D>, F: Form>(
     requires sited { is_sited lot.now (D.state disk.old).size ≡ true }
     requires some { 1 ≤ length lot.now.groups }
     requires depth { depth ≤ length path.now }
-    ensures found { (mode k : ℕ) (t : Tree) → V.shows lot.now view.old disk.old → MapRecovers (form_of F.VERSION) mode lot.now (V.map view.old disk.old lot.now) t k
-        → MatchResult result
-        (λ dir. (es : Entries) × (walk (drop depth path.now) t ≡ Found (Dir es)) × (dir.number ≡ inode_on (form_of F.VERSION) (own_in (form_of F.VERSION) (V.map view.old disk.old lot.now)) 0 (drop depth path.now)) × (dir.size ≡ length (rows es)))
-        (λ r. RefusedAs (refused_of r) (dir_refusal (walk (drop depth path.now) t))) }
-    ensures fits { IfOk result (λ dir. (dir.number < 64 * length lot.now.groups) × (dir.size < 64 * length lot.now.groups)) }
-    ensures is { V.shows lot.now view.old disk.old → IfOk result (λ dir. PlaceIs (V.map view.old disk.old lot.now) (AtDir dir.number dir.size)) }
-    ensures reached { V.shows lot.now view.old disk.old → IfOk result (λ dir. IsReached F.ENTRY lot.now (V.map view.old disk.old lot.now) dir.number) }
-    ensures damaged { (n : ℕ) → IsErrOf result (Damaged n) → V.shows lot.now view.old disk.old → (r : Rule) × (n ≡ rule_number r) × IsBroken F.ENTRY lot.now (V.map view.old disk.old lot.now) r }
+    ensures found { (mode k : ℕ) (t : Tree) → IfShown V.View lot.now view.old disk.old (λ old.
+        MapRecovers (form_of F.VERSION) mode lot.now old t k
+        → MatchResult result (λ dir. (es : Entries) × (walk (drop depth path.now) t ≡ Found (Dir es))
+        × (dir.number ≡ inode_on (form_of F.VERSION) (own_in (form_of F.VERSION) old) 0 (drop depth path.now)) × (dir.size ≡ length (rows es))) (λ r. RefusedAs (refused_of r) (dir_refusal (walk (drop depth path.now) t)))) }
+    ensures fits { IfOk result (λ dir. (dir.number < 64 * length lot.now.groups)
+        × (dir.size < 64 * length lot.now.groups)) }
+    ensures is { IfShown V.View lot.now view.old disk.old (λ old.
+        IfOk result (λ dir. PlaceIs old (AtDir dir.number dir.size))) }
+    ensures reached { IfShown V.View lot.now view.old disk.old (λ old.
+        IfOk result (λ dir. IsReached F.ENTRY lot.now old dir.number)) }
+    ensures damaged { (n : ℕ) → IsErrOf result (Damaged n) → IfShown V.View lot.now view.old disk.old (λ old.
+        (r : Rule) × (n ≡ rule_number r) × IsBroken F.ENTRY lot.now old r) }
     ensures looked { Looked D.Disk V.View lot.now view.old disk.old view.new disk.new }
     ensures set { IfErr result (IsOneOf look_refusals look_rules) }
     ensures failed { IsErrOf result Fault → Rose (D.state disk.old).faults (D.state disk.new).faults }
@@ -127,12 +136,15 @@ pub fn read<D: Disk, V: View<D>, F: Form>(
     requires bytes { room.old.bytes ≡ [] }
     requires entries { room.old.entries ≡ [] }
     requires rows { room.old.rows ≡ [] }
-    ensures answers { (mode k : ℕ) (t : Tree) → V.shows lot.now view.old disk.old → MapRecovers (form_of F.VERSION) mode lot.now (V.map view.old disk.old lot.now) t k
-        → AsModel (meant result room.new) (answer t k (length lot.now.groups) (form_of F.VERSION) (Read (drop depth path.now) at len)).0 }
+    ensures answers { (mode k : ℕ) (t : Tree) → IfShown V.View lot.now view.old disk.old (λ old.
+        MapRecovers (form_of F.VERSION) mode lot.now old t k
+        → AsModel (meant result room.new) (answer t k (length lot.now.groups) (form_of F.VERSION) (Read (drop depth path.now) at len)).0) }
     ensures paths { ShownBy (paths_refusal (form_of F.VERSION) (drop depth path.now ∷ [])) result }
-    ensures untouched { (r : Why) → paths_refusal (form_of F.VERSION) (drop depth path.now ∷ []) ≡ Some r → (disk.new ≡ disk.old) × (view.new ≡ view.old) }
+    ensures untouched { (r : Why) → paths_refusal (form_of F.VERSION) (drop depth path.now ∷ []) ≡ Some r
+        → (disk.new ≡ disk.old) × (view.new ≡ view.old) }
     ensures tallies { Tallies result room.new }
-    ensures damaged { (n : ℕ) → IsErrOf result (Damaged n) → V.shows lot.now view.old disk.old → (r : Rule) × (n ≡ rule_number r) × IsBroken F.ENTRY lot.now (V.map view.old disk.old lot.now) r }
+    ensures damaged { (n : ℕ) → IsErrOf result (Damaged n) → IfShown V.View lot.now view.old disk.old (λ old.
+        (r : Rule) × (n ≡ rule_number r) × IsBroken F.ENTRY lot.now old r) }
     ensures looked { Looked D.Disk V.View lot.now view.old disk.old view.new disk.new }
     ensures set { IfErr result (IsOneOf read_refusals look_rules) }
     ensures failed { IsErrOf result Fault → Rose (D.state disk.old).faults (D.state disk.new).faults }
@@ -165,12 +177,15 @@ pub fn stat<D: Disk, V: View<D>, F: Form>(
     requires sited { is_sited lot.now (D.state disk.old).size ≡ true }
     requires some { 1 ≤ length lot.now.groups }
     requires depth { depth ≤ length path.now }
-    ensures answers { (mode k : ℕ) (t : Tree) (room : Held) → V.shows lot.now view.old disk.old → MapRecovers (form_of F.VERSION) mode lot.now (V.map view.old disk.old lot.now) t k
-        → AsModel (meant result room) (answer t k (length lot.now.groups) (form_of F.VERSION) (Stat (drop depth path.now))).0 }
+    ensures answers { (mode k : ℕ) (t : Tree) (room : Held) → IfShown V.View lot.now view.old disk.old (λ old.
+        MapRecovers (form_of F.VERSION) mode lot.now old t k
+        → AsModel (meant result room) (answer t k (length lot.now.groups) (form_of F.VERSION) (Stat (drop depth path.now))).0) }
     ensures paths { ShownBy (paths_refusal (form_of F.VERSION) (drop depth path.now ∷ [])) result }
-    ensures untouched { (r : Why) → paths_refusal (form_of F.VERSION) (drop depth path.now ∷ []) ≡ Some r → (disk.new ≡ disk.old) × (view.new ≡ view.old) }
+    ensures untouched { (r : Why) → paths_refusal (form_of F.VERSION) (drop depth path.now ∷ []) ≡ Some r
+        → (disk.new ≡ disk.old) × (view.new ≡ view.old) }
     ensures tallies { (room : Held) → Tallies result room }
-    ensures damaged { (n : ℕ) → IsErrOf result (Damaged n) → V.shows lot.now view.old disk.old → (r : Rule) × (n ≡ rule_number r) × IsBroken F.ENTRY lot.now (V.map view.old disk.old lot.now) r }
+    ensures damaged { (n : ℕ) → IsErrOf result (Damaged n) → IfShown V.View lot.now view.old disk.old (λ old.
+        (r : Rule) × (n ≡ rule_number r) × IsBroken F.ENTRY lot.now old r) }
     ensures looked { Looked D.Disk V.View lot.now view.old disk.old view.new disk.new }
     ensures set { IfErr result (IsOneOf look_refusals look_rules) }
     ensures failed { IsErrOf result Fault → Rose (D.state disk.old).faults (D.state disk.new).faults }

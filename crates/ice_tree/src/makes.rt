@@ -3,7 +3,7 @@ ghost use Rattle.std.specs.Prelude.{◌≡◌, ◌≤◌, ◌<◌, ◌+◌, ◌*
 ghost use Rattle.ice_base.specs.Disk.{Rose};
 ghost use Rattle.ice_base.specs.Fields.{long_at};
 ghost use Rattle.ice_base.specs.Lots.{LotView, is_sited, sub_address};
-ghost use Rattle.ice_base.specs.Views.{Looked, Spent};
+ghost use Rattle.ice_base.specs.Views.{Looked, Spent, AsShown, IfShown};
 ghost use Rattle.ice_base.specs.declared.fault.OpFault.TheVariants.{Disk as FaultDisk};
 ghost use Rattle.ice_base.specs.declared.fault.Rule.{Rule};
 ghost use Rattle.tree_spec.specs.Answers.{answer, next, refusal, is_root};
@@ -36,11 +36,14 @@ use tree_spec::{Name, Path, Refusal};
 /// The directory in which something new is to stand, by the ends of its path. NotFound and NotDir: the walk to the directory ends so.
 /// IsRoot: the path has no name. Exists: something stands there.
 fn new_spot(ends: &Ends, root: bool) -> Result<Spot, Refusal>
-    ensures spot { (f : Form) (o : Table) (p : List (List ℕ)) (t : Tree) → IsEnds f o p t ends.now → root ≡ is_root p
-        → MatchResult result (λ spot. IsSpot f o (parent p) t spot × (new_refusal p t ≡ None)) (λ r. RefusedAs (refused_of r) (new_refusal p t)) }
+    ensures spot { (f : Form) (o : Table) (p : List (List ℕ)) (t : Tree) → IsEnds f o p t ends.now
+        → root ≡ is_root p
+        → MatchResult result (λ spot. IsSpot f o (parent p) t spot
+        × (new_refusal p t ≡ None)) (λ r. RefusedAs (refused_of r) (new_refusal p t)) }
     ensures fits { (lot : LotView) → EndsFit lot ends.now → IfOk result (SpotFits lot) }
     ensures below { OnOk result (root ≡ false) }
-    ensures is { (entry : ℕ) (lot : LotView) (m : ℕ → List ℕ) → EndsAre entry lot m ends.now → EndsFit lot ends.now → IfOk result (SpotIs entry lot m) }
+    ensures is { (entry : ℕ) (lot : LotView) (m : ℕ → List ℕ) → EndsAre entry lot m ends.now
+        → EndsFit lot ends.now → IfOk result (SpotIs entry lot m) }
     ensures set { IfErr result (λ r. (r ≡ NotFound) ⊎ (r ≡ NotDir) ⊎ (r ≡ IsRoot) ⊎ (r ≡ Exists)) }
 {
     match ends.parent {
@@ -76,17 +79,19 @@ fn check_new<D: Disk, K: Keep<D>, P: Pool<D, K>, F: Form>(
     requires sited { is_sited lot.now (D.state disk.old).size ≡ true }
     requires some { 1 ≤ length lot.now.groups }
     requires depth { depth ≤ length path.now }
-    ensures spot { (dir : Bool) (mode k : ℕ) (t : Tree) → K.shows lot.now keep.old disk.old → MapRecovers (form_of F.VERSION) mode lot.now (K.map keep.old disk.old lot.now) t k
-        → MatchResult result
-        (λ spot. IsSpot (form_of F.VERSION) (own_in (form_of F.VERSION) (K.map keep.old disk.old lot.now)) (parent (drop depth path.now)) t spot × (refusal t k (length lot.now.groups) (form_of F.VERSION) (new_operation dir (drop depth path.now)) ≡ None))
-        (λ r. RefusedAs (refused_of r) (refusal t k (length lot.now.groups) (form_of F.VERSION) (new_operation dir (drop depth path.now)))) }
+    ensures spot { (dir : Bool) (mode k : ℕ) (t : Tree) → IfShown K.View lot.now keep.old disk.old (λ old.
+        MapRecovers (form_of F.VERSION) mode lot.now old t k
+        → MatchResult result (λ spot. IsSpot (form_of F.VERSION) (own_in (form_of F.VERSION) old) (parent (drop depth path.now)) t spot × (refusal t k (length lot.now.groups) (form_of F.VERSION) (new_operation dir (drop depth path.now)) ≡ None)) (λ r. RefusedAs (refused_of r) (refusal t k (length lot.now.groups) (form_of F.VERSION) (new_operation dir (drop depth path.now))))) }
     ensures fits { IfOk result (SpotFits lot.now) }
     ensures below { OnOk result (depth < length path.now) }
     ensures paths { ShownBy (paths_refusal (form_of F.VERSION) (drop depth path.now ∷ [])) result }
-    ensures untouched { (r : Why) → paths_refusal (form_of F.VERSION) (drop depth path.now ∷ []) ≡ Some r → (disk.new ≡ disk.old) × (keep.new ≡ keep.old) × (pool.new ≡ pool.old) }
+    ensures untouched { (r : Why) → paths_refusal (form_of F.VERSION) (drop depth path.now ∷ []) ≡ Some r
+        → (disk.new ≡ disk.old) × (keep.new ≡ keep.old) × (pool.new ≡ pool.old) }
     ensures looked { Looked D.Disk K.View lot.now keep.old disk.old keep.new disk.new }
-    ensures ready { K.shows lot.now keep.old disk.old → IfOk result (NewFits F.ENTRY lot.now (K.map keep.old disk.old lot.now)) }
-    ensures damaged { (n : ℕ) → IsErrOf result (Damaged n) → K.shows lot.now keep.old disk.old → (r : Rule) × (n ≡ rule_number r) × IsBroken F.ENTRY lot.now (K.map keep.old disk.old lot.now) r }
+    ensures ready { IfShown K.View lot.now keep.old disk.old (λ old.
+        IfOk result (NewFits F.ENTRY lot.now old)) }
+    ensures damaged { (n : ℕ) → IsErrOf result (Damaged n) → IfShown K.View lot.now keep.old disk.old (λ old.
+        (r : Rule) × (n ≡ rule_number r) × IsBroken F.ENTRY lot.now old r) }
     ensures set { IfErr result (IsOneOf make_refusals change_rules) }
     ensures failed { IsErrOf result Fault → Rose (D.state disk.old).faults (D.state disk.new).faults }
 {
@@ -145,13 +150,18 @@ fn put_node<D: Disk, K: Keep<D>, P: Pool<D, K>, F: Form>(
     requires number { spot.now.number < 64 * length lot.now.groups }
     requires fits { length name.now ≤ F.NAME }
     requires room { 11 ≤ K.room keep.old }
-    ensures made { (mode k : ℕ) (t : Tree) (p : List (List ℕ)) → K.shows lot.now keep.old disk.old → Takes (form_of F.VERSION) mode lot.now (K.map keep.old disk.old lot.now) t k p dir spot.now name.now
-        → OnOk result (MapRecovers (form_of F.VERSION) mode lot.now (K.map keep.new disk.new lot.now) (next (new_operation dir p) t) k) }
-    ensures sound { (mode k : ℕ) (t : Tree) (p : List (List ℕ)) → K.shows lot.now keep.old disk.old → Takes (form_of F.VERSION) mode lot.now (K.map keep.old disk.old lot.now) t k p dir spot.now name.now
-        → IfErr result (λ e. e ≡ FaultDisk) }
+    ensures made { (mode k : ℕ) (t : Tree) (p : List (List ℕ))
+        → AsShown K.View lot.now keep.old disk.old keep.new disk.new (λ old new.
+        Takes (form_of F.VERSION) mode lot.now old t k p dir spot.now name.now
+        → OnOk result (MapRecovers (form_of F.VERSION) mode lot.now new (next (new_operation dir p) t) k)) }
+    ensures sound { (mode k : ℕ) (t : Tree) (p : List (List ℕ)) → IfShown K.View lot.now keep.old disk.old (λ old.
+        Takes (form_of F.VERSION) mode lot.now old t k p dir spot.now name.now
+        → IfErr result (λ e. e ≡ FaultDisk)) }
     ensures spent { Spent D.Disk K.View lot.now 11 keep.old disk.old keep.new disk.new }
-    ensures broken { K.shows lot.now keep.old disk.old → NewFits F.ENTRY lot.now (K.map keep.old disk.old lot.now) spot.now → IfErr result (IsBrokenBy F.ENTRY lot.now (K.map keep.old disk.old lot.now)) }
-    ensures done { K.shows lot.now keep.old disk.old → OnOk result (long_at (K.map keep.new disk.new lot.now sub_address) 16 ≡ long_at (K.map keep.old disk.old lot.now sub_address) 16) }
+    ensures broken { IfShown K.View lot.now keep.old disk.old (λ old.
+        NewFits F.ENTRY lot.now old spot.now → IfErr result (IsBrokenBy F.ENTRY lot.now old)) }
+    ensures done { AsShown K.View lot.now keep.old disk.old keep.new disk.new (λ old new.
+        OnOk result (long_at (new sub_address) 16 ≡ long_at (old sub_address) 16)) }
     ensures faults { IfErr result (IsNamedIn change_rules) }
     ensures failed { IsErrOf result FaultDisk → Rose (D.state disk.old).faults (D.state disk.new).faults }
 {
@@ -178,13 +188,17 @@ fn put_new<D: Disk, K: Keep<D>, P: Pool<D, K>, F: Form>(
     requires number { spot.now.number < 64 * length lot.now.groups }
     requires fits { length name.now ≤ F.NAME }
     requires room { 12 ≤ K.room keep.old }
-    ensures made { (mode k : ℕ) (t : Tree) (p : List (List ℕ)) → K.shows lot.now keep.old disk.old → Takes (form_of F.VERSION) mode lot.now (K.map keep.old disk.old lot.now) t k p dir spot.now name.now
-        → OnOk result (MapRecovers (form_of F.VERSION) mode lot.now (K.map keep.new disk.new lot.now) (next (new_operation dir p) t) (k + 1)) }
-    ensures sound { (mode k : ℕ) (t : Tree) (p : List (List ℕ)) → K.shows lot.now keep.old disk.old → Takes (form_of F.VERSION) mode lot.now (K.map keep.old disk.old lot.now) t k p dir spot.now name.now
-        → IfErr result (λ e. e ≡ FaultDisk) }
+    ensures made { (mode k : ℕ) (t : Tree) (p : List (List ℕ))
+        → AsShown K.View lot.now keep.old disk.old keep.new disk.new (λ old new.
+        Takes (form_of F.VERSION) mode lot.now old t k p dir spot.now name.now
+        → OnOk result (MapRecovers (form_of F.VERSION) mode lot.now new (next (new_operation dir p) t) (k + 1))) }
+    ensures sound { (mode k : ℕ) (t : Tree) (p : List (List ℕ)) → IfShown K.View lot.now keep.old disk.old (λ old.
+        Takes (form_of F.VERSION) mode lot.now old t k p dir spot.now name.now
+        → IfErr result (λ e. e ≡ FaultDisk)) }
     ensures counted { OnOk result (K.held keep.new sub_address ≡ true) }
     ensures spent { Spent D.Disk K.View lot.now 12 keep.old disk.old keep.new disk.new }
-    ensures broken { K.shows lot.now keep.old disk.old → NewFits F.ENTRY lot.now (K.map keep.old disk.old lot.now) spot.now → IfErr result (IsBrokenBy F.ENTRY lot.now (K.map keep.old disk.old lot.now)) }
+    ensures broken { IfShown K.View lot.now keep.old disk.old (λ old.
+        NewFits F.ENTRY lot.now old spot.now → IfErr result (IsBrokenBy F.ENTRY lot.now old)) }
     ensures faults { IfErr result (IsNamedIn change_rules) }
     ensures failed { IsErrOf result FaultDisk → Rose (D.state disk.old).faults (D.state disk.new).faults }
 {
@@ -207,16 +221,22 @@ fn make_node<D: Disk, K: Keep<D>, P: Pool<D, K>, F: Form>(
     requires some { 1 ≤ length lot.now.groups }
     requires depth { depth ≤ length path.now }
     requires room { 96 ≤ K.room keep.old }
-    ensures answers { (mode k : ℕ) (t : Tree) → K.shows lot.now keep.old disk.old → MapRecovers (form_of F.VERSION) mode lot.now (K.map keep.old disk.old lot.now) t k
-        → AsModel (meant_plain result) (answer t k (length lot.now.groups) (form_of F.VERSION) (new_operation dir (drop depth path.now))).0 }
-    ensures changed { (mode k : ℕ) (t : Tree) → K.shows lot.now keep.old disk.old → MapRecovers (form_of F.VERSION) mode lot.now (K.map keep.old disk.old lot.now) t k
-        → OnOk result (MapRecovers (form_of F.VERSION) mode lot.now (K.map keep.new disk.new lot.now) (answer t k (length lot.now.groups) (form_of F.VERSION) (new_operation dir (drop depth path.now))).1 (k + 1)) }
+    ensures answers { (mode k : ℕ) (t : Tree) → IfShown K.View lot.now keep.old disk.old (λ old.
+        MapRecovers (form_of F.VERSION) mode lot.now old t k
+        → AsModel (meant_plain result) (answer t k (length lot.now.groups) (form_of F.VERSION) (new_operation dir (drop depth path.now))).0) }
+    ensures changed { (mode k : ℕ) (t : Tree)
+        → AsShown K.View lot.now keep.old disk.old keep.new disk.new (λ old new.
+        MapRecovers (form_of F.VERSION) mode lot.now old t k
+        → OnOk result (MapRecovers (form_of F.VERSION) mode lot.now new (answer t k (length lot.now.groups) (form_of F.VERSION) (new_operation dir (drop depth path.now))).1 (k + 1))) }
     ensures counted { OnOk result (K.held keep.new sub_address ≡ true) }
     ensures paths { ShownBy (paths_refusal (form_of F.VERSION) (drop depth path.now ∷ [])) result }
-    ensures untouched { (r : Why) → paths_refusal (form_of F.VERSION) (drop depth path.now ∷ []) ≡ Some r → (disk.new ≡ disk.old) × (keep.new ≡ keep.old) × (pool.new ≡ pool.old) }
-    ensures refused { IfErr result (λ r. number_of r ≤ 14 → Looked D.Disk K.View lot.now keep.old disk.old keep.new disk.new) }
+    ensures untouched { (r : Why) → paths_refusal (form_of F.VERSION) (drop depth path.now ∷ []) ≡ Some r
+        → (disk.new ≡ disk.old) × (keep.new ≡ keep.old) × (pool.new ≡ pool.old) }
+    ensures refused { IfErr result (λ r. number_of r ≤ 14
+        → Looked D.Disk K.View lot.now keep.old disk.old keep.new disk.new) }
     ensures spent { Spent D.Disk K.View lot.now 96 keep.old disk.old keep.new disk.new }
-    ensures damaged { (n : ℕ) → IsErrOf result (Damaged n) → K.shows lot.now keep.old disk.old → (r : Rule) × (n ≡ rule_number r) × IsBroken F.ENTRY lot.now (K.map keep.old disk.old lot.now) r }
+    ensures damaged { (n : ℕ) → IsErrOf result (Damaged n) → IfShown K.View lot.now keep.old disk.old (λ old.
+        (r : Rule) × (n ≡ rule_number r) × IsBroken F.ENTRY lot.now old r) }
     ensures set { IfErr result (IsOneOf make_refusals change_rules) }
     ensures failed { IsErrOf result Fault → Rose (D.state disk.old).faults (D.state disk.new).faults }
 {
@@ -244,16 +264,22 @@ pub fn mkdir<D: Disk, K: Keep<D>, P: Pool<D, K>, F: Form>(
     requires some { 1 ≤ length lot.now.groups }
     requires depth { depth ≤ length path.now }
     requires room { 96 ≤ K.room keep.old }
-    ensures answers { (mode k : ℕ) (t : Tree) → K.shows lot.now keep.old disk.old → MapRecovers (form_of F.VERSION) mode lot.now (K.map keep.old disk.old lot.now) t k
-        → AsModel (meant_plain result) (answer t k (length lot.now.groups) (form_of F.VERSION) (Mkdir (drop depth path.now))).0 }
-    ensures changed { (mode k : ℕ) (t : Tree) → K.shows lot.now keep.old disk.old → MapRecovers (form_of F.VERSION) mode lot.now (K.map keep.old disk.old lot.now) t k
-        → OnOk result (MapRecovers (form_of F.VERSION) mode lot.now (K.map keep.new disk.new lot.now) (answer t k (length lot.now.groups) (form_of F.VERSION) (Mkdir (drop depth path.now))).1 (k + 1)) }
+    ensures answers { (mode k : ℕ) (t : Tree) → IfShown K.View lot.now keep.old disk.old (λ old.
+        MapRecovers (form_of F.VERSION) mode lot.now old t k
+        → AsModel (meant_plain result) (answer t k (length lot.now.groups) (form_of F.VERSION) (Mkdir (drop depth path.now))).0) }
+    ensures changed { (mode k : ℕ) (t : Tree)
+        → AsShown K.View lot.now keep.old disk.old keep.new disk.new (λ old new.
+        MapRecovers (form_of F.VERSION) mode lot.now old t k
+        → OnOk result (MapRecovers (form_of F.VERSION) mode lot.now new (answer t k (length lot.now.groups) (form_of F.VERSION) (Mkdir (drop depth path.now))).1 (k + 1))) }
     ensures counted { OnOk result (K.held keep.new sub_address ≡ true) }
     ensures paths { ShownBy (paths_refusal (form_of F.VERSION) (drop depth path.now ∷ [])) result }
-    ensures untouched { (r : Why) → paths_refusal (form_of F.VERSION) (drop depth path.now ∷ []) ≡ Some r → (disk.new ≡ disk.old) × (keep.new ≡ keep.old) × (pool.new ≡ pool.old) }
-    ensures refused { IfErr result (λ r. number_of r ≤ 14 → Looked D.Disk K.View lot.now keep.old disk.old keep.new disk.new) }
+    ensures untouched { (r : Why) → paths_refusal (form_of F.VERSION) (drop depth path.now ∷ []) ≡ Some r
+        → (disk.new ≡ disk.old) × (keep.new ≡ keep.old) × (pool.new ≡ pool.old) }
+    ensures refused { IfErr result (λ r. number_of r ≤ 14
+        → Looked D.Disk K.View lot.now keep.old disk.old keep.new disk.new) }
     ensures spent { Spent D.Disk K.View lot.now 96 keep.old disk.old keep.new disk.new }
-    ensures damaged { (n : ℕ) → IsErrOf result (Damaged n) → K.shows lot.now keep.old disk.old → (r : Rule) × (n ≡ rule_number r) × IsBroken F.ENTRY lot.now (K.map keep.old disk.old lot.now) r }
+    ensures damaged { (n : ℕ) → IsErrOf result (Damaged n) → IfShown K.View lot.now keep.old disk.old (λ old.
+        (r : Rule) × (n ≡ rule_number r) × IsBroken F.ENTRY lot.now old r) }
     ensures set { IfErr result (IsOneOf make_refusals change_rules) }
     ensures failed { IsErrOf result Fault → Rose (D.state disk.old).faults (D.state disk.new).faults }
 {
@@ -273,16 +299,22 @@ pub fn make<D: Disk, K: Keep<D>, P: Pool<D, K>, F: Form>(
     requires some { 1 ≤ length lot.now.groups }
     requires depth { depth ≤ length path.now }
     requires room { 96 ≤ K.room keep.old }
-    ensures answers { (mode k : ℕ) (t : Tree) → K.shows lot.now keep.old disk.old → MapRecovers (form_of F.VERSION) mode lot.now (K.map keep.old disk.old lot.now) t k
-        → AsModel (meant_plain result) (answer t k (length lot.now.groups) (form_of F.VERSION) (Make (drop depth path.now))).0 }
-    ensures changed { (mode k : ℕ) (t : Tree) → K.shows lot.now keep.old disk.old → MapRecovers (form_of F.VERSION) mode lot.now (K.map keep.old disk.old lot.now) t k
-        → OnOk result (MapRecovers (form_of F.VERSION) mode lot.now (K.map keep.new disk.new lot.now) (answer t k (length lot.now.groups) (form_of F.VERSION) (Make (drop depth path.now))).1 (k + 1)) }
+    ensures answers { (mode k : ℕ) (t : Tree) → IfShown K.View lot.now keep.old disk.old (λ old.
+        MapRecovers (form_of F.VERSION) mode lot.now old t k
+        → AsModel (meant_plain result) (answer t k (length lot.now.groups) (form_of F.VERSION) (Make (drop depth path.now))).0) }
+    ensures changed { (mode k : ℕ) (t : Tree)
+        → AsShown K.View lot.now keep.old disk.old keep.new disk.new (λ old new.
+        MapRecovers (form_of F.VERSION) mode lot.now old t k
+        → OnOk result (MapRecovers (form_of F.VERSION) mode lot.now new (answer t k (length lot.now.groups) (form_of F.VERSION) (Make (drop depth path.now))).1 (k + 1))) }
     ensures counted { OnOk result (K.held keep.new sub_address ≡ true) }
     ensures paths { ShownBy (paths_refusal (form_of F.VERSION) (drop depth path.now ∷ [])) result }
-    ensures untouched { (r : Why) → paths_refusal (form_of F.VERSION) (drop depth path.now ∷ []) ≡ Some r → (disk.new ≡ disk.old) × (keep.new ≡ keep.old) × (pool.new ≡ pool.old) }
-    ensures refused { IfErr result (λ r. number_of r ≤ 14 → Looked D.Disk K.View lot.now keep.old disk.old keep.new disk.new) }
+    ensures untouched { (r : Why) → paths_refusal (form_of F.VERSION) (drop depth path.now ∷ []) ≡ Some r
+        → (disk.new ≡ disk.old) × (keep.new ≡ keep.old) × (pool.new ≡ pool.old) }
+    ensures refused { IfErr result (λ r. number_of r ≤ 14
+        → Looked D.Disk K.View lot.now keep.old disk.old keep.new disk.new) }
     ensures spent { Spent D.Disk K.View lot.now 96 keep.old disk.old keep.new disk.new }
-    ensures damaged { (n : ℕ) → IsErrOf result (Damaged n) → K.shows lot.now keep.old disk.old → (r : Rule) × (n ≡ rule_number r) × IsBroken F.ENTRY lot.now (K.map keep.old disk.old lot.now) r }
+    ensures damaged { (n : ℕ) → IsErrOf result (Damaged n) → IfShown K.View lot.now keep.old disk.old (λ old.
+        (r : Rule) × (n ≡ rule_number r) × IsBroken F.ENTRY lot.now old r) }
     ensures set { IfErr result (IsOneOf make_refusals change_rules) }
     ensures failed { IsErrOf result Fault → Rose (D.state disk.old).faults (D.state disk.new).faults }
 {

@@ -2,7 +2,7 @@
 ghost use Rattle.std.specs.Prelude.{◌≡◌, ◌≤◌, ◌<◌, ◌*◌, ◌-◌, ℕ, true, IfOk, IfErr, IsErrOf, length, take, drop};
 ghost use Rattle.ice_base.specs.Disk.{Rose};
 ghost use Rattle.ice_base.specs.Lots.{is_sited};
-ghost use Rattle.ice_base.specs.Views.{Looked};
+ghost use Rattle.ice_base.specs.Views.{Looked, IfShown};
 ghost use Rattle.ice_base.specs.declared.fault.OpFault.TheVariants.{Disk as FaultDisk, Damaged};
 ghost use Rattle.ice_base.specs.declared.fault.Rule.TheVariants.{Kind};
 ghost use Rattle.ice_map.specs.Inodes.{inode_of};
@@ -42,14 +42,21 @@ pub(crate) fn look<D: Disk, V: View<D>, F: Form>(
 ) -> Result<Place, OpFault>
     requires sited { is_sited lot.now (D.state disk.old).size ≡ true }
     requires number { number < 64 * length lot.now.groups }
-    ensures place { (h : ℕ) (t : Tree) → V.shows lot.now view.old disk.old → Reads (form_of F.VERSION) lot.now (own_in (form_of F.VERSION) (V.map view.old disk.old lot.now)) number h t → IfOk result (λ p. p ≡ place_by number (Found t)) }
-    ensures sound { (h : ℕ) (t : Tree) → V.shows lot.now view.old disk.old → Reads (form_of F.VERSION) lot.now (own_in (form_of F.VERSION) (V.map view.old disk.old lot.now)) number h t → IfErr result (λ e. e ≡ FaultDisk) }
+    ensures place { (h : ℕ) (t : Tree) → IfShown V.View lot.now view.old disk.old (λ old.
+        Reads (form_of F.VERSION) lot.now (own_in (form_of F.VERSION) old) number h t
+        → IfOk result (λ p. p ≡ place_by number (Found t))) }
+    ensures sound { (h : ℕ) (t : Tree) → IfShown V.View lot.now view.old disk.old (λ old.
+        Reads (form_of F.VERSION) lot.now (own_in (form_of F.VERSION) old) number h t
+        → IfErr result (λ e. e ≡ FaultDisk)) }
     ensures fits { IfOk result (PlaceFits lot.now) }
     ensures at { IfOk result (PlaceOf number) }
-    ensures is { V.shows lot.now view.old disk.old → IfOk result (PlaceIs (V.map view.old disk.old lot.now)) }
-    ensures reached { V.shows lot.now view.old disk.old → Reached F.ENTRY lot.now (V.map view.old disk.old lot.now) number → IfOk result (PlaceReached F.ENTRY lot.now (V.map view.old disk.old lot.now)) }
-    ensures broken { V.shows lot.now view.old disk.old → Reached F.ENTRY lot.now (V.map view.old disk.old lot.now) number → IfErr result (IsBrokenBy F.ENTRY lot.now (V.map view.old disk.old lot.now)) }
-    ensures kind { IsErrOf result (Damaged Kind) → V.shows lot.now view.old disk.old → ¬ IsNode lot.now (inode_of (V.map view.old disk.old lot.now) number) }
+    ensures is { IfShown V.View lot.now view.old disk.old (λ old. IfOk result (PlaceIs old)) }
+    ensures reached { IfShown V.View lot.now view.old disk.old (λ old.
+        Reached F.ENTRY lot.now old number → IfOk result (PlaceReached F.ENTRY lot.now old)) }
+    ensures broken { IfShown V.View lot.now view.old disk.old (λ old.
+        Reached F.ENTRY lot.now old number → IfErr result (IsBrokenBy F.ENTRY lot.now old)) }
+    ensures kind { IsErrOf result (Damaged Kind) → IfShown V.View lot.now view.old disk.old (λ old.
+        ¬ IsNode lot.now (inode_of old number)) }
     ensures looked { Looked D.Disk V.View lot.now view.old disk.old view.new disk.new }
     ensures faults { IfErr result IsWalkFault }
     ensures failed { IsErrOf result FaultDisk → Rose (D.state disk.old).faults (D.state disk.new).faults }
@@ -73,13 +80,21 @@ pub(crate) fn enter<D: Disk, V: View<D>, F: Form>(
     number: u32,
 ) -> Result<Place, OpFault>
     requires sited { is_sited lot.now (D.state disk.old).size ≡ true }
-    ensures place { (h : ℕ) (t : Tree) → V.shows lot.now view.old disk.old → Reads (form_of F.VERSION) lot.now (own_in (form_of F.VERSION) (V.map view.old disk.old lot.now)) number h t → IfOk result (λ p. p ≡ place_by number (Found t)) }
-    ensures sound { (h : ℕ) (t : Tree) → V.shows lot.now view.old disk.old → Reads (form_of F.VERSION) lot.now (own_in (form_of F.VERSION) (V.map view.old disk.old lot.now)) number h t → IfErr result (λ e. e ≡ FaultDisk) }
+    ensures place { (h : ℕ) (t : Tree) → IfShown V.View lot.now view.old disk.old (λ old.
+        Reads (form_of F.VERSION) lot.now (own_in (form_of F.VERSION) old) number h t
+        → IfOk result (λ p. p ≡ place_by number (Found t))) }
+    ensures sound { (h : ℕ) (t : Tree) → IfShown V.View lot.now view.old disk.old (λ old.
+        Reads (form_of F.VERSION) lot.now (own_in (form_of F.VERSION) old) number h t
+        → IfErr result (λ e. e ≡ FaultDisk)) }
     ensures fits { IfOk result (PlaceFits lot.now) }
     ensures at { IfOk result (PlaceOf number) }
-    ensures is { V.shows lot.now view.old disk.old → IfOk result (PlaceIs (V.map view.old disk.old lot.now)) }
-    ensures reached { V.shows lot.now view.old disk.old → Reached F.ENTRY lot.now (V.map view.old disk.old lot.now) number → IfOk result (PlaceReached F.ENTRY lot.now (V.map view.old disk.old lot.now)) }
-    ensures broken { V.shows lot.now view.old disk.old → Reached F.ENTRY lot.now (V.map view.old disk.old lot.now) number → (64 * length lot.now.groups ≤ number → BadEntry F.ENTRY lot.now (V.map view.old disk.old lot.now)) → IfErr result (IsBrokenBy F.ENTRY lot.now (V.map view.old disk.old lot.now)) }
+    ensures is { IfShown V.View lot.now view.old disk.old (λ old. IfOk result (PlaceIs old)) }
+    ensures reached { IfShown V.View lot.now view.old disk.old (λ old.
+        Reached F.ENTRY lot.now old number → IfOk result (PlaceReached F.ENTRY lot.now old)) }
+    ensures broken { IfShown V.View lot.now view.old disk.old (λ old.
+        Reached F.ENTRY lot.now old number
+        → (64 * length lot.now.groups ≤ number → BadEntry F.ENTRY lot.now old)
+        → IfErr result (IsBrokenBy F.ENTRY lot.now old)) }
     ensures looked { Looked D.Disk V.View lot.now view.old disk.old view.new disk.new }
     ensures faults { IfErr result IsWalkFault }
     ensures failed { IsErrOf result FaultDisk → Rose (D.state disk.old).faults (D.state disk.new).faults }
@@ -100,16 +115,24 @@ pub(crate) fn step<D: Disk, V: View<D>, F: Form>(
 ) -> Result<Place, OpFault>
     requires sited { is_sited lot.now (D.state disk.old).size ≡ true }
     requires fits { PlaceFits lot.now from }
-    ensures place { (i h : ℕ) (t : Tree) → V.shows lot.now view.old disk.old → Reads (form_of F.VERSION) lot.now (own_in (form_of F.VERSION) (V.map view.old disk.old lot.now)) i h t → from ≡ place_by i (Found t)
-        → IfOk result (λ p. p ≡ place_by (inode_named name.now (rows_in (form_of F.VERSION) (own_in (form_of F.VERSION) (V.map view.old disk.old lot.now) i))) (child name.now t)) }
-    ensures sound { (i h : ℕ) (t : Tree) → V.shows lot.now view.old disk.old → Reads (form_of F.VERSION) lot.now (own_in (form_of F.VERSION) (V.map view.old disk.old lot.now)) i h t → from ≡ place_by i (Found t) → IfErr result (λ e. e ≡ FaultDisk) }
+    ensures place { (i h : ℕ) (t : Tree) → IfShown V.View lot.now view.old disk.old (λ old.
+        Reads (form_of F.VERSION) lot.now (own_in (form_of F.VERSION) old) i h t
+        → from ≡ place_by i (Found t)
+        → IfOk result (λ p. p ≡ place_by (inode_named name.now (rows_in (form_of F.VERSION) (own_in (form_of F.VERSION) old i))) (child name.now t))) }
+    ensures sound { (i h : ℕ) (t : Tree) → IfShown V.View lot.now view.old disk.old (λ old.
+        Reads (form_of F.VERSION) lot.now (own_in (form_of F.VERSION) old) i h t
+        → from ≡ place_by i (Found t) → IfErr result (λ e. e ≡ FaultDisk)) }
     ensures missing { from ≡ Missing → result ≡ Ok Missing }
     ensures blocked { from ≡ Blocked → result ≡ Ok Blocked }
     ensures fits { IfOk result (PlaceFits lot.now) }
-    ensures is { V.shows lot.now view.old disk.old → IfOk result (PlaceIs (V.map view.old disk.old lot.now)) }
-    ensures reached { V.shows lot.now view.old disk.old → PlaceReached F.ENTRY lot.now (V.map view.old disk.old lot.now) from → IfOk result (PlaceReached F.ENTRY lot.now (V.map view.old disk.old lot.now)) }
-    ensures named { V.shows lot.now view.old disk.old → IfOk result (PlaceNamed F.ENTRY (V.map view.old disk.old lot.now) from name.now) }
-    ensures broken { V.shows lot.now view.old disk.old → PlaceIs (V.map view.old disk.old lot.now) from → PlaceReached F.ENTRY lot.now (V.map view.old disk.old lot.now) from → IfErr result (IsBrokenBy F.ENTRY lot.now (V.map view.old disk.old lot.now)) }
+    ensures is { IfShown V.View lot.now view.old disk.old (λ old. IfOk result (PlaceIs old)) }
+    ensures reached { IfShown V.View lot.now view.old disk.old (λ old.
+        PlaceReached F.ENTRY lot.now old from → IfOk result (PlaceReached F.ENTRY lot.now old)) }
+    ensures named { IfShown V.View lot.now view.old disk.old (λ old.
+        IfOk result (PlaceNamed F.ENTRY old from name.now)) }
+    ensures broken { IfShown V.View lot.now view.old disk.old (λ old.
+        PlaceIs old from → PlaceReached F.ENTRY lot.now old from
+        → IfErr result (IsBrokenBy F.ENTRY lot.now old)) }
     ensures looked { Looked D.Disk V.View lot.now view.old disk.old view.new disk.new }
     ensures faults { IfErr result IsWalkFault }
     ensures failed { IsErrOf result FaultDisk → Rose (D.state disk.old).faults (D.state disk.new).faults }
@@ -139,13 +162,17 @@ pub(crate) fn walk<D: Disk, V: View<D>, F: Form>(
     requires some { 1 ≤ length lot.now.groups }
     requires order { depth ≤ end }
     requires within { end ≤ length path.now }
-    ensures place { (mode k : ℕ) (t : Tree) → V.shows lot.now view.old disk.old → MapRecovers (form_of F.VERSION) mode lot.now (V.map view.old disk.old lot.now) t k
-        → IfOk result (λ p. p ≡ place_at (form_of F.VERSION) (own_in (form_of F.VERSION) (V.map view.old disk.old lot.now)) (take (end - depth) (drop depth path.now)) t) }
-    ensures sound { (mode k : ℕ) (t : Tree) → V.shows lot.now view.old disk.old → MapRecovers (form_of F.VERSION) mode lot.now (V.map view.old disk.old lot.now) t k → IfErr result (λ e. e ≡ FaultDisk) }
+    ensures place { (mode k : ℕ) (t : Tree) → IfShown V.View lot.now view.old disk.old (λ old.
+        MapRecovers (form_of F.VERSION) mode lot.now old t k
+        → IfOk result (λ p. p ≡ place_at (form_of F.VERSION) (own_in (form_of F.VERSION) old) (take (end - depth) (drop depth path.now)) t)) }
+    ensures sound { (mode k : ℕ) (t : Tree) → IfShown V.View lot.now view.old disk.old (λ old.
+        MapRecovers (form_of F.VERSION) mode lot.now old t k → IfErr result (λ e. e ≡ FaultDisk)) }
     ensures fits { IfOk result (PlaceFits lot.now) }
-    ensures is { V.shows lot.now view.old disk.old → IfOk result (PlaceIs (V.map view.old disk.old lot.now)) }
-    ensures reached { V.shows lot.now view.old disk.old → IfOk result (PlaceReached F.ENTRY lot.now (V.map view.old disk.old lot.now)) }
-    ensures broken { V.shows lot.now view.old disk.old → IfErr result (IsBrokenBy F.ENTRY lot.now (V.map view.old disk.old lot.now)) }
+    ensures is { IfShown V.View lot.now view.old disk.old (λ old. IfOk result (PlaceIs old)) }
+    ensures reached { IfShown V.View lot.now view.old disk.old (λ old.
+        IfOk result (PlaceReached F.ENTRY lot.now old)) }
+    ensures broken { IfShown V.View lot.now view.old disk.old (λ old.
+        IfErr result (IsBrokenBy F.ENTRY lot.now old)) }
     ensures looked { Looked D.Disk V.View lot.now view.old disk.old view.new disk.new }
     ensures faults { IfErr result IsWalkFault }
     ensures failed { IsErrOf result FaultDisk → Rose (D.state disk.old).faults (D.state disk.new).faults }

@@ -3,7 +3,7 @@ ghost use Rattle.std.specs.Prelude.{◌≡◌, ◌≤◌, ◌<◌, ◌+◌, ℕ,
 ghost use Rattle.ice_base.specs.Disk.{Rose};
 ghost use Rattle.ice_base.specs.Lots.{is_sited};
 ghost use Rattle.ice_base.specs.Used.{free_count};
-ghost use Rattle.ice_base.specs.Views.{Looked};
+ghost use Rattle.ice_base.specs.Views.{Looked, IfShown};
 ghost use Rattle.ice_base.specs.declared.fault.Rule.{Rule};
 ghost use Rattle.tree_spec.specs.Costs.{form_of, map_cost, file_blocks, dir_blocks};
 ghost use Rattle.tree_spec.specs.Replies.{refused_of};
@@ -65,10 +65,13 @@ fn check_nodes<D: Disk, K: Keep<D>, P: Pool<D, K>, F: Form>(
     need: &Need,
 ) -> Result<(), Refusal>
     requires { is_sited lot.now (D.state disk.old).size ≡ true }
-    ensures nodes { (mode k : ℕ) (t next : Tree) → K.shows lot.now keep.old disk.old → MapRecovers (form_of F.VERSION) mode lot.now (K.map keep.old disk.old lot.now) t k → Needs (form_of F.VERSION) t next need.now
-        → MatchResult result (λ u. nodes_refusal (length lot.now.groups) next ≡ None) (λ r. RefusedAs (refused_of r) (nodes_refusal (length lot.now.groups) next)) }
-    ensures enough { K.shows lot.now keep.old disk.old → OnOk result (need.now.nodes ≤ need.now.lost + free_count true lot.now (K.map keep.old disk.old lot.now)) }
-    ensures damaged { (n : ℕ) → IsErrOf result (Damaged n) → K.shows lot.now keep.old disk.old → (r : Rule) × (n ≡ rule_number r) × IsBroken F.ENTRY lot.now (K.map keep.old disk.old lot.now) r }
+    ensures nodes { (mode k : ℕ) (t next : Tree) → IfShown K.View lot.now keep.old disk.old (λ old.
+        MapRecovers (form_of F.VERSION) mode lot.now old t k → Needs (form_of F.VERSION) t next need.now
+        → MatchResult result (λ u. nodes_refusal (length lot.now.groups) next ≡ None) (λ r. RefusedAs (refused_of r) (nodes_refusal (length lot.now.groups) next))) }
+    ensures enough { IfShown K.View lot.now keep.old disk.old (λ old.
+        OnOk result (need.now.nodes ≤ need.now.lost + free_count true lot.now old)) }
+    ensures damaged { (n : ℕ) → IsErrOf result (Damaged n) → IfShown K.View lot.now keep.old disk.old (λ old.
+        (r : Rule) × (n ≡ rule_number r) × IsBroken F.ENTRY lot.now old r) }
     ensures looked { Looked D.Disk K.View lot.now keep.old disk.old keep.new disk.new }
     ensures more { IsErrOf result NoNodes → need.now.lost < need.now.nodes }
     ensures set { IfErr result (IsOneOf (12 ∷ []) []) }
@@ -97,10 +100,13 @@ fn check_blocks<D: Disk, K: Keep<D>, P: Pool<D, K>, F: Form>(
     need: &Need,
 ) -> Result<(), Refusal>
     requires { is_sited lot.now (D.state disk.old).size ≡ true }
-    ensures blocks { (mode k : ℕ) (t next : Tree) → K.shows lot.now keep.old disk.old → MapRecovers (form_of F.VERSION) mode lot.now (K.map keep.old disk.old lot.now) t k → Needs (form_of F.VERSION) t next need.now
-        → MatchResult result (λ u. blocks_refusal (length lot.now.groups) (form_of F.VERSION) next ≡ None) (λ r. RefusedAs (refused_of r) (blocks_refusal (length lot.now.groups) (form_of F.VERSION) next)) }
-    ensures enough { K.shows lot.now keep.old disk.old → OnOk result (need.now.blocks ≤ need.now.freed + free_count false lot.now (K.map keep.old disk.old lot.now)) }
-    ensures damaged { (n : ℕ) → IsErrOf result (Damaged n) → K.shows lot.now keep.old disk.old → (r : Rule) × (n ≡ rule_number r) × IsBroken F.ENTRY lot.now (K.map keep.old disk.old lot.now) r }
+    ensures blocks { (mode k : ℕ) (t next : Tree) → IfShown K.View lot.now keep.old disk.old (λ old.
+        MapRecovers (form_of F.VERSION) mode lot.now old t k → Needs (form_of F.VERSION) t next need.now
+        → MatchResult result (λ u. blocks_refusal (length lot.now.groups) (form_of F.VERSION) next ≡ None) (λ r. RefusedAs (refused_of r) (blocks_refusal (length lot.now.groups) (form_of F.VERSION) next))) }
+    ensures enough { IfShown K.View lot.now keep.old disk.old (λ old.
+        OnOk result (need.now.blocks ≤ need.now.freed + free_count false lot.now old)) }
+    ensures damaged { (n : ℕ) → IsErrOf result (Damaged n) → IfShown K.View lot.now keep.old disk.old (λ old.
+        (r : Rule) × (n ≡ rule_number r) × IsBroken F.ENTRY lot.now old r) }
     ensures looked { Looked D.Disk K.View lot.now keep.old disk.old keep.new disk.new }
     ensures more { IsErrOf result NoSpace → need.now.freed < need.now.blocks }
     ensures set { IfErr result (IsOneOf (13 ∷ []) []) }
@@ -127,10 +133,12 @@ fn check_done<D: Disk, K: Keep<D>, F: Form>(
     lot: &Lot,
 ) -> Result<(), Refusal>
     requires { is_sited lot.now (D.state disk.old).size ≡ true }
-    ensures done { (mode k : ℕ) (t : Tree) → K.shows lot.now keep.old disk.old → MapRecovers (form_of F.VERSION) mode lot.now (K.map keep.old disk.old lot.now) t k
-        → MatchResult result (λ u. done_refusal k ≡ None) (λ r. RefusedAs (refused_of r) (done_refusal k)) }
-    ensures enough { K.shows lot.now keep.old disk.old → OnOk result (CanCount (K.map keep.old disk.old lot.now)) }
-    ensures damaged { (n : ℕ) → IsErrOf result (Damaged n) → K.shows lot.now keep.old disk.old → (r : Rule) × (n ≡ rule_number r) × IsBroken F.ENTRY lot.now (K.map keep.old disk.old lot.now) r }
+    ensures done { (mode k : ℕ) (t : Tree) → IfShown K.View lot.now keep.old disk.old (λ old.
+        MapRecovers (form_of F.VERSION) mode lot.now old t k
+        → MatchResult result (λ u. done_refusal k ≡ None) (λ r. RefusedAs (refused_of r) (done_refusal k))) }
+    ensures enough { IfShown K.View lot.now keep.old disk.old (λ old. OnOk result (CanCount old)) }
+    ensures damaged { (n : ℕ) → IsErrOf result (Damaged n) → IfShown K.View lot.now keep.old disk.old (λ old.
+        (r : Rule) × (n ≡ rule_number r) × IsBroken F.ENTRY lot.now old r) }
     ensures looked { Looked D.Disk K.View lot.now keep.old disk.old keep.new disk.new }
     ensures set { IfErr result (IsOneOf (14 ∷ []) sub_rules) }
     ensures failed { IsErrOf result Fault → Rose (D.state disk.old).faults (D.state disk.new).faults }
@@ -155,10 +163,13 @@ pub(crate) fn check_quota<D: Disk, K: Keep<D>, P: Pool<D, K>, F: Form>(
     need: &Need,
 ) -> Result<(), Refusal>
     requires { is_sited lot.now (D.state disk.old).size ≡ true }
-    ensures quota { (mode k : ℕ) (t next : Tree) → K.shows lot.now keep.old disk.old → MapRecovers (form_of F.VERSION) mode lot.now (K.map keep.old disk.old lot.now) t k → Needs (form_of F.VERSION) t next need.now
-        → MatchResult result (λ u. quota_refusal (length lot.now.groups) (form_of F.VERSION) k next ≡ None) (λ r. RefusedAs (refused_of r) (quota_refusal (length lot.now.groups) (form_of F.VERSION) k next)) }
-    ensures enough { K.shows lot.now keep.old disk.old → OnOk result (HasFree lot.now (K.map keep.old disk.old lot.now) need.now) }
-    ensures damaged { (n : ℕ) → IsErrOf result (Damaged n) → K.shows lot.now keep.old disk.old → (r : Rule) × (n ≡ rule_number r) × IsBroken F.ENTRY lot.now (K.map keep.old disk.old lot.now) r }
+    ensures quota { (mode k : ℕ) (t next : Tree) → IfShown K.View lot.now keep.old disk.old (λ old.
+        MapRecovers (form_of F.VERSION) mode lot.now old t k → Needs (form_of F.VERSION) t next need.now
+        → MatchResult result (λ u. quota_refusal (length lot.now.groups) (form_of F.VERSION) k next ≡ None) (λ r. RefusedAs (refused_of r) (quota_refusal (length lot.now.groups) (form_of F.VERSION) k next))) }
+    ensures enough { IfShown K.View lot.now keep.old disk.old (λ old.
+        OnOk result (HasFree lot.now old need.now)) }
+    ensures damaged { (n : ℕ) → IsErrOf result (Damaged n) → IfShown K.View lot.now keep.old disk.old (λ old.
+        (r : Rule) × (n ≡ rule_number r) × IsBroken F.ENTRY lot.now old r) }
     ensures looked { Looked D.Disk K.View lot.now keep.old disk.old keep.new disk.new }
     ensures more_nodes { IsErrOf result NoNodes → need.now.lost < need.now.nodes }
     ensures more_blocks { IsErrOf result NoSpace → need.now.freed < need.now.blocks }

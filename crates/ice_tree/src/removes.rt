@@ -4,7 +4,7 @@ ghost use Rattle.ice_base.specs.Disk.{Rose};
 ghost use Rattle.ice_base.specs.Fields.{long_at};
 ghost use Rattle.ice_base.specs.Lots.{LotView, is_sited, sub_address};
 ghost use Rattle.ice_base.specs.Used.{used_inode, counted};
-ghost use Rattle.ice_base.specs.Views.{Looked, Spent};
+ghost use Rattle.ice_base.specs.Views.{Looked, Spent, AsShown, IfShown};
 ghost use Rattle.ice_base.specs.declared.fault.OpFault.TheVariants.{Disk as FaultDisk};
 ghost use Rattle.ice_base.specs.declared.fault.Rule.{Rule};
 ghost use Rattle.ice_map.specs.Inodes.{inode_of};
@@ -52,7 +52,9 @@ pub struct Gone {
 
 /// What an inode stands for, in the directory at a place. NotDir: no directory is there.
 fn gone_in(parent: Place, number: u32, bytes: u32) -> Result<Gone, Refusal>
-    ensures { MatchResult result (λ gone. (parent ≡ Dir gone.spot.number gone.spot.entries) × (gone.number ≡ number) × (gone.bytes ≡ bytes)) (λ r. (r ≡ NotDir) × ((dir entries : ℕ) → parent ≢ Dir dir entries)) }
+    ensures { MatchResult result (λ gone. (parent ≡ Dir gone.spot.number gone.spot.entries)
+        × (gone.number ≡ number) × (gone.bytes ≡ bytes)) (λ r. (r ≡ NotDir)
+        × ((dir entries : ℕ) → parent ≢ Dir dir entries)) }
 {
     match parent {
         Place::Dir { number: dir, size } => Ok(Gone {
@@ -71,9 +73,14 @@ fn gone_in(parent: Place, number: u32, bytes: u32) -> Result<Gone, Refusal>
 
 /// What stands at a path with these ends. NotFound and NotDir: the walk ends so. NotEmpty: a directory with entries.
 fn gone_of(ends: &Ends) -> Result<Gone, Refusal>
-    ensures gone { (f : Form) (o : Table) (p : List (List ℕ)) (t : Tree) → is_root p ≡ false → IsEnds f o p t ends.now → MatchResult result (λ gone. (gone_refusal p t ≡ None) × IsGone f o p t gone) (λ r. RefusedAs (refused_of r) (gone_refusal p t)) }
+    ensures gone { (f : Form) (o : Table) (p : List (List ℕ)) (t : Tree) → is_root p ≡ false
+        → IsEnds f o p t ends.now
+        → MatchResult result (λ gone. (gone_refusal p t ≡ None)
+        × IsGone f o p t gone) (λ r. RefusedAs (refused_of r) (gone_refusal p t)) }
     ensures fits { (lot : LotView) → EndsFit lot ends.now → IfOk result (GoneFits lot) }
-    ensures is { (entry : ℕ) (lot : LotView) (m : ℕ → List ℕ) (name : List ℕ) → EndsAre entry lot m ends.now → EndsFit lot ends.now → PlaceNamed entry m ends.now.parent name ends.now.end → IfOk result (GoneIs entry lot m name) }
+    ensures is { (entry : ℕ) (lot : LotView) (m : ℕ → List ℕ) (name : List ℕ) → EndsAre entry lot m ends.now
+        → EndsFit lot ends.now → PlaceNamed entry m ends.now.parent name ends.now.end
+        → IfOk result (GoneIs entry lot m name) }
     ensures undamaged { (n : ℕ) → IsErrOf result (Damaged n) → ⊥ }
     ensures set { IfErr result (IsOneOf remove_refusals []) }
     ensures faultless { IsErrOf result Fault → ⊥ }
@@ -102,14 +109,17 @@ fn find_gone<D: Disk, V: View<D>, F: Form>(
     requires sited { is_sited lot.now (D.state disk.old).size ≡ true }
     requires some { 1 ≤ length lot.now.groups }
     requires depth { depth ≤ length path.now }
-    ensures found { (mode k : ℕ) (t : Tree) → V.shows lot.now view.old disk.old → MapRecovers (form_of F.VERSION) mode lot.now (V.map view.old disk.old lot.now) t k
-        → MatchResult result (λ gone. (gone_refusal (drop depth path.now) t ≡ None) × IsGone (form_of F.VERSION) (own_in (form_of F.VERSION) (V.map view.old disk.old lot.now)) (drop depth path.now) t gone)
-        (λ r. RefusedAs (refused_of r) (gone_refusal (drop depth path.now) t)) }
+    ensures found { (mode k : ℕ) (t : Tree) → IfShown V.View lot.now view.old disk.old (λ old.
+        MapRecovers (form_of F.VERSION) mode lot.now old t k
+        → MatchResult result (λ gone. (gone_refusal (drop depth path.now) t ≡ None)
+        × IsGone (form_of F.VERSION) (own_in (form_of F.VERSION) old) (drop depth path.now) t gone) (λ r. RefusedAs (refused_of r) (gone_refusal (drop depth path.now) t))) }
     ensures fits { IfOk result (GoneFits lot.now) }
     ensures below { OnOk result (depth < length path.now) }
     ensures looked { Looked D.Disk V.View lot.now view.old disk.old view.new disk.new }
-    ensures is { V.shows lot.now view.old disk.old → IfOk result (GoneIs F.ENTRY lot.now (V.map view.old disk.old lot.now) (last_name (drop depth path.now))) }
-    ensures damaged { (n : ℕ) → IsErrOf result (Damaged n) → V.shows lot.now view.old disk.old → (r : Rule) × (n ≡ rule_number r) × IsBroken F.ENTRY lot.now (V.map view.old disk.old lot.now) r }
+    ensures is { IfShown V.View lot.now view.old disk.old (λ old.
+        IfOk result (GoneIs F.ENTRY lot.now old (last_name (drop depth path.now)))) }
+    ensures damaged { (n : ℕ) → IsErrOf result (Damaged n) → IfShown V.View lot.now view.old disk.old (λ old.
+        (r : Rule) × (n ≡ rule_number r) × IsBroken F.ENTRY lot.now old r) }
     ensures set { IfErr result (IsOneOf remove_refusals change_rules) }
     ensures failed { IsErrOf result Fault → Rose (D.state disk.old).faults (D.state disk.new).faults }
 {
@@ -132,12 +142,15 @@ fn check_gone<D: Disk, K: Keep<D>, P: Pool<D, K>, F: Form>(
 ) -> Result<(), Refusal>
     requires sited { is_sited lot.now (D.state disk.old).size ≡ true }
     requires fits { GoneFits lot.now gone.now }
-    ensures quota { (mode k : ℕ) (t : Tree) (p : List (List ℕ)) → K.shows lot.now keep.old disk.old → MapRecovers (form_of F.VERSION) mode lot.now (K.map keep.old disk.old lot.now) t k
-        → IsGone (form_of F.VERSION) (own_in (form_of F.VERSION) (K.map keep.old disk.old lot.now)) p t gone.now → gone_refusal p t ≡ None
-        → MatchResult result (λ u. quota_refusal (length lot.now.groups) (form_of F.VERSION) k (next (Remove p) t) ≡ None) (λ r. RefusedAs (refused_of r) (quota_refusal (length lot.now.groups) (form_of F.VERSION) k (next (Remove p) t))) }
+    ensures quota { (mode k : ℕ) (t : Tree) (p : List (List ℕ)) → IfShown K.View lot.now keep.old disk.old (λ old.
+        MapRecovers (form_of F.VERSION) mode lot.now old t k
+        → IsGone (form_of F.VERSION) (own_in (form_of F.VERSION) old) p t gone.now
+        → gone_refusal p t ≡ None
+        → MatchResult result (λ u. quota_refusal (length lot.now.groups) (form_of F.VERSION) k (next (Remove p) t) ≡ None) (λ r. RefusedAs (refused_of r) (quota_refusal (length lot.now.groups) (form_of F.VERSION) k (next (Remove p) t)))) }
     ensures looked { Looked D.Disk K.View lot.now keep.old disk.old keep.new disk.new }
-    ensures room { K.shows lot.now keep.old disk.old → OnOk result (CanCount (K.map keep.old disk.old lot.now)) }
-    ensures damaged { (n : ℕ) → IsErrOf result (Damaged n) → K.shows lot.now keep.old disk.old → (r : Rule) × (n ≡ rule_number r) × IsBroken F.ENTRY lot.now (K.map keep.old disk.old lot.now) r }
+    ensures room { IfShown K.View lot.now keep.old disk.old (λ old. OnOk result (CanCount old)) }
+    ensures damaged { (n : ℕ) → IsErrOf result (Damaged n) → IfShown K.View lot.now keep.old disk.old (λ old.
+        (r : Rule) × (n ≡ rule_number r) × IsBroken F.ENTRY lot.now old r) }
     ensures set { IfErr result (IsOneOf remove_refusals sub_rules) }
     ensures failed { IsErrOf result Fault → Rose (D.state disk.old).faults (D.state disk.new).faults }
 {
@@ -162,16 +175,17 @@ fn may_remove<D: Disk, K: Keep<D>, P: Pool<D, K>, F: Form>(
     requires sited { is_sited lot.now (D.state disk.old).size ≡ true }
     requires some { 1 ≤ length lot.now.groups }
     requires depth { depth ≤ length path.now }
-    ensures found { (mode k : ℕ) (t : Tree) → K.shows lot.now keep.old disk.old → MapRecovers (form_of F.VERSION) mode lot.now (K.map keep.old disk.old lot.now) t k
-        → MatchResult result
-        (λ gone. (or_else (gone_refusal (drop depth path.now) t) (quota_refusal (length lot.now.groups) (form_of F.VERSION) k (next (Remove (drop depth path.now)) t)) ≡ None) × IsGone (form_of F.VERSION) (own_in (form_of F.VERSION) (K.map keep.old disk.old lot.now)) (drop depth path.now) t gone)
-        (λ r. RefusedAs (refused_of r) (or_else (gone_refusal (drop depth path.now) t) (quota_refusal (length lot.now.groups) (form_of F.VERSION) k (next (Remove (drop depth path.now)) t)))) }
+    ensures found { (mode k : ℕ) (t : Tree) → IfShown K.View lot.now keep.old disk.old (λ old.
+        MapRecovers (form_of F.VERSION) mode lot.now old t k
+        → MatchResult result (λ gone. (or_else (gone_refusal (drop depth path.now) t) (quota_refusal (length lot.now.groups) (form_of F.VERSION) k (next (Remove (drop depth path.now)) t)) ≡ None) × IsGone (form_of F.VERSION) (own_in (form_of F.VERSION) old) (drop depth path.now) t gone) (λ r. RefusedAs (refused_of r) (or_else (gone_refusal (drop depth path.now) t) (quota_refusal (length lot.now.groups) (form_of F.VERSION) k (next (Remove (drop depth path.now)) t))))) }
     ensures fits { IfOk result (GoneFits lot.now) }
     ensures below { OnOk result (depth < length path.now) }
     ensures looked { Looked D.Disk K.View lot.now keep.old disk.old keep.new disk.new }
-    ensures is { K.shows lot.now keep.old disk.old → IfOk result (GoneIs F.ENTRY lot.now (K.map keep.old disk.old lot.now) (last_name (drop depth path.now))) }
-    ensures room { K.shows lot.now keep.old disk.old → OnOk result (CanCount (K.map keep.old disk.old lot.now)) }
-    ensures damaged { (n : ℕ) → IsErrOf result (Damaged n) → K.shows lot.now keep.old disk.old → (r : Rule) × (n ≡ rule_number r) × IsBroken F.ENTRY lot.now (K.map keep.old disk.old lot.now) r }
+    ensures is { IfShown K.View lot.now keep.old disk.old (λ old.
+        IfOk result (GoneIs F.ENTRY lot.now old (last_name (drop depth path.now)))) }
+    ensures room { IfShown K.View lot.now keep.old disk.old (λ old. OnOk result (CanCount old)) }
+    ensures damaged { (n : ℕ) → IsErrOf result (Damaged n) → IfShown K.View lot.now keep.old disk.old (λ old.
+        (r : Rule) × (n ≡ rule_number r) × IsBroken F.ENTRY lot.now old r) }
     ensures set { IfErr result (IsOneOf remove_refusals change_rules) }
     ensures failed { IsErrOf result Fault → Rose (D.state disk.old).faults (D.state disk.new).faults }
 {
@@ -196,14 +210,23 @@ fn drop_bytes<D: Disk, K: Keep<D>, P: Pool<D, K>, F: Form>(
     requires sited { is_sited lot.now (D.state disk.old).size ≡ true }
     requires number { number < 64 * length lot.now.groups }
     requires room { 72 ≤ K.room keep.old }
-    ensures dropped { (mode k : ℕ) (t : Tree) → K.shows lot.now keep.old disk.old → StandsLoose (form_of F.VERSION) mode lot.now (K.map keep.old disk.old lot.now) t k number bytes
-        → OnOk result (Beside (form_of F.VERSION) mode lot.now (K.map keep.new disk.new lot.now) t k [] (number ∷ [])) }
-    ensures sound { (mode k : ℕ) (t : Tree) → K.shows lot.now keep.old disk.old → StandsLoose (form_of F.VERSION) mode lot.now (K.map keep.old disk.old lot.now) t k number bytes → IfErr result (λ e. e ≡ FaultDisk) }
+    ensures dropped { (mode k : ℕ) (t : Tree)
+        → AsShown K.View lot.now keep.old disk.old keep.new disk.new (λ old new.
+        StandsLoose (form_of F.VERSION) mode lot.now old t k number bytes
+        → OnOk result (Beside (form_of F.VERSION) mode lot.now new t k [] (number ∷ []))) }
+    ensures sound { (mode k : ℕ) (t : Tree) → IfShown K.View lot.now keep.old disk.old (λ old.
+        StandsLoose (form_of F.VERSION) mode lot.now old t k number bytes
+        → IfErr result (λ e. e ≡ FaultDisk)) }
     ensures spent { Spent D.Disk K.View lot.now 72 keep.old disk.old keep.new disk.new }
-    ensures broken { K.shows lot.now keep.old disk.old → (0 < bytes → ReachesTo 0 (inode_of (K.map keep.old disk.old lot.now) number)) → IfErr result (IsFaultBy (LooseBroken lot.now (K.map keep.old disk.old lot.now) number)) }
-    ensures inodes { K.shows lot.now keep.old disk.old → OnOk result ((i : ℕ) → used_inode (K.map keep.new disk.new lot.now) i ≡ used_inode (K.map keep.old disk.old lot.now) i) }
-    ensures count { K.shows lot.now keep.old disk.old → OnOk result (counted true (K.map keep.new disk.new lot.now) ≡ counted true (K.map keep.old disk.old lot.now)) }
-    ensures done { K.shows lot.now keep.old disk.old → OnOk result (long_at (K.map keep.new disk.new lot.now sub_address) 16 ≡ long_at (K.map keep.old disk.old lot.now sub_address) 16) }
+    ensures broken { IfShown K.View lot.now keep.old disk.old (λ old.
+        (0 < bytes → ReachesTo 0 (inode_of old number))
+        → IfErr result (IsFaultBy (LooseBroken lot.now old number))) }
+    ensures inodes { AsShown K.View lot.now keep.old disk.old keep.new disk.new (λ old new.
+        OnOk result ((i : ℕ) → used_inode new i ≡ used_inode old i)) }
+    ensures count { AsShown K.View lot.now keep.old disk.old keep.new disk.new (λ old new.
+        OnOk result (counted true new ≡ counted true old)) }
+    ensures done { AsShown K.View lot.now keep.old disk.old keep.new disk.new (λ old new.
+        OnOk result (long_at (new sub_address) 16 ≡ long_at (old sub_address) 16)) }
     ensures faults { IfErr result (IsNamedIn change_rules) }
     ensures failed { IsErrOf result FaultDisk → Rose (D.state disk.old).faults (D.state disk.new).faults }
 {
@@ -239,13 +262,21 @@ fn clear<D: Disk, K: Keep<D>, P: Pool<D, K>, F: Form>(
     requires sited { is_sited lot.now (D.state disk.old).size ≡ true }
     requires number { number < 64 * length lot.now.groups }
     requires room { 75 ≤ K.room keep.old }
-    ensures cleared { (mode k : ℕ) (t : Tree) → K.shows lot.now keep.old disk.old → StandsLoose (form_of F.VERSION) mode lot.now (K.map keep.old disk.old lot.now) t k number bytes
-        → OnOk result (MapRecovers (form_of F.VERSION) mode lot.now (K.map keep.new disk.new lot.now) t k) }
-    ensures sound { (mode k : ℕ) (t : Tree) → K.shows lot.now keep.old disk.old → StandsLoose (form_of F.VERSION) mode lot.now (K.map keep.old disk.old lot.now) t k number bytes → IfErr result (λ e. e ≡ FaultDisk) }
-    ensures freed { K.shows lot.now keep.old disk.old → OnOk result (Freed (K.map keep.new disk.new lot.now) number) }
+    ensures cleared { (mode k : ℕ) (t : Tree)
+        → AsShown K.View lot.now keep.old disk.old keep.new disk.new (λ old new.
+        StandsLoose (form_of F.VERSION) mode lot.now old t k number bytes
+        → OnOk result (MapRecovers (form_of F.VERSION) mode lot.now new t k)) }
+    ensures sound { (mode k : ℕ) (t : Tree) → IfShown K.View lot.now keep.old disk.old (λ old.
+        StandsLoose (form_of F.VERSION) mode lot.now old t k number bytes
+        → IfErr result (λ e. e ≡ FaultDisk)) }
+    ensures freed { AsShown K.View lot.now keep.old disk.old keep.new disk.new (λ old new.
+        OnOk result (Freed new number)) }
     ensures spent { Spent D.Disk K.View lot.now 75 keep.old disk.old keep.new disk.new }
-    ensures broken { K.shows lot.now keep.old disk.old → (0 < bytes → ReachesTo 0 (inode_of (K.map keep.old disk.old lot.now) number)) → IfErr result (IsFaultBy (LooseBroken lot.now (K.map keep.old disk.old lot.now) number)) }
-    ensures done { K.shows lot.now keep.old disk.old → OnOk result (long_at (K.map keep.new disk.new lot.now sub_address) 16 ≡ long_at (K.map keep.old disk.old lot.now sub_address) 16) }
+    ensures broken { IfShown K.View lot.now keep.old disk.old (λ old.
+        (0 < bytes → ReachesTo 0 (inode_of old number))
+        → IfErr result (IsFaultBy (LooseBroken lot.now old number))) }
+    ensures done { AsShown K.View lot.now keep.old disk.old keep.new disk.new (λ old new.
+        OnOk result (long_at (new sub_address) 16 ≡ long_at (old sub_address) 16)) }
     ensures faults { IfErr result (IsNamedIn change_rules) }
     ensures failed { IsErrOf result FaultDisk → Rose (D.state disk.old).faults (D.state disk.new).faults }
 {
@@ -266,13 +297,20 @@ fn take_away<D: Disk, K: Keep<D>, P: Pool<D, K>, F: Form>(
     requires sited { is_sited lot.now (D.state disk.old).size ≡ true }
     requires fits { GoneFits lot.now gone.now }
     requires room { 83 ≤ K.room keep.old }
-    ensures taken { (mode k : ℕ) (t : Tree) (p : List (List ℕ)) → K.shows lot.now keep.old disk.old → Loses (form_of F.VERSION) mode lot.now (K.map keep.old disk.old lot.now) t k p gone.now name.now
-        → OnOk result (MapRecovers (form_of F.VERSION) mode lot.now (K.map keep.new disk.new lot.now) (next (Remove p) t) k) }
-    ensures sound { (mode k : ℕ) (t : Tree) (p : List (List ℕ)) → K.shows lot.now keep.old disk.old → Loses (form_of F.VERSION) mode lot.now (K.map keep.old disk.old lot.now) t k p gone.now name.now → IfErr result (λ e. e ≡ FaultDisk) }
-    ensures freed { K.shows lot.now keep.old disk.old → OnOk result (Freed (K.map keep.new disk.new lot.now) gone.now.number) }
+    ensures taken { (mode k : ℕ) (t : Tree) (p : List (List ℕ))
+        → AsShown K.View lot.now keep.old disk.old keep.new disk.new (λ old new.
+        Loses (form_of F.VERSION) mode lot.now old t k p gone.now name.now
+        → OnOk result (MapRecovers (form_of F.VERSION) mode lot.now new (next (Remove p) t) k)) }
+    ensures sound { (mode k : ℕ) (t : Tree) (p : List (List ℕ)) → IfShown K.View lot.now keep.old disk.old (λ old.
+        Loses (form_of F.VERSION) mode lot.now old t k p gone.now name.now
+        → IfErr result (λ e. e ≡ FaultDisk)) }
+    ensures freed { AsShown K.View lot.now keep.old disk.old keep.new disk.new (λ old new.
+        OnOk result (Freed new gone.now.number)) }
     ensures spent { Spent D.Disk K.View lot.now 83 keep.old disk.old keep.new disk.new }
-    ensures broken { K.shows lot.now keep.old disk.old → GoneIs F.ENTRY lot.now (K.map keep.old disk.old lot.now) name.now gone.now → IfErr result (IsBrokenBy F.ENTRY lot.now (K.map keep.old disk.old lot.now)) }
-    ensures done { K.shows lot.now keep.old disk.old → OnOk result (long_at (K.map keep.new disk.new lot.now sub_address) 16 ≡ long_at (K.map keep.old disk.old lot.now sub_address) 16) }
+    ensures broken { IfShown K.View lot.now keep.old disk.old (λ old.
+        GoneIs F.ENTRY lot.now old name.now gone.now → IfErr result (IsBrokenBy F.ENTRY lot.now old)) }
+    ensures done { AsShown K.View lot.now keep.old disk.old keep.new disk.new (λ old new.
+        OnOk result (long_at (new sub_address) 16 ≡ long_at (old sub_address) 16)) }
     ensures faults { IfErr result (IsNamedIn change_rules) }
     ensures failed { IsErrOf result FaultDisk → Rose (D.state disk.old).faults (D.state disk.new).faults }
 {
@@ -294,13 +332,20 @@ fn put_away<D: Disk, K: Keep<D>, P: Pool<D, K>, F: Form>(
     requires sited { is_sited lot.now (D.state disk.old).size ≡ true }
     requires fits { GoneFits lot.now gone.now }
     requires room { 84 ≤ K.room keep.old }
-    ensures taken { (mode k : ℕ) (t : Tree) (p : List (List ℕ)) → K.shows lot.now keep.old disk.old → Loses (form_of F.VERSION) mode lot.now (K.map keep.old disk.old lot.now) t k p gone.now name.now
-        → OnOk result (MapRecovers (form_of F.VERSION) mode lot.now (K.map keep.new disk.new lot.now) (next (Remove p) t) (k + 1)) }
-    ensures sound { (mode k : ℕ) (t : Tree) (p : List (List ℕ)) → K.shows lot.now keep.old disk.old → Loses (form_of F.VERSION) mode lot.now (K.map keep.old disk.old lot.now) t k p gone.now name.now → IfErr result (λ e. e ≡ FaultDisk) }
+    ensures taken { (mode k : ℕ) (t : Tree) (p : List (List ℕ))
+        → AsShown K.View lot.now keep.old disk.old keep.new disk.new (λ old new.
+        Loses (form_of F.VERSION) mode lot.now old t k p gone.now name.now
+        → OnOk result (MapRecovers (form_of F.VERSION) mode lot.now new (next (Remove p) t) (k + 1))) }
+    ensures sound { (mode k : ℕ) (t : Tree) (p : List (List ℕ)) → IfShown K.View lot.now keep.old disk.old (λ old.
+        Loses (form_of F.VERSION) mode lot.now old t k p gone.now name.now
+        → IfErr result (λ e. e ≡ FaultDisk)) }
     ensures counted { OnOk result (K.held keep.new sub_address ≡ true) }
-    ensures freed { K.shows lot.now keep.old disk.old → OnOk result (Freed (K.map keep.new disk.new lot.now) gone.now.number) }
+    ensures freed { AsShown K.View lot.now keep.old disk.old keep.new disk.new (λ old new.
+        OnOk result (Freed new gone.now.number)) }
     ensures spent { Spent D.Disk K.View lot.now 84 keep.old disk.old keep.new disk.new }
-    ensures broken { K.shows lot.now keep.old disk.old → GoneIs F.ENTRY lot.now (K.map keep.old disk.old lot.now) name.now gone.now → CanCount (K.map keep.old disk.old lot.now) → IfErr result (IsBrokenBy F.ENTRY lot.now (K.map keep.old disk.old lot.now)) }
+    ensures broken { IfShown K.View lot.now keep.old disk.old (λ old.
+        GoneIs F.ENTRY lot.now old name.now gone.now → CanCount old
+        → IfErr result (IsBrokenBy F.ENTRY lot.now old)) }
     ensures faults { IfErr result (IsNamedIn change_rules) }
     ensures failed { IsErrOf result FaultDisk → Rose (D.state disk.old).faults (D.state disk.new).faults }
 {
@@ -322,18 +367,26 @@ pub fn remove<D: Disk, K: Keep<D>, P: Pool<D, K>, F: Form>(
     requires some { 1 ≤ length lot.now.groups }
     requires depth { depth ≤ length path.now }
     requires room { 96 ≤ K.room keep.old }
-    ensures answers { (mode k : ℕ) (t : Tree) → K.shows lot.now keep.old disk.old → MapRecovers (form_of F.VERSION) mode lot.now (K.map keep.old disk.old lot.now) t k
-        → AsModel (meant_plain result) (answer t k (length lot.now.groups) (form_of F.VERSION) (Remove (drop depth path.now))).0 }
-    ensures changed { (mode k : ℕ) (t : Tree) → K.shows lot.now keep.old disk.old → MapRecovers (form_of F.VERSION) mode lot.now (K.map keep.old disk.old lot.now) t k
-        → OnOk result (MapRecovers (form_of F.VERSION) mode lot.now (K.map keep.new disk.new lot.now) (answer t k (length lot.now.groups) (form_of F.VERSION) (Remove (drop depth path.now))).1 (k + 1)) }
-    ensures freed { (mode k : ℕ) (t : Tree) → K.shows lot.now keep.old disk.old → MapRecovers (form_of F.VERSION) mode lot.now (K.map keep.old disk.old lot.now) t k
-        → OnOk result (Freed (K.map keep.new disk.new lot.now) (inode_on (form_of F.VERSION) (own_in (form_of F.VERSION) (K.map keep.old disk.old lot.now)) 0 (drop depth path.now))) }
+    ensures answers { (mode k : ℕ) (t : Tree) → IfShown K.View lot.now keep.old disk.old (λ old.
+        MapRecovers (form_of F.VERSION) mode lot.now old t k
+        → AsModel (meant_plain result) (answer t k (length lot.now.groups) (form_of F.VERSION) (Remove (drop depth path.now))).0) }
+    ensures changed { (mode k : ℕ) (t : Tree)
+        → AsShown K.View lot.now keep.old disk.old keep.new disk.new (λ old new.
+        MapRecovers (form_of F.VERSION) mode lot.now old t k
+        → OnOk result (MapRecovers (form_of F.VERSION) mode lot.now new (answer t k (length lot.now.groups) (form_of F.VERSION) (Remove (drop depth path.now))).1 (k + 1))) }
+    ensures freed { (mode k : ℕ) (t : Tree)
+        → AsShown K.View lot.now keep.old disk.old keep.new disk.new (λ old new.
+        MapRecovers (form_of F.VERSION) mode lot.now old t k
+        → OnOk result (Freed new (inode_on (form_of F.VERSION) (own_in (form_of F.VERSION) old) 0 (drop depth path.now)))) }
     ensures counted { OnOk result (K.held keep.new sub_address ≡ true) }
     ensures paths { ShownBy (paths_refusal (form_of F.VERSION) (drop depth path.now ∷ [])) result }
-    ensures untouched { (r : Why) → paths_refusal (form_of F.VERSION) (drop depth path.now ∷ []) ≡ Some r → (disk.new ≡ disk.old) × (keep.new ≡ keep.old) × (pool.new ≡ pool.old) }
-    ensures refused { IfErr result (λ r. number_of r ≤ 14 → Looked D.Disk K.View lot.now keep.old disk.old keep.new disk.new) }
+    ensures untouched { (r : Why) → paths_refusal (form_of F.VERSION) (drop depth path.now ∷ []) ≡ Some r
+        → (disk.new ≡ disk.old) × (keep.new ≡ keep.old) × (pool.new ≡ pool.old) }
+    ensures refused { IfErr result (λ r. number_of r ≤ 14
+        → Looked D.Disk K.View lot.now keep.old disk.old keep.new disk.new) }
     ensures spent { Spent D.Disk K.View lot.now 96 keep.old disk.old keep.new disk.new }
-    ensures damaged { (n : ℕ) → IsErrOf result (Damaged n) → K.shows lot.now keep.old disk.old → (r : Rule) × (n ≡ rule_number r) × IsBroken F.ENTRY lot.now (K.map keep.old disk.old lot.now) r }
+    ensures damaged { (n : ℕ) → IsErrOf result (Damaged n) → IfShown K.View lot.now keep.old disk.old (λ old.
+        (r : Rule) × (n ≡ rule_number r) × IsBroken F.ENTRY lot.now old r) }
     ensures set { IfErr result (IsOneOf remove_refusals change_rules) }
     ensures failed { IsErrOf result Fault → Rose (D.state disk.old).faults (D.state disk.new).faults }
 {

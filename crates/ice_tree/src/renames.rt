@@ -3,7 +3,7 @@ ghost use Rattle.std.specs.Prelude.{◌≡◌, ◌≢◌, ◌≤◌, ◌<◌, �
 ghost use Rattle.ice_base.specs.Disk.{Rose};
 ghost use Rattle.ice_base.specs.Fields.{long_at};
 ghost use Rattle.ice_base.specs.Lots.{LotView, is_sited, sub_address};
-ghost use Rattle.ice_base.specs.Views.{Looked, Spent};
+ghost use Rattle.ice_base.specs.Views.{Looked, Spent, AsShown, IfShown};
 ghost use Rattle.ice_base.specs.declared.fault.OpFault.TheVariants.{Disk as FaultDisk};
 ghost use Rattle.ice_base.specs.declared.fault.Rule.{Rule};
 ghost use Rattle.tree_spec.specs.Answers.{answer, refusal, next, is_root, is_found, is_not_found, is_not_dir, deepest};
@@ -84,7 +84,8 @@ fn is_one_path(path: &Path, to: &Path, depth: usize) -> bool
 
 /// Whether one of two paths, of so many names each, is the root.
 fn has_root(here: usize, there: usize) -> bool
-    ensures root { (p q : List (List ℕ)) → length p ≡ here → length q ≡ there → result ≡ (is_root p || is_root q) }
+    ensures root { (p q : List (List ℕ)) → length p ≡ here → length q ≡ there
+        → result ≡ (is_root p || is_root q) }
     ensures below { result ≡ false → (1 ≤ here) × (1 ≤ there) }
 {
     here == 0 || there == 0
@@ -92,7 +93,8 @@ fn has_root(here: usize, there: usize) -> bool
 
 /// Whether one of two walks ended at a directory without the next name: that of the path, and that to the directory of the new path.
 fn is_one_missing(end: Place, parent: Place) -> bool
-    ensures walks { (i j : ℕ) (v w : Walk) → end ≡ place_by i v → parent ≡ place_by j w → result ≡ (is_not_found v || is_not_found (needs_dir w)) }
+    ensures walks { (i j : ℕ) (v w : Walk) → end ≡ place_by i v → parent ≡ place_by j w
+        → result ≡ (is_not_found v || is_not_found (needs_dir w)) }
     ensures there { result ≡ false → (end ≢ Missing) × (parent ≢ Missing) }
 {
     match end {
@@ -106,8 +108,10 @@ fn is_one_missing(end: Place, parent: Place) -> bool
 
 /// Whether one of them ended at a file with a name left, the second one with or without.
 fn is_one_blocked(end: Place, parent: Place) -> bool
-    ensures walks { (i j : ℕ) (v w : Walk) → end ≡ place_by i v → parent ≡ place_by j w → result ≡ (is_not_dir v || is_not_dir (needs_dir w)) }
-    ensures there { result ≡ false → (end ≢ Blocked) × (parent ≢ Blocked) × ((number size : ℕ) → parent ≢ File number size) }
+    ensures walks { (i j : ℕ) (v w : Walk) → end ≡ place_by i v → parent ≡ place_by j w
+        → result ≡ (is_not_dir v || is_not_dir (needs_dir w)) }
+    ensures there { result ≡ false → (end ≢ Blocked) × (parent ≢ Blocked)
+        × ((number size : ℕ) → parent ≢ File number size) }
 {
     match end {
         Place::Blocked => true,
@@ -143,11 +147,16 @@ fn check_height<D: Disk, V: View<D>, F: Form>(
     requires sited { is_sited lot.now (D.state disk.old).size ≡ true }
     requires fits { PlaceFits lot.now place }
     requires shallow { there ≤ deepest }
-    ensures height { (mode k : ℕ) (t : Tree) (p q : List (List ℕ)) → V.shows lot.now view.old disk.old → MapRecovers (form_of F.VERSION) mode lot.now (V.map view.old disk.old lot.now) t k
-        → place ≡ place_at (form_of F.VERSION) (own_in (form_of F.VERSION) (V.map view.old disk.old lot.now)) p t → length p ≡ here → length q ≡ there
-        → MatchResult result (λ u. height_refusal p q t ≡ None) (λ r. RefusedAs (refused_of r) (height_refusal p q t)) }
+    ensures height { (mode k : ℕ) (t : Tree) (p q : List (List ℕ))
+        → IfShown V.View lot.now view.old disk.old (λ old.
+        MapRecovers (form_of F.VERSION) mode lot.now old t k
+        → place ≡ place_at (form_of F.VERSION) (own_in (form_of F.VERSION) old) p t
+        → length p ≡ here → length q ≡ there
+        → MatchResult result (λ u. height_refusal p q t ≡ None) (λ r. RefusedAs (refused_of r) (height_refusal p q t))) }
     ensures looked { Looked D.Disk V.View lot.now view.old disk.old view.new disk.new }
-    ensures damaged { (n : ℕ) → IsErrOf result (Damaged n) → V.shows lot.now view.old disk.old → PlaceIs (V.map view.old disk.old lot.now) place → PlaceReached F.ENTRY lot.now (V.map view.old disk.old lot.now) place → (r : Rule) × (n ≡ rule_number r) × IsBroken F.ENTRY lot.now (V.map view.old disk.old lot.now) r }
+    ensures damaged { (n : ℕ) → IsErrOf result (Damaged n) → IfShown V.View lot.now view.old disk.old (λ old.
+        PlaceIs old place → PlaceReached F.ENTRY lot.now old place → (r : Rule) × (n ≡ rule_number r)
+        × IsBroken F.ENTRY lot.now old r) }
     ensures set { IfErr result (IsOneOf rename_refusals list_rules) }
     ensures failed { IsErrOf result Fault → Rose (D.state disk.old).faults (D.state disk.new).faults }
 {
@@ -172,7 +181,9 @@ fn check_height<D: Disk, V: View<D>, F: Form>(
 /// The refusals by what stands at the two paths: `root` where either has no names, `begins` where the first begins the second,
 /// `same` where they are one.
 fn check_ends(from: &Ends, into: &Ends, root: bool, begins: bool, same: bool) -> Result<(), Refusal>
-    ensures ends { (f : Form) (o : Table) (p q : List (List ℕ)) (t : Tree) → IsEnds f o p t from.now → IsEnds f o q t into.now → root ≡ (is_root p || is_root q) → begins ≡ is_prefix p q → same ≡ is_same_path p q
+    ensures ends { (f : Form) (o : Table) (p q : List (List ℕ)) (t : Tree) → IsEnds f o p t from.now
+        → IsEnds f o q t into.now → root ≡ (is_root p || is_root q) → begins ≡ is_prefix p q
+        → same ≡ is_same_path p q
         → MatchResult result (λ u. ends_refusal p q t ≡ None) (λ r. RefusedAs (refused_of r) (ends_refusal p q t)) }
     ensures rootless { OnOk result (root ≡ false) }
     ensures there { OnOk result ((is_place from.now.end ≡ true) × (is_dir_place into.now.parent ≡ true)) }
@@ -203,7 +214,8 @@ fn check_ends(from: &Ends, into: &Ends, root: bool, begins: bool, same: bool) ->
 
 /// The directory at a place.
 fn spot_at(place: Place) -> Option<Spot>
-    ensures { MatchOption result ((number size : ℕ) → place ≢ Dir number size) (λ spot. place ≡ Dir spot.number spot.entries) }
+    ensures { MatchOption result ((number size : ℕ)
+        → place ≢ Dir number size) (λ spot. place ≡ Dir spot.number spot.entries) }
 {
     match place {
         Place::Dir { number, size } => Some(Spot {
@@ -218,9 +230,15 @@ fn spot_at(place: Place) -> Option<Spot>
 
 /// The directories of both paths. Damaged, with the rule on kinds: something else stands where a walk went through.
 fn move_of(from: &Ends, into: &Ends, same: bool) -> Result<Move, Refusal>
-    ensures step { (f : Form) (o : Table) (p q : List (List ℕ)) (t : Tree) → IsEnds f o p t from.now → IsEnds f o q t into.now → same ≡ is_same_path p q → ends_refusal p q t ≡ None → MatchResult result (IsMove f o p q t) (λ r. ⊥) }
-    ensures fits { (lot : LotView) → EndsFit lot from.now → EndsFit lot into.now → IfOk result (MoveFits lot) }
-    ensures is { (entry : ℕ) (lot : LotView) (m : ℕ → List ℕ) (name : List ℕ) → EndsAre entry lot m from.now → EndsAre entry lot m into.now → EndsFit lot from.now → EndsFit lot into.now → PlaceNamed entry m from.now.parent name from.now.end → is_place from.now.end ≡ true → is_dir_place into.now.parent ≡ true
+    ensures step { (f : Form) (o : Table) (p q : List (List ℕ)) (t : Tree) → IsEnds f o p t from.now
+        → IsEnds f o q t into.now → same ≡ is_same_path p q → ends_refusal p q t ≡ None
+        → MatchResult result (IsMove f o p q t) (λ r. ⊥) }
+    ensures fits { (lot : LotView) → EndsFit lot from.now → EndsFit lot into.now
+        → IfOk result (MoveFits lot) }
+    ensures is { (entry : ℕ) (lot : LotView) (m : ℕ → List ℕ) (name : List ℕ) → EndsAre entry lot m from.now
+        → EndsAre entry lot m into.now → EndsFit lot from.now → EndsFit lot into.now
+        → PlaceNamed entry m from.now.parent name from.now.end → is_place from.now.end ≡ true
+        → is_dir_place into.now.parent ≡ true
         → MatchResult result (MoveIs entry lot m name) (λ r. ⊥) }
     ensures set { IfErr result (IsOneOf rename_refusals look_rules) }
     ensures faultless { IsErrOf result Fault → ⊥ }
@@ -252,14 +270,16 @@ fn find_move<D: Disk, V: View<D>, F: Form>(
     requires depth { depth ≤ length path.now }
     requires depth_to { depth ≤ length to.now }
     requires shallow { length to.now ≤ depth + deepest }
-    ensures found { (mode k : ℕ) (t : Tree) → V.shows lot.now view.old disk.old → MapRecovers (form_of F.VERSION) mode lot.now (V.map view.old disk.old lot.now) t k
-        → MatchResult result (λ step. (move_refusal (drop depth path.now) (drop depth to.now) t ≡ None) × IsMove (form_of F.VERSION) (own_in (form_of F.VERSION) (V.map view.old disk.old lot.now)) (drop depth path.now) (drop depth to.now) t step)
-        (λ r. RefusedAs (refused_of r) (move_refusal (drop depth path.now) (drop depth to.now) t)) }
+    ensures found { (mode k : ℕ) (t : Tree) → IfShown V.View lot.now view.old disk.old (λ old.
+        MapRecovers (form_of F.VERSION) mode lot.now old t k
+        → MatchResult result (λ step. (move_refusal (drop depth path.now) (drop depth to.now) t ≡ None) × IsMove (form_of F.VERSION) (own_in (form_of F.VERSION) old) (drop depth path.now) (drop depth to.now) t step) (λ r. RefusedAs (refused_of r) (move_refusal (drop depth path.now) (drop depth to.now) t))) }
     ensures fits { IfOk result (MoveFits lot.now) }
     ensures below { OnOk result ((depth < length path.now) × (depth < length to.now)) }
     ensures looked { Looked D.Disk V.View lot.now view.old disk.old view.new disk.new }
-    ensures is { V.shows lot.now view.old disk.old → IfOk result (MoveIs F.ENTRY lot.now (V.map view.old disk.old lot.now) (last_name (drop depth path.now))) }
-    ensures damaged { (n : ℕ) → IsErrOf result (Damaged n) → V.shows lot.now view.old disk.old → (r : Rule) × (n ≡ rule_number r) × IsBroken F.ENTRY lot.now (V.map view.old disk.old lot.now) r }
+    ensures is { IfShown V.View lot.now view.old disk.old (λ old.
+        IfOk result (MoveIs F.ENTRY lot.now old (last_name (drop depth path.now)))) }
+    ensures damaged { (n : ℕ) → IsErrOf result (Damaged n) → IfShown V.View lot.now view.old disk.old (λ old.
+        (r : Rule) × (n ≡ rule_number r) × IsBroken F.ENTRY lot.now old r) }
     ensures set { IfErr result (IsOneOf rename_refusals list_rules) }
     ensures failed { IsErrOf result Fault → Rose (D.state disk.old).faults (D.state disk.new).faults }
 {
@@ -297,10 +317,14 @@ fn two_costs<F: Form>(a: u32, b: u32) -> u32
 fn need_of<F: Form>(step: &Move) -> Need
     requires from { step.now.from.entries < 4096 }
     requires to { step.now.to.entries < 4096 }
-    ensures needs { (mode k : ℕ) (lot : LotView) (m : Map) (t : Tree) (p q : List (List ℕ)) → MapRecovers (form_of F.VERSION) mode lot m t k → paths_refusal (form_of F.VERSION) (p ∷ q ∷ []) ≡ None → move_refusal p q t ≡ None
-        → IsMove (form_of F.VERSION) (own_in (form_of F.VERSION) m) p q t step.now → Needs (form_of F.VERSION) t (next (Rename p q) t) result }
+    ensures needs { (mode k : ℕ) (lot : LotView) (m : Map) (t : Tree) (p q : List (List ℕ))
+        → MapRecovers (form_of F.VERSION) mode lot m t k
+        → paths_refusal (form_of F.VERSION) (p ∷ q ∷ []) ≡ None → move_refusal p q t ≡ None
+        → IsMove (form_of F.VERSION) (own_in (form_of F.VERSION) m) p q t step.now
+        → Needs (form_of F.VERSION) t (next (Rename p q) t) result }
     ensures nodeless { result.nodes ≡ 0 }
-    ensures apart { step.now.same ≡ false → step.now.from.number ≢ step.now.to.number → (result.blocks ≡ map_cost (dir_blocks (form_of F.VERSION) (step.now.to.entries + 1)) + map_cost (dir_blocks (form_of F.VERSION) (step.now.from.entries - 1)))
+    ensures apart { step.now.same ≡ false → step.now.from.number ≢ step.now.to.number
+        → (result.blocks ≡ map_cost (dir_blocks (form_of F.VERSION) (step.now.to.entries + 1)) + map_cost (dir_blocks (form_of F.VERSION) (step.now.from.entries - 1)))
         × (result.freed ≡ map_cost (dir_blocks (form_of F.VERSION) step.now.to.entries) + map_cost (dir_blocks (form_of F.VERSION) step.now.from.entries)) }
 {
     if step.same || step.from.number == step.to.number {
@@ -324,8 +348,10 @@ fn is_overfull(lot: &Lot, step: &Move) -> bool
     requires few { length lot.now.groups ≤ 64 }
     requires from { step.now.from.entries < 4096 }
     requires to { step.now.to.entries < 4096 }
-    ensures many { result ≡ true → (step.now.from.number ≢ step.now.to.number) × (64 * length lot.now.groups ≤ step.now.from.entries + step.now.to.entries) }
-    ensures room { result ≡ false → step.now.from.number ≢ step.now.to.number → step.now.from.entries + step.now.to.entries < 64 * length lot.now.groups }
+    ensures many { result ≡ true → (step.now.from.number ≢ step.now.to.number)
+        × (64 * length lot.now.groups ≤ step.now.from.entries + step.now.to.entries) }
+    ensures room { result ≡ false → step.now.from.number ≢ step.now.to.number
+        → step.now.from.entries + step.now.to.entries < 64 * length lot.now.groups }
 {
     step.from.number != step.to.number
         && step.from.entries + step.to.entries >= 64 * lot.len() as u32
@@ -347,16 +373,18 @@ fn may_move<D: Disk, K: Keep<D>, P: Pool<D, K>, F: Form>(
     requires depth { depth ≤ length path.now }
     requires depth_to { depth ≤ length to.now }
     requires names { paths_refusal (form_of F.VERSION) (drop depth path.now ∷ drop depth to.now ∷ []) ≡ None }
-    ensures found { (mode k : ℕ) (t : Tree) → K.shows lot.now keep.old disk.old → MapRecovers (form_of F.VERSION) mode lot.now (K.map keep.old disk.old lot.now) t k
-        → MatchResult result
-        (λ step. (refusal t k (length lot.now.groups) (form_of F.VERSION) (Rename (drop depth path.now) (drop depth to.now)) ≡ None) × IsMove (form_of F.VERSION) (own_in (form_of F.VERSION) (K.map keep.old disk.old lot.now)) (drop depth path.now) (drop depth to.now) t step)
-        (λ r. RefusedAs (refused_of r) (refusal t k (length lot.now.groups) (form_of F.VERSION) (Rename (drop depth path.now) (drop depth to.now)))) }
+    ensures found { (mode k : ℕ) (t : Tree) → IfShown K.View lot.now keep.old disk.old (λ old.
+        MapRecovers (form_of F.VERSION) mode lot.now old t k
+        → MatchResult result (λ step. (refusal t k (length lot.now.groups) (form_of F.VERSION) (Rename (drop depth path.now) (drop depth to.now)) ≡ None) × IsMove (form_of F.VERSION) (own_in (form_of F.VERSION) old) (drop depth path.now) (drop depth to.now) t step) (λ r. RefusedAs (refused_of r) (refusal t k (length lot.now.groups) (form_of F.VERSION) (Rename (drop depth path.now) (drop depth to.now))))) }
     ensures fits { IfOk result (MoveFits lot.now) }
     ensures below { OnOk result ((depth < length path.now) × (depth < length to.now)) }
     ensures looked { Looked D.Disk K.View lot.now keep.old disk.old keep.new disk.new }
-    ensures is { K.shows lot.now keep.old disk.old → IfOk result (MoveIs F.ENTRY lot.now (K.map keep.old disk.old lot.now) (last_name (drop depth path.now))) }
-    ensures room { K.shows lot.now keep.old disk.old → IfOk result (RowFits F.ENTRY lot.now (K.map keep.old disk.old lot.now)) }
-    ensures damaged { (n : ℕ) → IsErrOf result (Damaged n) → K.shows lot.now keep.old disk.old → (r : Rule) × (n ≡ rule_number r) × IsBroken F.ENTRY lot.now (K.map keep.old disk.old lot.now) r }
+    ensures is { IfShown K.View lot.now keep.old disk.old (λ old.
+        IfOk result (MoveIs F.ENTRY lot.now old (last_name (drop depth path.now)))) }
+    ensures room { IfShown K.View lot.now keep.old disk.old (λ old.
+        IfOk result (RowFits F.ENTRY lot.now old)) }
+    ensures damaged { (n : ℕ) → IsErrOf result (Damaged n) → IfShown K.View lot.now keep.old disk.old (λ old.
+        (r : Rule) × (n ≡ rule_number r) × IsBroken F.ENTRY lot.now old r) }
     ensures set { IfErr result (IsOneOf rename_refusals rename_rules) }
     ensures failed { IsErrOf result Fault → Rose (D.state disk.old).faults (D.state disk.new).faults }
 {
@@ -390,13 +418,18 @@ fn move_row<D: Disk, K: Keep<D>, P: Pool<D, K>, F: Form>(
     requires fits { MoveFits lot.now step.now }
     requires short { length new.now ≤ F.NAME }
     requires room { 16 ≤ K.room keep.old }
-    ensures moved { (mode k : ℕ) (t : Tree) (p q : List (List ℕ)) → K.shows lot.now keep.old disk.old → Renames (form_of F.VERSION) mode lot.now (K.map keep.old disk.old lot.now) t k p q step.now name.now new.now → step.now.same ≡ false
+    ensures moved { (mode k : ℕ) (t : Tree) (p q : List (List ℕ)) → K.shows lot.now keep.old disk.old
+        → Renames (form_of F.VERSION) mode lot.now (K.map keep.old disk.old lot.now) t k p q step.now name.now new.now → step.now.same ≡ false
         → OnOk result (MapRecovers (form_of F.VERSION) mode lot.now (K.map keep.new disk.new lot.now) (next (Rename p q) t) k) }
-    ensures sound { (mode k : ℕ) (t : Tree) (p q : List (List ℕ)) → K.shows lot.now keep.old disk.old → Renames (form_of F.VERSION) mode lot.now (K.map keep.old disk.old lot.now) t k p q step.now name.now new.now → step.now.same ≡ false
+    ensures sound { (mode k : ℕ) (t : Tree) (p q : List (List ℕ)) → K.shows lot.now keep.old disk.old
+        → Renames (form_of F.VERSION) mode lot.now (K.map keep.old disk.old lot.now) t k p q step.now name.now new.now → step.now.same ≡ false
         → IfErr result (λ e. e ≡ FaultDisk) }
     ensures spent { Spent D.Disk K.View lot.now 16 keep.old disk.old keep.new disk.new }
-    ensures broken { K.shows lot.now keep.old disk.old → MoveIs F.ENTRY lot.now (K.map keep.old disk.old lot.now) name.now step.now → RowFits F.ENTRY lot.now (K.map keep.old disk.old lot.now) step.now → step.now.same ≡ false → IfErr result (IsBrokenBy F.ENTRY lot.now (K.map keep.old disk.old lot.now)) }
-    ensures done { K.shows lot.now keep.old disk.old → OnOk result (long_at (K.map keep.new disk.new lot.now sub_address) 16 ≡ long_at (K.map keep.old disk.old lot.now sub_address) 16) }
+    ensures broken { IfShown K.View lot.now keep.old disk.old (λ old.
+        MoveIs F.ENTRY lot.now old name.now step.now → RowFits F.ENTRY lot.now old step.now
+        → step.now.same ≡ false → IfErr result (IsBrokenBy F.ENTRY lot.now old)) }
+    ensures done { AsShown K.View lot.now keep.old disk.old keep.new disk.new (λ old new.
+        OnOk result (long_at (new sub_address) 16 ≡ long_at (old sub_address) 16)) }
     ensures faults { IfErr result (IsNamedIn change_rules) }
     ensures failed { IsErrOf result FaultDisk → Rose (D.state disk.old).faults (D.state disk.new).faults }
 {
@@ -427,13 +460,17 @@ fn put_moved<D: Disk, K: Keep<D>, P: Pool<D, K>, F: Form>(
     requires fits { MoveFits lot.now step.now }
     requires short { length new.now ≤ F.NAME }
     requires room { 17 ≤ K.room keep.old }
-    ensures moved { (mode k : ℕ) (t : Tree) (p q : List (List ℕ)) → K.shows lot.now keep.old disk.old → Renames (form_of F.VERSION) mode lot.now (K.map keep.old disk.old lot.now) t k p q step.now name.now new.now
+    ensures moved { (mode k : ℕ) (t : Tree) (p q : List (List ℕ)) → K.shows lot.now keep.old disk.old
+        → Renames (form_of F.VERSION) mode lot.now (K.map keep.old disk.old lot.now) t k p q step.now name.now new.now
         → OnOk result (MapRecovers (form_of F.VERSION) mode lot.now (K.map keep.new disk.new lot.now) (next (Rename p q) t) (k + 1)) }
-    ensures sound { (mode k : ℕ) (t : Tree) (p q : List (List ℕ)) → K.shows lot.now keep.old disk.old → Renames (form_of F.VERSION) mode lot.now (K.map keep.old disk.old lot.now) t k p q step.now name.now new.now
+    ensures sound { (mode k : ℕ) (t : Tree) (p q : List (List ℕ)) → K.shows lot.now keep.old disk.old
+        → Renames (form_of F.VERSION) mode lot.now (K.map keep.old disk.old lot.now) t k p q step.now name.now new.now
         → IfErr result (λ e. e ≡ FaultDisk) }
     ensures counted { OnOk result (K.held keep.new sub_address ≡ true) }
     ensures spent { Spent D.Disk K.View lot.now 17 keep.old disk.old keep.new disk.new }
-    ensures broken { K.shows lot.now keep.old disk.old → MoveIs F.ENTRY lot.now (K.map keep.old disk.old lot.now) name.now step.now → RowFits F.ENTRY lot.now (K.map keep.old disk.old lot.now) step.now → IfErr result (IsBrokenBy F.ENTRY lot.now (K.map keep.old disk.old lot.now)) }
+    ensures broken { IfShown K.View lot.now keep.old disk.old (λ old.
+        MoveIs F.ENTRY lot.now old name.now step.now → RowFits F.ENTRY lot.now old step.now
+        → IfErr result (IsBrokenBy F.ENTRY lot.now old)) }
     ensures faults { IfErr result (IsNamedIn change_rules) }
     ensures failed { IsErrOf result FaultDisk → Rose (D.state disk.old).faults (D.state disk.new).faults }
 {
@@ -461,16 +498,23 @@ pub fn rename<D: Disk, K: Keep<D>, P: Pool<D, K>, F: Form>(
     requires depth { depth ≤ length path.now }
     requires depth_to { depth ≤ length to.now }
     requires room { 96 ≤ K.room keep.old }
-    ensures answers { (mode k : ℕ) (t : Tree) → K.shows lot.now keep.old disk.old → MapRecovers (form_of F.VERSION) mode lot.now (K.map keep.old disk.old lot.now) t k
-        → AsModel (meant_plain result) (answer t k (length lot.now.groups) (form_of F.VERSION) (Rename (drop depth path.now) (drop depth to.now))).0 }
-    ensures changed { (mode k : ℕ) (t : Tree) → K.shows lot.now keep.old disk.old → MapRecovers (form_of F.VERSION) mode lot.now (K.map keep.old disk.old lot.now) t k
-        → OnOk result (MapRecovers (form_of F.VERSION) mode lot.now (K.map keep.new disk.new lot.now) (answer t k (length lot.now.groups) (form_of F.VERSION) (Rename (drop depth path.now) (drop depth to.now))).1 (k + 1)) }
+    ensures answers { (mode k : ℕ) (t : Tree) → IfShown K.View lot.now keep.old disk.old (λ old.
+        MapRecovers (form_of F.VERSION) mode lot.now old t k
+        → AsModel (meant_plain result) (answer t k (length lot.now.groups) (form_of F.VERSION) (Rename (drop depth path.now) (drop depth to.now))).0) }
+    ensures changed { (mode k : ℕ) (t : Tree)
+        → AsShown K.View lot.now keep.old disk.old keep.new disk.new (λ old new.
+        MapRecovers (form_of F.VERSION) mode lot.now old t k
+        → OnOk result (MapRecovers (form_of F.VERSION) mode lot.now new (answer t k (length lot.now.groups) (form_of F.VERSION) (Rename (drop depth path.now) (drop depth to.now))).1 (k + 1))) }
     ensures counted { OnOk result (K.held keep.new sub_address ≡ true) }
     ensures paths { ShownBy (paths_refusal (form_of F.VERSION) (drop depth path.now ∷ drop depth to.now ∷ [])) result }
-    ensures untouched { (r : Why) → paths_refusal (form_of F.VERSION) (drop depth path.now ∷ drop depth to.now ∷ []) ≡ Some r → (disk.new ≡ disk.old) × (keep.new ≡ keep.old) × (pool.new ≡ pool.old) }
-    ensures refused { IfErr result (λ r. number_of r ≤ 14 → Looked D.Disk K.View lot.now keep.old disk.old keep.new disk.new) }
+    ensures untouched { (r : Why)
+        → paths_refusal (form_of F.VERSION) (drop depth path.now ∷ drop depth to.now ∷ []) ≡ Some r
+        → (disk.new ≡ disk.old) × (keep.new ≡ keep.old) × (pool.new ≡ pool.old) }
+    ensures refused { IfErr result (λ r. number_of r ≤ 14
+        → Looked D.Disk K.View lot.now keep.old disk.old keep.new disk.new) }
     ensures spent { Spent D.Disk K.View lot.now 96 keep.old disk.old keep.new disk.new }
-    ensures damaged { (n : ℕ) → IsErrOf result (Damaged n) → K.shows lot.now keep.old disk.old → (r : Rule) × (n ≡ rule_number r) × IsBroken F.ENTRY lot.now (K.map keep.old disk.old lot.now) r }
+    ensures damaged { (n : ℕ) → IsErrOf result (Damaged n) → IfShown K.View lot.now keep.old disk.old (λ old.
+        (r : Rule) × (n ≡ rule_number r) × IsBroken F.ENTRY lot.now old r) }
     ensures set { IfErr result (IsOneOf rename_refusals rename_rules) }
     ensures failed { IsErrOf result Fault → Rose (D.state disk.old).faults (D.state disk.new).faults }
 {

@@ -2,7 +2,7 @@
 ghost use Rattle.std.specs.Prelude.{◌≡◌, ◌≤◌, ◌<◌, ◌+◌, ◌*◌, ℕ, List, true, [], ◌∷◌, Some, None, OnOk, IfOk, IfErr, IsErrOf, MatchResult, length, drop};
 ghost use Rattle.ice_base.specs.Disk.{Rose};
 ghost use Rattle.ice_base.specs.Lots.{is_sited, sub_address};
-ghost use Rattle.ice_base.specs.Views.{Looked, Spent};
+ghost use Rattle.ice_base.specs.Views.{Looked, Spent, AsShown, IfShown};
 ghost use Rattle.ice_base.specs.declared.fault.OpFault.TheVariants.{Disk as FaultDisk};
 ghost use Rattle.ice_base.specs.declared.fault.Rule.{Rule};
 ghost use Rattle.ice_map.specs.Inodes.{inode_of};
@@ -60,18 +60,21 @@ fn reach_file<D: Disk, V: View<D>, F: Form>(
     requires sited { is_sited lot.now (D.state disk.old).size ≡ true }
     requires some { 1 ≤ length lot.now.groups }
     requires depth { depth ≤ length path.now }
-    ensures found { (mode k : ℕ) (t : Tree) → V.shows lot.now view.old disk.old → MapRecovers (form_of F.VERSION) mode lot.now (V.map view.old disk.old lot.now) t k
-        → MatchResult result
-        (IsFile (form_of F.VERSION) (own_in (form_of F.VERSION) (V.map view.old disk.old lot.now)) (drop depth path.now) t at)
-        (λ r. RefusedAs (refused_of r) (reach_refusal (form_of F.VERSION) (drop depth path.now) at t)) }
+    ensures found { (mode k : ℕ) (t : Tree) → IfShown V.View lot.now view.old disk.old (λ old.
+        MapRecovers (form_of F.VERSION) mode lot.now old t k
+        → MatchResult result (IsFile (form_of F.VERSION) (own_in (form_of F.VERSION) old) (drop depth path.now) t at) (λ r. RefusedAs (refused_of r) (reach_refusal (form_of F.VERSION) (drop depth path.now) at t))) }
     ensures names { OnOk result (paths_refusal (form_of F.VERSION) (drop depth path.now ∷ []) ≡ None) }
     ensures fits { IfOk result (FileFits lot.now at) }
     ensures paths { ShownBy (paths_refusal (form_of F.VERSION) (drop depth path.now ∷ [])) result }
-    ensures untouched { (r : Why) → paths_refusal (form_of F.VERSION) (drop depth path.now ∷ []) ≡ Some r → (disk.new ≡ disk.old) × (view.new ≡ view.old) }
+    ensures untouched { (r : Why) → paths_refusal (form_of F.VERSION) (drop depth path.now ∷ []) ≡ Some r
+        → (disk.new ≡ disk.old) × (view.new ≡ view.old) }
     ensures looked { Looked D.Disk V.View lot.now view.old disk.old view.new disk.new }
-    ensures is { V.shows lot.now view.old disk.old → IfOk result (λ file. FileIs F.ENTRY lot.now (V.map view.old disk.old lot.now) at file.number) }
-    ensures size { V.shows lot.now view.old disk.old → IfOk result (λ file. (inode_of (V.map view.old disk.old lot.now) file.number).size ≡ file.size) }
-    ensures damaged { (n : ℕ) → IsErrOf result (Damaged n) → V.shows lot.now view.old disk.old → (r : Rule) × (n ≡ rule_number r) × IsBroken F.ENTRY lot.now (V.map view.old disk.old lot.now) r }
+    ensures is { IfShown V.View lot.now view.old disk.old (λ old.
+        IfOk result (λ file. FileIs F.ENTRY lot.now old at file.number)) }
+    ensures size { IfShown V.View lot.now view.old disk.old (λ old.
+        IfOk result (λ file. (inode_of old file.number).size ≡ file.size)) }
+    ensures damaged { (n : ℕ) → IsErrOf result (Damaged n) → IfShown V.View lot.now view.old disk.old (λ old.
+        (r : Rule) × (n ≡ rule_number r) × IsBroken F.ENTRY lot.now old r) }
     ensures set { IfErr result (IsOneOf read_refusals look_rules) }
     ensures failed { IsErrOf result Fault → Rose (D.state disk.old).faults (D.state disk.new).faults }
 {
@@ -104,17 +107,19 @@ fn check_write<D: Disk, K: Keep<D>, P: Pool<D, K>, F: Form>(
     requires some { 1 ≤ length lot.now.groups }
     requires depth { depth ≤ length path.now }
     requires few { length bytes.now ≤ most_at_once }
-    ensures file { (mode k : ℕ) (t : Tree) → K.shows lot.now keep.old disk.old → MapRecovers (form_of F.VERSION) mode lot.now (K.map keep.old disk.old lot.now) t k
-        → MatchResult result
-        (λ number. (number ≡ inode_on (form_of F.VERSION) (own_in (form_of F.VERSION) (K.map keep.old disk.old lot.now)) 0 (drop depth path.now)) × (refusal t k (length lot.now.groups) (form_of F.VERSION) (Write (drop depth path.now) at bytes.now) ≡ None))
-        (λ r. RefusedAs (refused_of r) (refusal t k (length lot.now.groups) (form_of F.VERSION) (Write (drop depth path.now) at bytes.now))) }
+    ensures file { (mode k : ℕ) (t : Tree) → IfShown K.View lot.now keep.old disk.old (λ old.
+        MapRecovers (form_of F.VERSION) mode lot.now old t k
+        → MatchResult result (λ number. (number ≡ inode_on (form_of F.VERSION) (own_in (form_of F.VERSION) old) 0 (drop depth path.now)) × (refusal t k (length lot.now.groups) (form_of F.VERSION) (Write (drop depth path.now) at bytes.now) ≡ None)) (λ r. RefusedAs (refused_of r) (refusal t k (length lot.now.groups) (form_of F.VERSION) (Write (drop depth path.now) at bytes.now)))) }
     ensures fits { IfOk result (λ number. number < 64 * length lot.now.groups) }
     ensures short { OnOk result (at + length bytes.now ≤ longest_file) }
     ensures paths { ShownBy (paths_refusal (form_of F.VERSION) (drop depth path.now ∷ [])) result }
-    ensures untouched { (r : Why) → paths_refusal (form_of F.VERSION) (drop depth path.now ∷ []) ≡ Some r → (disk.new ≡ disk.old) × (keep.new ≡ keep.old) × (pool.new ≡ pool.old) }
+    ensures untouched { (r : Why) → paths_refusal (form_of F.VERSION) (drop depth path.now ∷ []) ≡ Some r
+        → (disk.new ≡ disk.old) × (keep.new ≡ keep.old) × (pool.new ≡ pool.old) }
     ensures looked { Looked D.Disk K.View lot.now keep.old disk.old keep.new disk.new }
-    ensures ready { K.shows lot.now keep.old disk.old → IfOk result (BytesFit F.ENTRY lot.now (K.map keep.old disk.old lot.now) at (at + length bytes.now)) }
-    ensures damaged { (n : ℕ) → IsErrOf result (Damaged n) → K.shows lot.now keep.old disk.old → (r : Rule) × (n ≡ rule_number r) × IsBroken F.ENTRY lot.now (K.map keep.old disk.old lot.now) r }
+    ensures ready { IfShown K.View lot.now keep.old disk.old (λ old.
+        IfOk result (BytesFit F.ENTRY lot.now old at (at + length bytes.now))) }
+    ensures damaged { (n : ℕ) → IsErrOf result (Damaged n) → IfShown K.View lot.now keep.old disk.old (λ old.
+        (r : Rule) × (n ≡ rule_number r) × IsBroken F.ENTRY lot.now old r) }
     ensures set { IfErr result (IsOneOf write_refusals change_rules) }
     ensures failed { IsErrOf result Fault → Rose (D.state disk.old).faults (D.state disk.new).faults }
 {
@@ -146,17 +151,19 @@ fn check_trunc<D: Disk, K: Keep<D>, P: Pool<D, K>, F: Form>(
     requires sited { is_sited lot.now (D.state disk.old).size ≡ true }
     requires some { 1 ≤ length lot.now.groups }
     requires depth { depth ≤ length path.now }
-    ensures file { (mode k : ℕ) (t : Tree) → K.shows lot.now keep.old disk.old → MapRecovers (form_of F.VERSION) mode lot.now (K.map keep.old disk.old lot.now) t k
-        → MatchResult result
-        (λ number. (number ≡ inode_on (form_of F.VERSION) (own_in (form_of F.VERSION) (K.map keep.old disk.old lot.now)) 0 (drop depth path.now)) × (refusal t k (length lot.now.groups) (form_of F.VERSION) (Trunc (drop depth path.now) len) ≡ None))
-        (λ r. RefusedAs (refused_of r) (refusal t k (length lot.now.groups) (form_of F.VERSION) (Trunc (drop depth path.now) len))) }
+    ensures file { (mode k : ℕ) (t : Tree) → IfShown K.View lot.now keep.old disk.old (λ old.
+        MapRecovers (form_of F.VERSION) mode lot.now old t k
+        → MatchResult result (λ number. (number ≡ inode_on (form_of F.VERSION) (own_in (form_of F.VERSION) old) 0 (drop depth path.now)) × (refusal t k (length lot.now.groups) (form_of F.VERSION) (Trunc (drop depth path.now) len) ≡ None)) (λ r. RefusedAs (refused_of r) (refusal t k (length lot.now.groups) (form_of F.VERSION) (Trunc (drop depth path.now) len)))) }
     ensures fits { IfOk result (λ number. number < 64 * length lot.now.groups) }
     ensures paths { ShownBy (paths_refusal (form_of F.VERSION) (drop depth path.now ∷ [])) result }
-    ensures untouched { (r : Why) → paths_refusal (form_of F.VERSION) (drop depth path.now ∷ []) ≡ Some r → (disk.new ≡ disk.old) × (keep.new ≡ keep.old) × (pool.new ≡ pool.old) }
+    ensures untouched { (r : Why) → paths_refusal (form_of F.VERSION) (drop depth path.now ∷ []) ≡ Some r
+        → (disk.new ≡ disk.old) × (keep.new ≡ keep.old) × (pool.new ≡ pool.old) }
     ensures looked { Looked D.Disk K.View lot.now keep.old disk.old keep.new disk.new }
-    ensures ready { K.shows lot.now keep.old disk.old → IfOk result (FileIs F.ENTRY lot.now (K.map keep.old disk.old lot.now) len) }
-    ensures room { K.shows lot.now keep.old disk.old → OnOk result (CanCount (K.map keep.old disk.old lot.now)) }
-    ensures damaged { (n : ℕ) → IsErrOf result (Damaged n) → K.shows lot.now keep.old disk.old → (r : Rule) × (n ≡ rule_number r) × IsBroken F.ENTRY lot.now (K.map keep.old disk.old lot.now) r }
+    ensures ready { IfShown K.View lot.now keep.old disk.old (λ old.
+        IfOk result (FileIs F.ENTRY lot.now old len)) }
+    ensures room { IfShown K.View lot.now keep.old disk.old (λ old. OnOk result (CanCount old)) }
+    ensures damaged { (n : ℕ) → IsErrOf result (Damaged n) → IfShown K.View lot.now keep.old disk.old (λ old.
+        (r : Rule) × (n ≡ rule_number r) × IsBroken F.ENTRY lot.now old r) }
     ensures set { IfErr result (IsOneOf trunc_refusals change_rules) }
     ensures failed { IsErrOf result Fault → Rose (D.state disk.old).faults (D.state disk.new).faults }
 {
@@ -186,13 +193,18 @@ fn put_bytes<D: Disk, K: Keep<D>, P: Pool<D, K>, F: Form>(
     requires room { 49 ≤ K.room keep.old }
     requires few { length bytes.now ≤ most_at_once }
     requires short { at + length bytes.now ≤ longest_file }
-    ensures set { (mode k : ℕ) (t : Tree) (p : List (List ℕ)) → K.shows lot.now keep.old disk.old → TakesAt (form_of F.VERSION) mode lot.now (K.map keep.old disk.old lot.now) t k p (Write p at bytes.now) number
-        → OnOk result (MapRecovers (form_of F.VERSION) mode lot.now (K.map keep.new disk.new lot.now) (next (Write p at bytes.now) t) (k + 1)) }
-    ensures sound { (mode k : ℕ) (t : Tree) (p : List (List ℕ)) → K.shows lot.now keep.old disk.old → TakesAt (form_of F.VERSION) mode lot.now (K.map keep.old disk.old lot.now) t k p (Write p at bytes.now) number
-        → IfErr result (λ e. e ≡ FaultDisk) }
+    ensures set { (mode k : ℕ) (t : Tree) (p : List (List ℕ))
+        → AsShown K.View lot.now keep.old disk.old keep.new disk.new (λ old new.
+        TakesAt (form_of F.VERSION) mode lot.now old t k p (Write p at bytes.now) number
+        → OnOk result (MapRecovers (form_of F.VERSION) mode lot.now new (next (Write p at bytes.now) t) (k + 1))) }
+    ensures sound { (mode k : ℕ) (t : Tree) (p : List (List ℕ)) → IfShown K.View lot.now keep.old disk.old (λ old.
+        TakesAt (form_of F.VERSION) mode lot.now old t k p (Write p at bytes.now) number
+        → IfErr result (λ e. e ≡ FaultDisk)) }
     ensures counted { OnOk result (K.held keep.new sub_address ≡ true) }
     ensures spent { Spent D.Disk K.View lot.now 49 keep.old disk.old keep.new disk.new }
-    ensures broken { K.shows lot.now keep.old disk.old → BytesFit F.ENTRY lot.now (K.map keep.old disk.old lot.now) at (at + length bytes.now) number → IfErr result (IsBrokenBy F.ENTRY lot.now (K.map keep.old disk.old lot.now)) }
+    ensures broken { IfShown K.View lot.now keep.old disk.old (λ old.
+        BytesFit F.ENTRY lot.now old at (at + length bytes.now) number
+        → IfErr result (IsBrokenBy F.ENTRY lot.now old)) }
     ensures faults { IfErr result (IsNamedIn change_rules) }
     ensures failed { IsErrOf result FaultDisk → Rose (D.state disk.old).faults (D.state disk.new).faults }
 {
@@ -213,13 +225,18 @@ fn put_cut<D: Disk, K: Keep<D>, P: Pool<D, K>, F: Form>(
     requires sited { is_sited lot.now (D.state disk.old).size ≡ true }
     requires number { number < 64 * length lot.now.groups }
     requires room { 73 ≤ K.room keep.old }
-    ensures set { (mode k : ℕ) (t : Tree) (p : List (List ℕ)) → K.shows lot.now keep.old disk.old → TakesAt (form_of F.VERSION) mode lot.now (K.map keep.old disk.old lot.now) t k p (Trunc p len) number
-        → OnOk result (MapRecovers (form_of F.VERSION) mode lot.now (K.map keep.new disk.new lot.now) (next (Trunc p len) t) (k + 1)) }
-    ensures sound { (mode k : ℕ) (t : Tree) (p : List (List ℕ)) → K.shows lot.now keep.old disk.old → TakesAt (form_of F.VERSION) mode lot.now (K.map keep.old disk.old lot.now) t k p (Trunc p len) number
-        → IfErr result (λ e. e ≡ FaultDisk) }
+    ensures set { (mode k : ℕ) (t : Tree) (p : List (List ℕ))
+        → AsShown K.View lot.now keep.old disk.old keep.new disk.new (λ old new.
+        TakesAt (form_of F.VERSION) mode lot.now old t k p (Trunc p len) number
+        → OnOk result (MapRecovers (form_of F.VERSION) mode lot.now new (next (Trunc p len) t) (k + 1))) }
+    ensures sound { (mode k : ℕ) (t : Tree) (p : List (List ℕ)) → IfShown K.View lot.now keep.old disk.old (λ old.
+        TakesAt (form_of F.VERSION) mode lot.now old t k p (Trunc p len) number
+        → IfErr result (λ e. e ≡ FaultDisk)) }
     ensures counted { OnOk result (K.held keep.new sub_address ≡ true) }
     ensures spent { Spent D.Disk K.View lot.now 73 keep.old disk.old keep.new disk.new }
-    ensures broken { K.shows lot.now keep.old disk.old → FileIs F.ENTRY lot.now (K.map keep.old disk.old lot.now) len number → CanCount (K.map keep.old disk.old lot.now) → IfErr result (IsBrokenBy F.ENTRY lot.now (K.map keep.old disk.old lot.now)) }
+    ensures broken { IfShown K.View lot.now keep.old disk.old (λ old.
+        FileIs F.ENTRY lot.now old len number → CanCount old
+        → IfErr result (IsBrokenBy F.ENTRY lot.now old)) }
     ensures faults { IfErr result (IsNamedIn change_rules) }
     ensures failed { IsErrOf result FaultDisk → Rose (D.state disk.old).faults (D.state disk.new).faults }
 {
@@ -244,16 +261,22 @@ pub fn write<D: Disk, K: Keep<D>, P: Pool<D, K>, F: Form>(
     requires depth { depth ≤ length path.now }
     requires room { 96 ≤ K.room keep.old }
     requires few { length bytes.now ≤ most_at_once }
-    ensures answers { (mode k : ℕ) (t : Tree) → K.shows lot.now keep.old disk.old → MapRecovers (form_of F.VERSION) mode lot.now (K.map keep.old disk.old lot.now) t k
-        → AsModel (meant_plain result) (answer t k (length lot.now.groups) (form_of F.VERSION) (Write (drop depth path.now) at bytes.now)).0 }
-    ensures changed { (mode k : ℕ) (t : Tree) → K.shows lot.now keep.old disk.old → MapRecovers (form_of F.VERSION) mode lot.now (K.map keep.old disk.old lot.now) t k
-        → OnOk result (MapRecovers (form_of F.VERSION) mode lot.now (K.map keep.new disk.new lot.now) (answer t k (length lot.now.groups) (form_of F.VERSION) (Write (drop depth path.now) at bytes.now)).1 (k + 1)) }
+    ensures answers { (mode k : ℕ) (t : Tree) → IfShown K.View lot.now keep.old disk.old (λ old.
+        MapRecovers (form_of F.VERSION) mode lot.now old t k
+        → AsModel (meant_plain result) (answer t k (length lot.now.groups) (form_of F.VERSION) (Write (drop depth path.now) at bytes.now)).0) }
+    ensures changed { (mode k : ℕ) (t : Tree)
+        → AsShown K.View lot.now keep.old disk.old keep.new disk.new (λ old new.
+        MapRecovers (form_of F.VERSION) mode lot.now old t k
+        → OnOk result (MapRecovers (form_of F.VERSION) mode lot.now new (answer t k (length lot.now.groups) (form_of F.VERSION) (Write (drop depth path.now) at bytes.now)).1 (k + 1))) }
     ensures counted { OnOk result (K.held keep.new sub_address ≡ true) }
     ensures paths { ShownBy (paths_refusal (form_of F.VERSION) (drop depth path.now ∷ [])) result }
-    ensures untouched { (r : Why) → paths_refusal (form_of F.VERSION) (drop depth path.now ∷ []) ≡ Some r → (disk.new ≡ disk.old) × (keep.new ≡ keep.old) × (pool.new ≡ pool.old) }
-    ensures refused { IfErr result (λ r. number_of r ≤ 14 → Looked D.Disk K.View lot.now keep.old disk.old keep.new disk.new) }
+    ensures untouched { (r : Why) → paths_refusal (form_of F.VERSION) (drop depth path.now ∷ []) ≡ Some r
+        → (disk.new ≡ disk.old) × (keep.new ≡ keep.old) × (pool.new ≡ pool.old) }
+    ensures refused { IfErr result (λ r. number_of r ≤ 14
+        → Looked D.Disk K.View lot.now keep.old disk.old keep.new disk.new) }
     ensures spent { Spent D.Disk K.View lot.now 96 keep.old disk.old keep.new disk.new }
-    ensures damaged { (n : ℕ) → IsErrOf result (Damaged n) → K.shows lot.now keep.old disk.old → (r : Rule) × (n ≡ rule_number r) × IsBroken F.ENTRY lot.now (K.map keep.old disk.old lot.now) r }
+    ensures damaged { (n : ℕ) → IsErrOf result (Damaged n) → IfShown K.View lot.now keep.old disk.old (λ old.
+        (r : Rule) × (n ≡ rule_number r) × IsBroken F.ENTRY lot.now old r) }
     ensures set { IfErr result (IsOneOf write_refusals change_rules) }
     ensures failed { IsErrOf result Fault → Rose (D.state disk.old).faults (D.state disk.new).faults }
 {
@@ -281,16 +304,22 @@ pub fn trunc<D: Disk, K: Keep<D>, P: Pool<D, K>, F: Form>(
     requires some { 1 ≤ length lot.now.groups }
     requires depth { depth ≤ length path.now }
     requires room { 96 ≤ K.room keep.old }
-    ensures answers { (mode k : ℕ) (t : Tree) → K.shows lot.now keep.old disk.old → MapRecovers (form_of F.VERSION) mode lot.now (K.map keep.old disk.old lot.now) t k
-        → AsModel (meant_plain result) (answer t k (length lot.now.groups) (form_of F.VERSION) (Trunc (drop depth path.now) len)).0 }
-    ensures changed { (mode k : ℕ) (t : Tree) → K.shows lot.now keep.old disk.old → MapRecovers (form_of F.VERSION) mode lot.now (K.map keep.old disk.old lot.now) t k
-        → OnOk result (MapRecovers (form_of F.VERSION) mode lot.now (K.map keep.new disk.new lot.now) (answer t k (length lot.now.groups) (form_of F.VERSION) (Trunc (drop depth path.now) len)).1 (k + 1)) }
+    ensures answers { (mode k : ℕ) (t : Tree) → IfShown K.View lot.now keep.old disk.old (λ old.
+        MapRecovers (form_of F.VERSION) mode lot.now old t k
+        → AsModel (meant_plain result) (answer t k (length lot.now.groups) (form_of F.VERSION) (Trunc (drop depth path.now) len)).0) }
+    ensures changed { (mode k : ℕ) (t : Tree)
+        → AsShown K.View lot.now keep.old disk.old keep.new disk.new (λ old new.
+        MapRecovers (form_of F.VERSION) mode lot.now old t k
+        → OnOk result (MapRecovers (form_of F.VERSION) mode lot.now new (answer t k (length lot.now.groups) (form_of F.VERSION) (Trunc (drop depth path.now) len)).1 (k + 1))) }
     ensures counted { OnOk result (K.held keep.new sub_address ≡ true) }
     ensures paths { ShownBy (paths_refusal (form_of F.VERSION) (drop depth path.now ∷ [])) result }
-    ensures untouched { (r : Why) → paths_refusal (form_of F.VERSION) (drop depth path.now ∷ []) ≡ Some r → (disk.new ≡ disk.old) × (keep.new ≡ keep.old) × (pool.new ≡ pool.old) }
-    ensures refused { IfErr result (λ r. number_of r ≤ 14 → Looked D.Disk K.View lot.now keep.old disk.old keep.new disk.new) }
+    ensures untouched { (r : Why) → paths_refusal (form_of F.VERSION) (drop depth path.now ∷ []) ≡ Some r
+        → (disk.new ≡ disk.old) × (keep.new ≡ keep.old) × (pool.new ≡ pool.old) }
+    ensures refused { IfErr result (λ r. number_of r ≤ 14
+        → Looked D.Disk K.View lot.now keep.old disk.old keep.new disk.new) }
     ensures spent { Spent D.Disk K.View lot.now 96 keep.old disk.old keep.new disk.new }
-    ensures damaged { (n : ℕ) → IsErrOf result (Damaged n) → K.shows lot.now keep.old disk.old → (r : Rule) × (n ≡ rule_number r) × IsBroken F.ENTRY lot.now (K.map keep.old disk.old lot.now) r }
+    ensures damaged { (n : ℕ) → IsErrOf result (Damaged n) → IfShown K.View lot.now keep.old disk.old (λ old.
+        (r : Rule) × (n ≡ rule_number r) × IsBroken F.ENTRY lot.now old r) }
     ensures set { IfErr result (IsOneOf trunc_refusals change_rules) }
     ensures failed { IsErrOf result Fault → Rose (D.state disk.old).faults (D.state disk.new).faults }
 {
