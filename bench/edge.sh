@@ -60,28 +60,36 @@ if ! command -v strace > /dev/null; then
 fi
 image
 printf 'create /a 1\nmkdir /a/d\nsync /a\n' > script
-strace -f -o trace -e trace=read,write,pread64,pwrite64,fsync,fdatasync "$program" format new --slots 4 --groups 16
-strace -f -o trace.run -e trace=read,write,pread64,pwrite64,fsync,fdatasync "$program" run img < script > replies
-python3 - trace trace.run <<'PY'
-import re, sys
+strace -f -o trace.new -e trace=openat,read,write,pread64,pwrite64,fsync,fdatasync "$program" format new --slots 4 --groups 16
+strace -f -o trace.run -e trace=openat,read,write,pread64,pwrite64,fsync,fdatasync "$program" run img < script > replies
+python3 - <<'PY'
+import re
 
-def calls(name):
-    for line in open(name):
-        found = re.match(r'\d+\s+(\w+)\((\d+)', line)
-        if found:
-            yield found.group(1), int(found.group(2))
+def calls(trace, image):
+    """The calls from the opening of the image on: what was called, and of which descriptor. Says which one the image has."""
+    opened, made = None, []
+    for line in open(trace):
+        opening = re.search(r'openat\(.*"%s".* = (\d+)$' % image, line)
+        call = re.match(r'\d+\s+(\w+)\((\d+)', line)
+        if opening:
+            opened, made = int(opening.group(1)), []
+        elif call and opened is not None:
+            made.append((call.group(1), int(call.group(2))))
+    assert opened is not None, f'{image} was not opened'
+    return opened, made
 
-# `format` writes its blocks, and what it wrote is synced before it ends.
-formatting = [call for call, _ in calls(sys.argv[1]) if call in ('pwrite64', 'fsync', 'fdatasync')]
-assert formatting and formatting[-1] in ('fsync', 'fdatasync'), formatting[-3:]
+SYNCS = ('fsync', 'fdatasync')
+# What `format` writes is synced before it ends.
+image, made = calls('trace.new', 'new')
+changes = [call for call, number in made if number == image and call in ('pwrite64', *SYNCS)]
+assert changes.count('pwrite64') >= 32 and changes[-1] in SYNCS, changes[-3:]
 # A run begins with a barrier, before the image is read.
-running = list(calls(sys.argv[2]))
-image = [call for call, number in running if number > 2 and call in ('pread64', 'pwrite64', 'fsync', 'fdatasync')]
-assert image[0] in ('fsync', 'fdatasync'), image[:3]
-# Between two reads of input what was answered is sent: the last call before the end's read is a write, or another read.
-reads = [k for k, (call, number) in enumerate(running) if (call, number) == ('read', 0)]
-writes = [k for k, (call, number) in enumerate(running) if (call, number) == ('write', 1)]
-assert len(reads) == 2 and len(writes) >= 1, (reads, writes)
-assert reads[0] < writes[0] and writes[-1] < reads[1], (reads, writes)
+image, made = calls('trace.run', 'img')
+touches = [call for call, number in made if number == image]
+assert touches[0] in SYNCS and 'pread64' in touches, touches[:3]
+# What was answered is sent before the next input is read.
+reads = [k for k, it in enumerate(made) if it == ('read', 0)]
+sent = [k for k, it in enumerate(made) if it == ('write', 1)]
+assert len(reads) == 2 and sent and reads[0] < sent[0] and sent[-1] < reads[1], (reads, sent)
 print('statuses and order: as wanted')
 PY

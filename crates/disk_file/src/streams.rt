@@ -64,15 +64,11 @@ mod tests {
             if call == self.fault.0 {
                 return Err(self.fault.1.into());
             }
-            let mut count = 0;
-            for byte in into.iter_mut().take(2) {
-                if self.at >= 5 {
-                    return Ok(count);
-                }
-                *byte = b"abcde"[self.at];
-                self.at += 1;
-                count += 1;
+            let count = into.len().min(2).min(5usize.saturating_sub(self.at));
+            for byte in into.iter_mut().take(count) {
+                *byte = b'a';
             }
+            self.at = self.at.saturating_add(count);
             Ok(count)
         }
     }

@@ -109,8 +109,18 @@ mod tests {
     }
 
     impl Tray {
+        // The byte at a place.
+        fn at(&self, place: usize) -> u8 {
+            match self.bytes.get(place) {
+                Some(byte) => *byte,
+                None => 0,
+            }
+        }
+
         // How many bytes of so many move, from a place on.
-        fn moves(&mut self, wanted: usize, from: u64) -> io::Result<usize> {
+        fn moves(&mut self, wanted: usize, from: u64) -> io::Result<usize>
+            ensures { IfOk result (λ n. n ≤ wanted) }
+        {
             let call = self.calls;
             self.calls = call.saturating_add(1);
             match self.fault {
@@ -130,16 +140,18 @@ mod tests {
 
         fn read_piece(&mut self, into: &mut [u8], from: u64) -> io::Result<usize> {
             let count = self.moves(into.len(), from)?;
-            for k in 0..count {
-                into[k] = self.bytes[from as usize + k];
+            for (k, byte) in into.iter_mut().take(count).enumerate() {
+                *byte = self.at((from as usize).saturating_add(k));
             }
             Ok(count)
         }
 
         fn write_piece(&mut self, bytes: &[u8], from: u64) -> io::Result<usize> {
             let count = self.moves(bytes.len(), from)?;
-            for k in 0..count {
-                self.bytes[from as usize + k] = bytes[k];
+            for (k, byte) in bytes.iter().take(count).enumerate() {
+                if let Some(place) = self.bytes.get_mut((from as usize).saturating_add(k)) {
+                    *place = *byte;
+                }
             }
             Ok(count)
         }
@@ -152,7 +164,7 @@ mod tests {
         fault: Option<(u32, ErrorKind)>,
     ) -> Result<Tray, Fail> {
         let mut bytes = Vec::new(rt.alloc());
-        for k in 0..3082 {
+        for k in 0..3082u32 {
             bytes.push((k % 251) as u8)?;
         }
         Ok(Tray {
@@ -213,11 +225,13 @@ mod tests {
         for (call, kind, want) in CASES {
             let mut tray = full_tray(&rt, 300, Some((call, kind)))?;
             assert_eq!(rt; kind_of(write_whole(&mut tray, 1, &block)), want, "{call}");
-            for k in 0..3082 {
+            for k in 0..3082usize {
                 let inside = (1024..2048).contains(&k);
+                let old = (k % 251) as u8;
+                let new = (k.saturating_sub(1024) % 253) as u8;
                 if want.is_none() || !inside {
-                    let byte = if inside { (k - 1024) % 253 } else { k % 251 };
-                    assert_eq!(rt; tray.bytes[k], byte as u8, "{call} {k}");
+                    let byte = if inside { new } else { old };
+                    assert_eq!(rt; tray.at(k), byte, "{call} {k}");
                 }
             }
         }
