@@ -87,12 +87,11 @@ returns-in-Err-check_quota-clause-damaged g c = λ n e s.
     (c.in-Err-check_quota.ensures.damaged n (ap (λ x. Err x) same) (looked.shows s))
 
 pub returns-then-is_overfull-clause-damaged : goal.returns-then-is_overfull-clause-damaged
-returns-then-is_overfull-clause-damaged g c = λ n e s.
-    (
-      InodeTwice,
-      cc,
-      inr (inl (overfull-of g.F.Form.ENTRY c.args.lot.now (g.K.View.map c.args.keep.now c.args.disk.now c.args.lot.now) (last_name (drop c.args.depth c.args.path.now)) c.in-Ok.step (c.in-Ok.ensures.is s) (c.is_overfull.ensures.many c.if-is_overfull.true))),
-    )
+returns-then-is_overfull-clause-damaged g c = λ n e s. (
+  InodeTwice,
+  cc,
+  inr (inl (overfull-of g.F.Form.ENTRY c.args.lot.now (g.K.View.map c.args.keep.now c.args.disk.now c.args.lot.now) (last_name (drop c.args.depth c.args.path.now)) c.in-Ok.step (c.in-Ok.ensures.is s) (c.is_overfull.ensures.many c.if-is_overfull.true))),
+)
 
 pub returns-then-is_overfull-clause-found : goal.returns-then-is_overfull-clause-found
 returns-then-is_overfull-clause-found g c = λ mode k t s r.

@@ -21,7 +21,7 @@ returns-in_err-take-clause-sound g c = λ mode k t p q s x differ.
     let y = err_from_is_err_and c.from_residual.result c.from_residual.ensures.1 in
     let e = c.in_err-take.ensures in
     rw (y.1, y.2) (take_sound f one g.F.Form.ENTRY g.F.Form.is_one.1 mode c.args.lot.now m t k p q c.args.step.now c.args.name.now c.args.new.now few x differ _ e.faults
-    (λ z. e.zero (ap (λ y. Err y) z) s) (λ z. e.kind (ap (λ y. Err y) z) s) 
+    (λ z. e.zero (ap (λ y. Err y) z) s) (λ z. e.kind (ap (λ y. Err y) z) s)
     (λ z. dir-free c.args.lot.now g.F.Form.ENTRY m c.args.step.now.from.number (e.is_dir Bitmap (ap (λ y. Err y) z) (λ w. absurd cc) s) (e.unused (ap (λ y. Err y) z) s))
     (λ z. dir-confused c.args.lot.now g.F.Form.ENTRY m c.args.step.now.from.number (e.is_dir Pointer (ap (λ y. Err y) z) (λ w. absurd cc) s) (e.misled (ap (λ y. Err y) z) s)))
 
