@@ -13,10 +13,10 @@ use Rattle.ice_map.specs.Inodes.{inode_of, InodeSet}
 use Rattle.ice_file.specs.Own.{MadeOf, WellMade, map_length, blocks_for}
 use Rattle.ice_file.specs.Writes.{Moved, Reached, content_of}
 use Rattle.ice_file.proofs.MoveLaws.{moved-then, put-moved, put-others, put-here}
-use Rattle.ice_dir.specs.Changes.{dir_blocks, RowPut, DirSet}
-use Rattle.ice_dir.specs.Rows.{Row, per_block, place_of, row_at, row_of, rows_of, IsDirectory}
+use Rattle.ice_dir.specs.Changes.{dir_blocks, RowPut, DirSet, TextAdded, TextTaken}
+use Rattle.ice_dir.specs.Rows.{Row, per_block, place_of, row_bytes, row_in, row_of, entry_bytes, texts_of, rows_of, IsText, IsDirectory}
 use Rattle.ice_dir.proofs.DirLaws.{map-same, rows-all, per-sixteen}
-use Rattle.ice_dir.proofs.RowLaws.{row-same}
+use Rattle.ice_dir.proofs.RowLaws.{bytes-same}
 use Rattle.ice_file.proofs.SetLaws.{resized, own-set}
 use Rattle.ice_dir.proofs.SetLaws.{set-content}
 
@@ -68,9 +68,9 @@ pub place-fits : (entry k : ℕ) → entry ≡ 64 → place_of entry k + entry �
 place-fits entry k e = rw e (let b = mod_below k 16 (omega arith) in omega (arith, b))
 
 -- a block of a map was put, in which one row was written
-module _ (lot : LotView) (entry : ℕ) (m0 m1 m2 : ℕ → List ℕ) (x y : Inode) (c d k at : ℕ) (old new : List ℕ) (row : Row) (sixty : entry ≡ 64) (reached : Reached lot m0 m1 x y c (k / per_block entry) at) (few : length lot.groups ≤ 64)
+module _ (lot : LotView) (entry : ℕ) (m0 m1 m2 : ℕ → List ℕ) (x y : Inode) (c d k at : ℕ) (old new bytes : List ℕ) (sixty : entry ≡ 64) (reached : Reached lot m0 m1 x y c (k / per_block entry) at) (few : length lot.groups ≤ 64)
     (wide : max c (k / per_block entry + 1) ≡ d) (had : k / per_block entry < c → old ≡ content_of m0 x (k / per_block entry)) (long : length old ≡ 1024) (now_long : length new ≡ 1024) (beside : SameBeside (place_of entry k) entry old new)
-    (here : row_at entry new (place_of entry k) ≡ row) (put : m2 at ≡ new) (only : (b : ℕ) → b ≢ at → m2 b ≡ m1 b) where
+    (here : row_bytes entry new (place_of entry k) ≡ bytes) (put : m2 at ≡ new) (only : (b : ℕ) → b ≢ at → m2 b ≡ m1 b) where
   moved-one : Moved lot m0 m1 x y c d
   moved-one = subst (λ n. Moved lot m0 m1 x y c n) wide reached.moved
 
@@ -83,122 +83,161 @@ module _ (lot : LotView) (entry : ℕ) (m0 m1 m2 : ℕ → List ℕ) (x y : Inod
   content-other : (n : ℕ) → n < c → n ≢ k / per_block entry → content_of m2 y n ≡ content_of m0 x n
   content-other n h ne = put-others lot m1 m2 y d (k / per_block entry) at moved-one.made few block-inside reached.here only n (omega arith) ne ∙ reached.contents n h
 
-  row-other : (j : ℕ) → j / per_block entry < c → j ≢ k → row_of entry m2 y j ≡ row_of entry m0 x j
+  row-other : (j : ℕ) → j / per_block entry < c → j ≢ k → entry_bytes entry m2 y j ≡ entry_bytes entry m0 x j
   row-other j h ne =
-      elim (j / per_block entry == k / per_block entry) as (λ t. (j / per_block entry == k / per_block entry) ≡ t → row_of entry m2 y j ≡ row_of entry m0 x j) [
+      elim (j / per_block entry == k / per_block entry) as (λ t. (j / per_block entry == k / per_block entry) ≡ t → entry_bytes entry m2 y j ≡ entry_bytes entry m0 x j) [
         | true ↦ λ t. let e : j / per_block entry ≡ k / per_block entry = grind (arith, nat_tests) in
             let inside : k / per_block entry < c = omega arith in
             let fit = place-fits entry j sixty in
-            ap (λ n. row_at entry (content_of m2 y n) (place_of entry j)) e
-            ∙ ap (λ (b : List ℕ). row_at entry b (place_of entry j)) content-here
-            ∙ row-same entry old new (place_of entry j) (place_of entry j) (omega arith) (omega arith) (λ i l. beside (place_of entry j + i) (⊎_elim (λ q. inl (omega arith)) (λ q. inr (omega arith)) (rows-apart entry j k sixty e ne)))
-            ∙ ap (λ (b : List ℕ). row_at entry b (place_of entry j)) (had inside)
-            ∙ ap (λ n. row_at entry (content_of m0 x n) (place_of entry j)) (sym e)
+            ap (λ n. row_bytes entry (content_of m2 y n) (place_of entry j)) e
+            ∙ ap (λ (b : List ℕ). row_bytes entry b (place_of entry j)) content-here
+            ∙ bytes-same entry old new (place_of entry j) (place_of entry j) (omega arith) (omega arith) (λ i l. beside (place_of entry j + i) (⊎_elim (λ q. inl (omega arith)) (λ q. inr (omega arith)) (rows-apart entry j k sixty e ne)))
+            ∙ ap (λ (b : List ℕ). row_bytes entry b (place_of entry j)) (had inside)
+            ∙ ap (λ n. row_bytes entry (content_of m0 x n) (place_of entry j)) (sym e)
         | false ↦ λ t. let ne' : j / per_block entry ≢ k / per_block entry = grind (arith, nat_tests) in
-            ap (λ (b : List ℕ). row_at entry b (place_of entry j)) (content-other (j / per_block entry) h ne')
+            ap (λ (b : List ℕ). row_bytes entry b (place_of entry j)) (content-other (j / per_block entry) h ne')
       ] refl
 
-  pub row-put : RowPut lot entry m0 m2 x y c d k row
+  pub row-put : RowPut lot entry m0 m2 x y c d k bytes
   row-put = record {
     moved = moved-then lot m0 m1 m2 x y y c d d moved-one (put-moved lot m1 m2 y d (k / per_block entry) at moved-one.made few block-inside reached.here only);
-    here = ap (λ (b : List ℕ). row_at entry b (place_of entry k)) content-here ∙ here;
+    here = ap (λ (b : List ℕ). row_bytes entry b (place_of entry k)) content-here ∙ here;
     others = row-other;
   }
 
--- the rows of a directory to which one was added
-pub rows-added : (lot : LotView) (entry : ℕ) (m0 m1 m2 : ℕ → List ℕ) (x y z : Inode) (number : ℕ) (row : Row) → entry ≡ 64 → RowPut lot entry m0 m1 x y (dir_blocks entry x.size) (dir_blocks entry (x.size + 1)) x.size row
-    → inode_of m0 number ≡ x → inode_of m2 number ≡ z → x.kind ≡ 2 → z.kind ≡ 2 → z.size ≡ x.size + 1 → ((n : ℕ) → n < dir_blocks entry (x.size + 1) → content_of m2 z n ≡ content_of m1 y n)
-    → rows_of entry m2 number ≡ rows_of entry m0 number ++ row ∷ []
-rows-added lot entry m0 m1 m2 x y z number row e put before after kx kz more same =
-    let row-now : (j : ℕ) → j < x.size + 1 → row_of entry m2 z j ≡ row_of entry m1 y j = (λ j h. ap (λ (b : List ℕ). row_at entry b (place_of entry j)) (same (j / per_block entry) (row-inside entry (x.size + 1) j e h))) in
-    rows-all entry m2 number e (ap (λ (i : Inode). i.kind) after ∙ kz)
-    ∙ ap (λ (i : Inode). map (row_of entry m2 i) (range_with_len 0 i.size)) after
-    ∙ ap (λ n. map (row_of entry m2 z) (range_with_len 0 n)) more
-    ∙ map-range_with_len_more (row_of entry m2 z) 0 x.size x.size (omega arith)
-    ∙ ap (λ r. map (row_of entry m2 z) (range_with_len 0 x.size) ++ r ∷ []) (row-now x.size (omega arith) ∙ put.here)
-    ∙ ap (λ (rs : List Row). rs ++ row ∷ []) (map-same (row_of entry m2 z) (row_of entry m0 x) 0 x.size (λ j l h. row-now j (omega arith) ∙ put.others j (row-inside entry x.size j e (omega arith)) (λ q. omega arith))
-    ∙ ap (λ (i : Inode). map (row_of entry m0 i) (range_with_len 0 i.size)) (sym before)
-    ∙ sym (rows-all entry m0 number e (ap (λ (i : Inode). i.kind) before ∙ kx)))
+-- a list of a function's values with one more
+one-listed : {X : Type 0} (new old : ℕ → X) (last : X) (n : ℕ) → ((j : ℕ) → j < n → new j ≡ old j) → new n ≡ last → map new (range_with_len 0 (n + 1)) ≡ map old (range_with_len 0 n) ++ last ∷ []
+one-listed new old last n front end =
+    map-range_with_len_more new 0 n n (omega arith)
+    ∙ ap (λ r. map new (range_with_len 0 n) ++ r ∷ []) end
+    ∙ ap (λ rs. rs ++ last ∷ []) (map-same new old 0 n (λ j l h. front j (omega arith)))
+
+-- the entries of a directory to which one was added
+module _ (lot : LotView) (entry : ℕ) (m0 m1 m2 : ℕ → List ℕ) (x y z : Inode) (number : ℕ) (bytes : List ℕ) (e : entry ≡ 64) (put : RowPut lot entry m0 m1 x y (dir_blocks entry x.size) (dir_blocks entry (x.size + 1)) x.size bytes)
+    (before : inode_of m0 number ≡ x) (after : inode_of m2 number ≡ z) (more : z.size ≡ x.size + 1) (same : (n : ℕ) → n < dir_blocks entry (x.size + 1) → content_of m2 z n ≡ content_of m1 y n) where
+  entry-now : (j : ℕ) → j < x.size + 1 → entry_bytes entry m2 z j ≡ entry_bytes entry m1 y j
+  entry-now j h = ap (λ (b : List ℕ). row_bytes entry b (place_of entry j)) (same (j / per_block entry) (row-inside entry (x.size + 1) j e h))
+
+  entry-had : (j : ℕ) → j < x.size → entry_bytes entry m2 z j ≡ entry_bytes entry m0 x j
+  entry-had j h = entry-now j (omega arith) ∙ put.others j (row-inside entry x.size j e h) (λ q. omega arith)
+
+  pub texts-added : texts_of entry m2 number ≡ texts_of entry m0 number ++ bytes ∷ []
+  texts-added =
+      ap (λ (i : Inode). map (entry_bytes entry m2 i) (range_with_len 0 i.size)) after
+      ∙ ap (λ n. map (entry_bytes entry m2 z) (range_with_len 0 n)) more
+      ∙ one-listed (entry_bytes entry m2 z) (entry_bytes entry m0 x) bytes x.size entry-had (entry-now x.size (omega arith) ∙ put.here)
+      ∙ ap (λ (i : Inode). map (entry_bytes entry m0 i) (range_with_len 0 i.size) ++ bytes ∷ []) (sym before)
+
+  pub rows-added : (row : Row) → row_in bytes ≡ row → x.kind ≡ 2 → z.kind ≡ 2 → rows_of entry m2 number ≡ rows_of entry m0 number ++ row ∷ []
+  rows-added row reads kx kz =
+      rows-all entry m2 number e (ap (λ (i : Inode). i.kind) after ∙ kz)
+      ∙ ap (λ (i : Inode). map (row_of entry m2 i) (range_with_len 0 i.size)) after
+      ∙ ap (λ n. map (row_of entry m2 z) (range_with_len 0 n)) more
+      ∙ one-listed (row_of entry m2 z) (row_of entry m0 x) row x.size (λ j h. ap row_in (entry-had j h)) (ap row_in (entry-now x.size (omega arith) ∙ put.here) ∙ reads)
+      ∙ ap (λ (rs : List Row). rs ++ row ∷ []) (ap (λ (i : Inode). map (row_of entry m0 i) (range_with_len 0 i.size)) (sym before)
+      ∙ sym (rows-all entry m0 number e (ap (λ (i : Inode). i.kind) before ∙ kx)))
 
 dir-map : (entry : ℕ) (x : Inode) → x.kind ≡ 2 → map_length entry x ≡ dir_blocks entry x.size
 dir-map entry x k = rw k refl
 
 -- a directory to which a row was added and which was then put
-pub dir-added : (lot : LotView) (entry : ℕ) (m0 m1 m2 : ℕ → List ℕ) (x y : Inode) (number : ℕ) (row : Row) → entry ≡ 64 → IsDirectory lot x → x.size + 1 < 64 * length lot.groups → inode_of m0 number ≡ x
-    → RowPut lot entry m0 m1 x y (dir_blocks entry x.size) (dir_blocks entry (x.size + 1)) x.size row → InodeSet m1 m2 number (resized y (y.size + 1))
-    → ((b : ℕ) → b ≢ inode_address number → m2 b ≡ m1 b) → DirSet lot entry m0 m2 number (rows_of entry m0 number ++ row ∷ [])
-dir-added lot entry m0 m1 m2 x y number row e is room before put set only =
-    let kz : y.kind ≡ 2 = put.moved.kind ∙ is.kind in
-    let sz : y.size + 1 ≡ x.size + 1 = ap (λ n. n + 1) put.moved.size in
-    record {
-      rows = rows-added lot entry m0 m1 m2 x y (resized y (y.size + 1)) number row e put before set.value is.kind kz sz (set-content lot m1 m2 y (y.size + 1) (dir_blocks entry (x.size + 1)) number put.moved.made only);
-      is = rw set.value (record { kind = kz; few = omega arith });
-      set = own-set lot m0 m1 m2 x y (dir_blocks entry x.size) (dir_blocks entry (x.size + 1)) (y.size + 1) entry number before (dir-map entry x is.kind) put.moved set (dir-map entry (resized y (y.size + 1)) kz ∙ ap (dir_blocks entry) sz) only;
-    }
+module _ (lot : LotView) (entry : ℕ) (m0 m1 m2 : ℕ → List ℕ) (x y : Inode) (number : ℕ) (row : Row) (bytes : List ℕ) (e : entry ≡ 64) (is : IsDirectory lot x) (room : x.size + 1 < 64 * length lot.groups) (before : inode_of m0 number ≡ x)
+    (put : RowPut lot entry m0 m1 x y (dir_blocks entry x.size) (dir_blocks entry (x.size + 1)) x.size bytes) (text : IsText row bytes) (set : InodeSet m1 m2 number (resized y (y.size + 1)))
+    (only : (b : ℕ) → b ≢ inode_address number → m2 b ≡ m1 b) where
+  kind-put : y.kind ≡ 2
+  kind-put = put.moved.kind ∙ is.kind
+
+  size-put : y.size + 1 ≡ x.size + 1
+  size-put = ap (λ n. n + 1) put.moved.size
+
+  content-put : (n : ℕ) → n < dir_blocks entry (x.size + 1) → content_of m2 (resized y (y.size + 1)) n ≡ content_of m1 y n
+  content-put = set-content lot m1 m2 y (y.size + 1) (dir_blocks entry (x.size + 1)) number put.moved.made only
+
+  pub text-added : TextAdded entry m0 m2 number row
+  text-added = (bytes, text, texts-added lot entry m0 m1 m2 x y (resized y (y.size + 1)) number bytes e put before set.value size-put content-put)
+
+  pub dir-added : DirSet lot entry m0 m2 number (rows_of entry m0 number ++ row ∷ [])
+  dir-added = record {
+    rows = rows-added lot entry m0 m1 m2 x y (resized y (y.size + 1)) number bytes e put before set.value size-put content-put row text.reads is.kind kind-put;
+    is = rw set.value (record { kind = kind-put; few = let s = size-put in omega arith });
+    set = own-set lot m0 m1 m2 x y (dir_blocks entry x.size) (dir_blocks entry (x.size + 1)) (y.size + 1) entry number before (dir-map entry x is.kind) put.moved set (dir-map entry (resized y (y.size + 1)) kind-put ∙ ap (dir_blocks entry) size-put) only;
+  }
 
 pub made-dir : (lot : LotView) (entry : ℕ) (m : ℕ → List ℕ) (number : ℕ) (x : Inode) → inode_of m number ≡ x → x.kind ≡ 2 → WellMade lot entry m number → MadeOf lot m x (dir_blocks entry x.size)
 made-dir lot entry m number x before kind made = subst (λ n. MadeOf lot m x n) (dir-map entry x kind) (subst (λ i. MadeOf lot m i (map_length entry i)) before made)
 
-abbrev no_row : Row
-no_row = ([], 0)
-
 -- a list from which one element was taken
-length-taken : (rows : List Row) (k : ℕ) → length (swap_remove rows k no_row) ≡ length rows - 1
-length-taken rows k =
-    let s = length-set rows k (slice_index_or rows (length rows - 1) no_row) in
-    let t = length-take (length rows - 1) (slice_set rows k (slice_index_or rows (length rows - 1) no_row)) in
-    omega arith
+module _ {X : Type 0} (none : X) where
+  length-taken : (rows : List X) (k : ℕ) → length (swap_remove rows k none) ≡ length rows - 1
+  length-taken rows k =
+      let s = length-set rows k (slice_index_or rows (length rows - 1) none) in
+      let t = length-take (length rows - 1) (slice_set rows k (slice_index_or rows (length rows - 1) none)) in
+      omega arith
 
-taken-here : (rows : List Row) (k : ℕ) → k < length rows - 1 → get_or (swap_remove rows k no_row) k no_row ≡ get_or rows (length rows - 1) no_row
-taken-here rows k h =
-    get_or-take (length rows - 1) (slice_set rows k (slice_index_or rows (length rows - 1) no_row)) k no_row h
-    ∙ get_or-set_same rows k (slice_index_or rows (length rows - 1) no_row) no_row (omega arith)
+  taken-here : (rows : List X) (k : ℕ) → k < length rows - 1 → get_or (swap_remove rows k none) k none ≡ get_or rows (length rows - 1) none
+  taken-here rows k h =
+      get_or-take (length rows - 1) (slice_set rows k (slice_index_or rows (length rows - 1) none)) k none h
+      ∙ get_or-set_same rows k (slice_index_or rows (length rows - 1) none) none (omega arith)
 
-taken-other : (rows : List Row) (k j : ℕ) → j < length rows - 1 → j ≢ k → get_or (swap_remove rows k no_row) j no_row ≡ get_or rows j no_row
-taken-other rows k j h ne =
-    get_or-take (length rows - 1) (slice_set rows k (slice_index_or rows (length rows - 1) no_row)) j no_row h
-    ∙ get_or-set_other rows k j (slice_index_or rows (length rows - 1) no_row) no_row ne
+  taken-other : (rows : List X) (k j : ℕ) → j < length rows - 1 → j ≢ k → get_or (swap_remove rows k none) j none ≡ get_or rows j none
+  taken-other rows k j h ne =
+      get_or-take (length rows - 1) (slice_set rows k (slice_index_or rows (length rows - 1) none)) j none h
+      ∙ get_or-set_other rows k j (slice_index_or rows (length rows - 1) none) none ne
 
--- the rows of a directory from which one was taken
-swapped : (row new : ℕ → Row) (n k : ℕ) → k < n → new k ≡ row (n - 1) → ((j : ℕ) → j < n - 1 → j ≢ k → new j ≡ row j) → map new (range_with_len 0 (n - 1)) ≡ swap_remove (map row (range_with_len 0 n)) k ([], 0)
-swapped row new n k h here others =
-    let l : length (map row (range_with_len 0 n)) ≡ n = length-map-range_with_len row 0 n in
-    let l' = length-map-range_with_len new 0 (n - 1) in
-    let t = length-taken (map row (range_with_len 0 n)) k in
-    ext_get_or no_row (map new (range_with_len 0 (n - 1))) (swap_remove (map row (range_with_len 0 n)) k no_row) (omega arith) (λ j m.
-    get_or-map-range_with_len new 0 (n - 1) j j no_row (omega arith) (omega arith)
-    ∙ elim (j == k) as (λ t. (j == k) ≡ t → new j ≡ get_or (swap_remove (map row (range_with_len 0 n)) k no_row) j no_row) [
-      | true ↦ λ t. let same : j ≡ k = grind (arith, nat_tests) in
-          ap new same ∙ here
-          ∙ sym (ap (λ i. get_or (swap_remove (map row (range_with_len 0 n)) k no_row) i no_row) same
-          ∙ taken-here (map row (range_with_len 0 n)) k (omega arith)
-          ∙ get_or-map-range_with_len row 0 n (length (map row (range_with_len 0 n)) - 1) (n - 1) no_row (omega arith) (omega arith))
-      | false ↦ λ t. let ne : j ≢ k = grind (arith, nat_tests) in
-          others j (omega arith) ne
-          ∙ sym (taken-other (map row (range_with_len 0 n)) k j (omega arith) ne ∙ get_or-map-range_with_len row 0 n j j no_row (omega arith) (omega arith))
-    ] refl)
+  -- a list of a function's values from which one was taken
+  swapped : (row new : ℕ → X) (n k : ℕ) → k < n → new k ≡ row (n - 1) → ((j : ℕ) → j < n - 1 → j ≢ k → new j ≡ row j) → map new (range_with_len 0 (n - 1)) ≡ swap_remove (map row (range_with_len 0 n)) k none
+  swapped row new n k h here others =
+      let l : length (map row (range_with_len 0 n)) ≡ n = length-map-range_with_len row 0 n in
+      let l' = length-map-range_with_len new 0 (n - 1) in
+      let t = length-taken (map row (range_with_len 0 n)) k in
+      ext_get_or none (map new (range_with_len 0 (n - 1))) (swap_remove (map row (range_with_len 0 n)) k none) (omega arith) (λ j m.
+      get_or-map-range_with_len new 0 (n - 1) j j none (omega arith) (omega arith)
+      ∙ elim (j == k) as (λ t. (j == k) ≡ t → new j ≡ get_or (swap_remove (map row (range_with_len 0 n)) k none) j none) [
+        | true ↦ λ t. let same : j ≡ k = grind (arith, nat_tests) in
+            ap new same ∙ here
+            ∙ sym (ap (λ i. get_or (swap_remove (map row (range_with_len 0 n)) k none) i none) same
+            ∙ taken-here (map row (range_with_len 0 n)) k (omega arith)
+            ∙ get_or-map-range_with_len row 0 n (length (map row (range_with_len 0 n)) - 1) (n - 1) none (omega arith) (omega arith))
+        | false ↦ λ t. let ne : j ≢ k = grind (arith, nat_tests) in
+            others j (omega arith) ne
+            ∙ sym (taken-other (map row (range_with_len 0 n)) k j (omega arith) ne ∙ get_or-map-range_with_len row 0 n j j none (omega arith) (omega arith))
+      ] refl)
 
 -- a directory whose last row was moved to row k, which was then cut by one row and put
-pub dir-taken : (lot : LotView) (entry : ℕ) (m0 m1 m2 m3 : ℕ → List ℕ) (x y : Inode) (number k : ℕ) → entry ≡ 64 → IsDirectory lot x → k < x.size → inode_of m0 number ≡ x
-    → RowPut lot entry m0 m1 x x (dir_blocks entry x.size) (dir_blocks entry x.size) k (row_of entry m0 x (x.size - 1))
-    → Moved lot m1 m2 x y (dir_blocks entry x.size) (dir_blocks entry (x.size - 1)) → ((n : ℕ) → n < dir_blocks entry (x.size - 1) → content_of m2 y n ≡ content_of m1 x n)
-    → InodeSet m2 m3 number (resized y (x.size - 1)) → ((b : ℕ) → b ≢ inode_address number → m3 b ≡ m2 b) → DirSet lot entry m0 m3 number (swap_remove (rows_of entry m0 number) k ([], 0))
-dir-taken lot entry m0 m1 m2 m3 x y number k e is below before put moved contents set only =
-    let kz : y.kind ≡ 2 = moved.kind ∙ is.kind in
-    let few = is.few in
-    let all = moved-then lot m0 m1 m2 x x y (dir_blocks entry x.size) (dir_blocks entry x.size) (dir_blocks entry (x.size - 1)) put.moved moved in
-    let same = set-content lot m2 m3 y (x.size - 1) (dir_blocks entry (x.size - 1)) number moved.made only in
-    let row-now : (j : ℕ) → j < x.size - 1 → row_of entry m3 (resized y (x.size - 1)) j ≡ row_of entry m1 x j = (λ j h.
-    let n : j / per_block entry < dir_blocks entry (x.size - 1) = row-inside entry (x.size - 1) j e h in
-    ap (λ (b : List ℕ). row_at entry b (place_of entry j)) (same (j / per_block entry) n ∙ contents (j / per_block entry) n)) in
-    let k0 : (inode_of m0 number).kind ≡ 2 = ap (λ (i : Inode). i.kind) before ∙ is.kind in
-    let now : rows_of entry m3 number ≡ map (row_of entry m3 (resized y (x.size - 1))) (range_with_len 0 (x.size - 1)) =
-    rows-all entry m3 number e (ap (λ (i : Inode). i.kind) set.value ∙ kz) ∙ ap (λ (i : Inode). map (row_of entry m3 i) (range_with_len 0 i.size)) set.value in
-    let old : rows_of entry m0 number ≡ map (row_of entry m0 x) (range_with_len 0 x.size) = rows-all entry m0 number e k0 ∙ ap (λ (i : Inode). map (row_of entry m0 i) (range_with_len 0 i.size)) before in
-    record {
-      rows = now ∙ map-same (row_of entry m3 (resized y (x.size - 1))) (row_of entry m1 x) 0 (x.size - 1) (λ j l h. row-now j (omega arith))
-          ∙ swapped (row_of entry m0 x) (row_of entry m1 x) x.size k below put.here (λ j h ne. put.others j (row-inside entry x.size j e (omega arith)) ne)
-          ∙ ap (λ (rs : List Row). swap_remove rs k ([], 0)) (sym old);
-      is = rw set.value (record { kind = kz; few = omega arith });
-      set = own-set lot m0 m2 m3 x y (dir_blocks entry x.size) (dir_blocks entry (x.size - 1)) (x.size - 1) entry number before (dir-map entry x is.kind) all set (dir-map entry (resized y (x.size - 1)) kz) only;
-    }
+module _ (lot : LotView) (entry : ℕ) (m0 m1 m2 m3 : ℕ → List ℕ) (x y : Inode) (number k : ℕ) (e : entry ≡ 64) (is : IsDirectory lot x) (below : k < x.size) (before : inode_of m0 number ≡ x)
+    (put : RowPut lot entry m0 m1 x x (dir_blocks entry x.size) (dir_blocks entry x.size) k (entry_bytes entry m0 x (x.size - 1)))
+    (moved : Moved lot m1 m2 x y (dir_blocks entry x.size) (dir_blocks entry (x.size - 1))) (contents : (n : ℕ) → n < dir_blocks entry (x.size - 1) → content_of m2 y n ≡ content_of m1 x n)
+    (set : InodeSet m2 m3 number (resized y (x.size - 1))) (only : (b : ℕ) → b ≢ inode_address number → m3 b ≡ m2 b) where
+  kind-left : y.kind ≡ 2
+  kind-left = moved.kind ∙ is.kind
+
+  entry-left : (j : ℕ) → j < x.size - 1 → entry_bytes entry m3 (resized y (x.size - 1)) j ≡ entry_bytes entry m1 x j
+  entry-left j h =
+      let n : j / per_block entry < dir_blocks entry (x.size - 1) = row-inside entry (x.size - 1) j e h in
+      ap (λ (b : List ℕ). row_bytes entry b (place_of entry j)) (set-content lot m2 m3 y (x.size - 1) (dir_blocks entry (x.size - 1)) number moved.made only (j / per_block entry) n ∙ contents (j / per_block entry) n)
+
+  entry-other : (j : ℕ) → j < x.size - 1 → j ≢ k → entry_bytes entry m1 x j ≡ entry_bytes entry m0 x j
+  entry-other j h ne = put.others j (row-inside entry x.size j e (omega arith)) ne
+
+  pub text-taken : TextTaken entry m0 m3 number k
+  text-taken =
+      ap (λ (i : Inode). map (entry_bytes entry m3 i) (range_with_len 0 i.size)) set.value
+      ∙ map-same (entry_bytes entry m3 (resized y (x.size - 1))) (entry_bytes entry m1 x) 0 (x.size - 1) (λ j l h. entry-left j (omega arith))
+      ∙ swapped [] (entry_bytes entry m0 x) (entry_bytes entry m1 x) x.size k below put.here entry-other
+      ∙ ap (λ (i : Inode). swap_remove (map (entry_bytes entry m0 i) (range_with_len 0 i.size)) k []) (sym before)
+
+  pub dir-taken : DirSet lot entry m0 m3 number (swap_remove (rows_of entry m0 number) k ([], 0))
+  dir-taken =
+      let few = is.few in
+      let all = moved-then lot m0 m1 m2 x x y (dir_blocks entry x.size) (dir_blocks entry x.size) (dir_blocks entry (x.size - 1)) put.moved moved in
+      let k0 : (inode_of m0 number).kind ≡ 2 = ap (λ (i : Inode). i.kind) before ∙ is.kind in
+      let now : rows_of entry m3 number ≡ map (row_of entry m3 (resized y (x.size - 1))) (range_with_len 0 (x.size - 1)) =
+      rows-all entry m3 number e (ap (λ (i : Inode). i.kind) set.value ∙ kind-left) ∙ ap (λ (i : Inode). map (row_of entry m3 i) (range_with_len 0 i.size)) set.value in
+      let old : rows_of entry m0 number ≡ map (row_of entry m0 x) (range_with_len 0 x.size) = rows-all entry m0 number e k0 ∙ ap (λ (i : Inode). map (row_of entry m0 i) (range_with_len 0 i.size)) before in
+      record {
+        rows = now ∙ map-same (row_of entry m3 (resized y (x.size - 1))) (row_of entry m1 x) 0 (x.size - 1) (λ j l h. ap row_in (entry-left j (omega arith)))
+            ∙ swapped ([], 0) (row_of entry m0 x) (row_of entry m1 x) x.size k below (ap row_in put.here) (λ j h ne. ap row_in (entry-other j h ne))
+            ∙ ap (λ (rs : List Row). swap_remove rs k ([], 0)) (sym old);
+        is = rw set.value (record { kind = kind-left; few = omega arith });
+        set = own-set lot m0 m2 m3 x y (dir_blocks entry x.size) (dir_blocks entry (x.size - 1)) (x.size - 1) entry number before (dir-map entry x is.kind) all set (dir-map entry (resized y (x.size - 1)) kind-left) only;
+      }

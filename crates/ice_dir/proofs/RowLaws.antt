@@ -6,7 +6,7 @@ use Rattle.std.proofs.lemmas.List.Edits.{length-between, get_or-between}
 use Rattle.ice_base.specs.Fields.{word_at, WordSet, SameBeside}
 use Rattle.ice_base.proofs.FieldLaws.{word-same}
 use Rattle.std.proofs.lemmas.Grind.{elements}
-use Rattle.ice_dir.specs.Rows.{row_bytes, name_in, row_in, row_at}
+use Rattle.ice_dir.specs.Rows.{row_bytes, name_in, row_in, row_at, IsText}
 
 pub name-some : (bytes : List ℕ) (end : ℕ) → end ≡ 5 + slice_index bytes 4 → end ≤ length bytes → take (end - 5) (drop 5 bytes) ≡ name_in bytes
 unfolding name_in
@@ -82,3 +82,11 @@ row-written entry b0 b1 b2 b3 b4 name at inode long first short word set text be
     row-made entry b4 name at inode long short (number ∙ word.value)
     (early (at + 4) (omega arith) ∙ ap (λ (b : List ℕ). slice_index b (at + 4)) set ∙ set-here b1 (at + 4) (length name) (omega arith))
     (λ k h. rest (at + 5 + k) (omega arith) ∙ text k h)
+
+-- an entry that reads as a row and is blank past its name
+pub text-made : (entry : ℕ) (block name : List ℕ) (at inode : ℕ) → at + entry ≤ length block → row_at entry block at ≡ (name, inode) → ((k : ℕ) → 5 + length name ≤ k → k < entry → slice_index block (at + k) ≡ 0)
+    → IsText (name, inode) (row_bytes entry block at)
+text-made entry block name at inode long reads blank = record {
+  reads = reads;
+  blank = λ k h l. let e = length-row entry block at long in row-byte entry block at k (omega arith) ∙ blank k h (omega arith);
+}

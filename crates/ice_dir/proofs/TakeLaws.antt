@@ -18,16 +18,16 @@ use Rattle.ice_map.proofs.MarkLaws.{data_not_bitmap, data_not_sub, used-same, fr
 use Rattle.ice_map.proofs.MapLaws.{nth-direct, leads-direct, leads-single, leads-lost}
 use Rattle.ice_map.proofs.UsesLaws.{cut-same, off-free, off-has, times-has}
 use Rattle.ice_file.specs.Own.{MadeOf, Confuses}
-use Rattle.ice_file.specs.Writes.{Reached, content_of, uses_of}
+use Rattle.ice_file.specs.Writes.{Moved, Reached, content_of, uses_of}
 use Rattle.ice_file.proofs.CutLaws.{cut-moved, cut-contents}
 use Rattle.ice_file.proofs.GrowthLaws.{Unmixed, unmixed-one, misled-here}
 use Rattle.ice_file.proofs.MoveLaws.{had-reached}
 use Rattle.ice_file.proofs.OwnLaws.{uses-nth, nth-moves}
 use Rattle.ice_file.proofs.SetLaws.{resized, nth-resized}
-use Rattle.ice_dir.specs.Changes.{dir_blocks, RowPut, DirSet, EntryGone}
-use Rattle.ice_dir.specs.Rows.{Row, per_block, place_of, row_at, row_of, rows_of, named, without, FirstNamed, IsDirectory}
+use Rattle.ice_dir.specs.Changes.{dir_blocks, RowPut, DirSet, TextTaken, EntryGone}
+use Rattle.ice_dir.specs.Rows.{Row, per_block, place_of, row_bytes, entry_bytes, row_of, rows_of, named, FirstNamed, IsDirectory}
 use Rattle.ice_dir.proofs.DirLaws.{per-sixteen, position-found, rows-read}
-use Rattle.ice_dir.proofs.PutLaws.{dir-sixteenth, row-inside, row-put, dir-taken}
+use Rattle.ice_dir.proofs.PutLaws.{dir-sixteenth, row-inside, row-put, dir-taken, text-taken}
 
 -- a block of the rows of a directory is one of its map
 pub block-inside : (entry size n : ℕ) → entry ≡ 64 → n * per_block entry < size → n < dir_blocks entry size
@@ -42,16 +42,16 @@ block-inside entry size n e h =
 -- the last row was copied over row k
 pub row-moved : (lot : LotView) (entry : ℕ) (m0 ma mb m2 : ℕ → List ℕ) (x : Inode) (k per at p q : ℕ) (from old new : List ℕ) → entry ≡ 64 → MadeOf lot m0 x (dir_blocks entry x.size) → length lot.groups ≤ 64 → k < x.size → per ≡ per_block entry → ma ≡ m0 → mb ≡ ma
     → from ≡ content_of m0 x ((x.size - 1) / per) → old ≡ content_of ma x (k / per) → at ≡ nth_block ma x (k / per) → length old ≡ 1024 → length new ≡ 1024 → p ≡ place_of entry k → q ≡ place_of entry (x.size - 1)
-    → SameBeside p entry old new → row_at entry new p ≡ row_at entry from q → m2 at ≡ new → ((b : ℕ) → b ≢ at → m2 b ≡ mb b)
-    → RowPut lot entry m0 m2 x x (dir_blocks entry x.size) (dir_blocks entry x.size) k (row_of entry m0 x (x.size - 1))
+    → SameBeside p entry old new → row_bytes entry new p ≡ row_bytes entry from q → m2 at ≡ new → ((b : ℕ) → b ≢ at → m2 b ≡ mb b)
+    → RowPut lot entry m0 m2 x x (dir_blocks entry x.size) (dir_blocks entry x.size) k (entry_bytes entry m0 x (x.size - 1))
 row-moved lot entry m0 ma mb m2 x k per at p q from old new e made few h pe ea eb fe oe ae lo ln pp qq beside copied put only =
     let inside = row-inside entry x.size k e h in
     let at0 : at ≡ nth_block m0 x (k / per_block entry) = ae ∙ ap (λ (m : ℕ → List ℕ). nth_block m x (k / per)) ea ∙ ap (λ n. nth_block m0 x (k / n)) pe in
     let old0 : old ≡ content_of m0 x (k / per_block entry) = oe ∙ ap (λ (m : ℕ → List ℕ). content_of m x (k / per)) ea ∙ ap (λ n. content_of m0 x (k / n)) pe in
     let r = had-reached lot m0 x (dir_blocks entry x.size) (k / per_block entry) at made inside at0 in
     let r' = subst (λ (m : ℕ → List ℕ). Reached lot m0 m x x (dir_blocks entry x.size) (k / per_block entry) at) (sym (eb ∙ ea)) r in
-    row-put lot entry m0 mb m2 x x (dir_blocks entry x.size) (dir_blocks entry x.size) k at old new (row_of entry m0 x (x.size - 1)) e r' few (omega arith) (λ l. old0) lo ln (subst (λ n. SameBeside n entry old new) pp beside)
-    (ap (row_at entry new) (sym pp) ∙ copied ∙ ap (row_at entry from) qq ∙ ap (λ (b : List ℕ). row_at entry b (place_of entry (x.size - 1))) (fe ∙ ap (λ n. content_of m0 x ((x.size - 1) / n)) pe))
+    row-put lot entry m0 mb m2 x x (dir_blocks entry x.size) (dir_blocks entry x.size) k at old new (entry_bytes entry m0 x (x.size - 1)) e r' few (omega arith) (λ l. old0) lo ln (subst (λ n. SameBeside n entry old new) pp beside)
+    (ap (row_bytes entry new) (sym pp) ∙ copied ∙ ap (row_bytes entry from) qq ∙ ap (λ (b : List ℕ). row_bytes entry b (place_of entry (x.size - 1))) (fe ∙ ap (λ n. content_of m0 x ((x.size - 1) / n)) pe))
     put only
 
 -- a directory loses one block at most
@@ -69,24 +69,35 @@ pub cut-six : (count rest : ℕ) → count ≤ rest + 1 → cut_room count rest 
 cut-six count rest h = grind (arith, nat_tests)
 
 -- a directory of which row k was taken
-pub dir-removed : (lot : LotView) (entry : ℕ) (m0 m1 m2 m3 : ℕ → List ℕ) (x y : Inode) (number k count rest : ℕ) → entry ≡ 64 → IsDirectory lot x → k < x.size → inode_of m0 number ≡ x
-    → RowPut lot entry m0 m1 x x (dir_blocks entry x.size) (dir_blocks entry x.size) k (row_of entry m0 x (x.size - 1)) → count ≡ dir_blocks entry x.size → rest ≡ dir_blocks entry (x.size - 1)
-    → Cut lot m1 m2 x y count rest → Stays lot m1 m2 [] → y ≡ shortened x rest → InodeSet m2 m3 number (resized y (x.size - 1)) → ((b : ℕ) → b ≢ inode_address number → m3 b ≡ m2 b)
-    → DirSet lot entry m0 m3 number (swap_remove (rows_of entry m0 number) k ([], 0))
-dir-removed lot entry m0 m1 m2 m3 x y number k count rest e is below before put c r was stay fields set only =
-    let order = blocks-fall entry x.size e in
-    let was' = subst (λ n. Cut lot m1 m2 x y (dir_blocks entry x.size) n) r (subst (λ n. Cut lot m1 m2 x y n rest) c was) in
-    let fields' = fields ∙ ap (shortened x) r in
-    dir-taken lot entry m0 m1 m2 m3 x y number k e is below before put
-    (cut-moved lot m1 m2 x y (dir_blocks entry x.size) (dir_blocks entry (x.size - 1)) put.moved.made order was' stay fields')
-    (cut-contents lot m1 m2 x y (dir_blocks entry x.size) (dir_blocks entry (x.size - 1)) put.moved.made order was' stay fields') set only
+module _ (lot : LotView) (entry : ℕ) (m0 m1 m2 m3 : ℕ → List ℕ) (x y : Inode) (number k count rest : ℕ) (e : entry ≡ 64) (is : IsDirectory lot x) (below : k < x.size) (before : inode_of m0 number ≡ x)
+    (put : RowPut lot entry m0 m1 x x (dir_blocks entry x.size) (dir_blocks entry x.size) k (entry_bytes entry m0 x (x.size - 1))) (c : count ≡ dir_blocks entry x.size) (r : rest ≡ dir_blocks entry (x.size - 1))
+    (was : Cut lot m1 m2 x y count rest) (stay : Stays lot m1 m2 []) (fields : y ≡ shortened x rest) (set : InodeSet m2 m3 number (resized y (x.size - 1))) (only : (b : ℕ) → b ≢ inode_address number → m3 b ≡ m2 b) where
+  order : dir_blocks entry (x.size - 1) ≤ dir_blocks entry x.size
+  order = blocks-fall entry x.size e
+
+  was' : Cut lot m1 m2 x y (dir_blocks entry x.size) (dir_blocks entry (x.size - 1))
+  was' = subst (λ n. Cut lot m1 m2 x y (dir_blocks entry x.size) n) r (subst (λ n. Cut lot m1 m2 x y n rest) c was)
+
+  fields' : y ≡ shortened x (dir_blocks entry (x.size - 1))
+  fields' = fields ∙ ap (shortened x) r
+
+  moved' : Moved lot m1 m2 x y (dir_blocks entry x.size) (dir_blocks entry (x.size - 1))
+  moved' = cut-moved lot m1 m2 x y (dir_blocks entry x.size) (dir_blocks entry (x.size - 1)) put.moved.made order was' stay fields'
+
+  contents' : (n : ℕ) → n < dir_blocks entry (x.size - 1) → content_of m2 y n ≡ content_of m1 x n
+  contents' = cut-contents lot m1 m2 x y (dir_blocks entry x.size) (dir_blocks entry (x.size - 1)) put.moved.made order was' stay fields'
+
+  pub dir-removed : DirSet lot entry m0 m3 number (swap_remove (rows_of entry m0 number) k ([], 0))
+  dir-removed = dir-taken lot entry m0 m1 m2 m3 x y number k e is below before put moved' contents' set only
+
+  pub text-removed : TextTaken entry m0 m3 number k
+  text-removed = text-taken lot entry m0 m1 m2 m3 x y number k e is below before put moved' contents' set only
 
 -- row k is the one of a name
-pub dir-without : (lot : LotView) (entry : ℕ) (m m' m3 : ℕ → List ℕ) (number : ℕ) (x : Inode) (name : List ℕ) (k : ℕ) → entry ≡ 64 → x ≡ inode_of m number → x.kind ≡ 2 → m' ≡ m → FirstNamed (row_of entry m' x) name 0 x.size k
-    → DirSet lot entry m m3 number (swap_remove (rows_of entry m number) k ([], 0)) → DirSet lot entry m m3 number (without name (rows_of entry m number))
-dir-without lot entry m m' m3 number x name k e is kind same found d =
-    let at = ap (λ (rs : List Row). position_or_len (named name) rs) (rows-read entry m m' number x e is kind same) ∙ position-found (row_of entry m' x) name x.size k found in
-    subst (λ i. DirSet lot entry m m3 number (swap_remove (rows_of entry m number) i ([], 0))) (sym at) d
+pub row-named : (entry : ℕ) (m m' : ℕ → List ℕ) (number : ℕ) (x : Inode) (name : List ℕ) (k : ℕ) → entry ≡ 64 → x ≡ inode_of m number → x.kind ≡ 2 → m' ≡ m → FirstNamed (row_of entry m' x) name 0 x.size k
+    → position_or_len (named name) (rows_of entry m number) ≡ k
+row-named entry m m' number x name k e is kind same found =
+    ap (λ (rs : List Row). position_or_len (named name) rs) (rows-read entry m m' number x e is kind same) ∙ position-found (row_of entry m' x) name x.size k found
 
 -- how many blocks a directory gives back that loses one row
 pub off-length : (entry : ℕ) (m : ℕ → List ℕ) (x : Inode) (count rest : ℕ) → entry ≡ 64 → count ≡ dir_blocks entry x.size → rest ≡ dir_blocks entry (x.size - 1) → uses_of count ≡ uses_of rest + length (cut_off m x count rest)

@@ -1,5 +1,6 @@
 -- Changes of directories.
-use Rattle.std.specs.Prelude.{◌≡◌, ◌≢◌, ◌<◌, ◌⊎◌, ℕ, ◌+◌, ◌-◌, ◌*◌, ◌/◌, true, false, List, length}
+use Rattle.std.specs.Prelude.{◌≡◌, ◌≢◌, ◌<◌, ◌⊎◌, ℕ, ◌+◌, ◌-◌, ◌*◌, ◌/◌, ◌++◌, true, false, List, [], ◌∷◌, length}
+use Rattle.std.specs.List.{swap_remove}
 use Rattle.ice_base.specs.Fields.{SameBeside}
 use Rattle.ice_base.specs.Lots.{LotView, sub_address}
 use Rattle.ice_base.specs.Spare.{has}
@@ -9,7 +10,7 @@ use Rattle.ice_map.specs.Inodes.{inode_of}
 use Rattle.ice_map.specs.Maps.{uses, HasTwice, Misleads}
 use Rattle.ice_file.specs.Own.{OwnSet, blocks_for, Confuses}
 use Rattle.ice_file.specs.Writes.{Moved, uses_of}
-use Rattle.ice_dir.specs.Rows.{Row, per_block, row_of, rows_of, IsDirectory}
+use Rattle.ice_dir.specs.Rows.{Row, per_block, entry_bytes, texts_of, rows_of, IsText, IsDirectory}
 
 -- how many blocks a directory of so many entries has
 abbrev pub dir_blocks : ℕ → ℕ → ℕ
@@ -26,11 +27,19 @@ pub record DirSet (lot : LotView) (entry : ℕ) (old new : ℕ → List ℕ) (nu
   pub is : IsDirectory lot (inode_of new number)
   pub set : OwnSet lot entry old new number
 
--- Row k was written where a map of c blocks became one of d, and every other row of the c blocks stays.
-pub record RowPut (lot : LotView) (entry : ℕ) (m0 m1 : ℕ → List ℕ) (x y : Inode) (c d k : ℕ) (row : Row) : Type 0 where
+-- The bytes of entry k were written where a map of c blocks became one of d, and those of every other entry of the c blocks stay.
+pub record RowPut (lot : LotView) (entry : ℕ) (m0 m1 : ℕ → List ℕ) (x y : Inode) (c d k : ℕ) (bytes : List ℕ) : Type 0 where
   pub moved : Moved lot m0 m1 x y c d
-  pub here : row_of entry m1 y k ≡ row
-  pub others : (j : ℕ) → j / per_block entry < c → j ≢ k → row_of entry m1 y j ≡ row_of entry m0 x j
+  pub here : entry_bytes entry m1 y k ≡ bytes
+  pub others : (j : ℕ) → j / per_block entry < c → j ≢ k → entry_bytes entry m1 y j ≡ entry_bytes entry m0 x j
+
+-- a directory got the text of a row behind its last entry, and the bytes of its other entries stay
+abbrev pub TextAdded : ℕ → (ℕ → List ℕ) → (ℕ → List ℕ) → ℕ → Row → Type 0
+TextAdded entry old new number row = (bytes : List ℕ) × IsText row bytes × (texts_of entry new number ≡ texts_of entry old number ++ bytes ∷ [])
+
+-- entry k was taken from a directory: the bytes of the last one stand in its place, and those of its other entries stay
+abbrev pub TextTaken : ℕ → (ℕ → List ℕ) → (ℕ → List ℕ) → ℕ → ℕ → Type 0
+TextTaken entry old new number k = texts_of entry new number ≡ swap_remove (texts_of entry old number) k []
 
 -- what a directory uses
 abbrev pub dir_uses : ℕ → (ℕ → List ℕ) → ℕ → List ℕ

@@ -6,6 +6,7 @@ use Rattle.std.specs.Str.{bytes_eq}
 use Rattle.ice_base.specs.Fields.{word_at}
 use Rattle.ice_base.specs.Lots.{LotView}
 use Rattle.ice_map.specs.declared.codec.Inode.{Inode}
+use Rattle.ice_map.specs.Inodes.{inode_of}
 use Rattle.ice_map.specs.Maps.{nth_block}
 use Rattle.ice_file.specs.Own.{Own, own}
 
@@ -40,6 +41,19 @@ row_at entry block at = row_in (row_bytes entry block at)
 -- row k of the blocks of a map
 abbrev pub row_of : ℕ → (ℕ → List ℕ) → Inode → ℕ → Row
 row_of entry m inode k = row_at entry (m (nth_block m inode (k / per_block entry))) (place_of entry k)
+
+-- the bytes of entry k of the blocks of a map
+abbrev pub entry_bytes : ℕ → (ℕ → List ℕ) → Inode → ℕ → List ℕ
+entry_bytes entry m inode k = row_bytes entry (m (nth_block m inode (k / per_block entry))) (place_of entry k)
+
+-- the bytes of each entry of the directory of a number, in their order
+abbrev pub texts_of : ℕ → (ℕ → List ℕ) → ℕ → List (List ℕ)
+texts_of entry m number = map (entry_bytes entry m (inode_of m number)) (range_with_len 0 (inode_of m number).size)
+
+-- an entry's bytes are the one text of a row: they read as it, and are zeros past the name
+pub record IsText (row : Row) (bytes : List ℕ) : Type 0 where
+  pub reads : row_in bytes ≡ row
+  pub blank : (k : ℕ) → 5 + length row.0 ≤ k → k < length bytes → slice_index bytes k ≡ 0
 
 -- the rows of a directory, in the order of its entries
 unfoldable pub dir_rows : ℕ → Own → List Row

@@ -1,5 +1,5 @@
 //! Entries that are added.
-ghost use Rattle.std.specs.Prelude.{◌≡◌, ◌≢◌, ◌≤◌, ◌<◌, ◌*◌, ◌+◌, ◌/◌, ◌^◌, ◌++◌, true, false, [], ◌∷◌, OnOk, OnErr, IfOk, IfErr, IsErrOf, length};
+ghost use Rattle.std.specs.Prelude.{◌≡◌, ◌≢◌, ◌≤◌, ◌<◌, ◌*◌, ◌+◌, ◌/◌, ◌^◌, ◌++◌, ℕ, List, true, false, [], ◌∷◌, OnOk, OnErr, IfOk, IfErr, IsErrOf, length};
 ghost use Rattle.ice_base.specs.Disk.{Rose};
 ghost use Rattle.ice_base.specs.Fields.{SameBeside};
 ghost use Rattle.ice_base.specs.Lots.{is_sited, sub_address};
@@ -13,9 +13,9 @@ ghost use Rattle.ice_map.specs.Inodes.{inode_of};
 ghost use Rattle.ice_map.specs.Maps.{longest, needs, Misleads};
 ghost use Rattle.ice_file.specs.Own.{MadeOf, WellMade};
 ghost use Rattle.ice_file.specs.Writes.{Reached, content_of, uses_of};
-ghost use Rattle.ice_dir.specs.Changes.{dir_blocks, HasRoom, DirSet, RowPut};
+ghost use Rattle.ice_dir.specs.Changes.{dir_blocks, HasRoom, DirSet, RowPut, TextAdded};
 ghost use Rattle.ice_dir.specs.Faults.{IsAddFault};
-ghost use Rattle.ice_dir.specs.Rows.{rows_of, IsDirectory};
+ghost use Rattle.ice_dir.specs.Rows.{rows_of, IsText, IsDirectory};
 
 use crate::looks::{dir_inode, read_block};
 use crate::rows::{blocks_for_rows, row_place, rows_per_block, write_row};
@@ -78,7 +78,7 @@ fn append<D: Disk, K: Keep<D>, P: Pool<D, K>, F: Form>(
     requires room { 7 ≤ K.room keep.old }
     requires short { dir.old.size < 4096 }
     requires fits { length name.now ≤ F.NAME }
-    ensures put { K.shows lot.now keep.old disk.old → MadeOf lot.now (K.map keep.old disk.old lot.now) dir.old (dir_blocks F.ENTRY dir.old.size) → OnOk result (RowPut lot.now F.ENTRY (K.map keep.old disk.old lot.now) (K.map keep.new disk.new lot.now) dir.old dir.new (dir_blocks F.ENTRY dir.old.size) (dir_blocks F.ENTRY (dir.old.size + 1)) dir.old.size (name.now, inode)) }
+    ensures put { K.shows lot.now keep.old disk.old → MadeOf lot.now (K.map keep.old disk.old lot.now) dir.old (dir_blocks F.ENTRY dir.old.size) → OnOk result ((bytes : List ℕ) × IsText (name.now, inode) bytes × RowPut lot.now F.ENTRY (K.map keep.old disk.old lot.now) (K.map keep.new disk.new lot.now) dir.old dir.new (dir_blocks F.ENTRY dir.old.size) (dir_blocks F.ENTRY (dir.old.size + 1)) dir.old.size bytes) }
     ensures kind { OnOk result (dir.new.kind ≡ dir.old.kind) }
     ensures size { OnOk result (dir.new.size ≡ dir.old.size) }
     ensures spent { Spent D.Disk K.View lot.now 7 keep.old disk.old keep.new disk.new }
@@ -120,6 +120,7 @@ pub fn add<D: Disk, K: Keep<D>, P: Pool<D, K>, F: Form>(
     requires fits { length name.now ≤ F.NAME }
     requires room { 8 ≤ K.room keep.old }
     ensures added { K.shows lot.now keep.old disk.old → WellMade lot.now F.ENTRY (K.map keep.old disk.old lot.now) number → OnOk result (DirSet lot.now F.ENTRY (K.map keep.old disk.old lot.now) (K.map keep.new disk.new lot.now) number (rows_of F.ENTRY (K.map keep.old disk.old lot.now) number ++ (name.now, inode) ∷ [])) }
+    ensures text { K.shows lot.now keep.old disk.old → WellMade lot.now F.ENTRY (K.map keep.old disk.old lot.now) number → OnOk result (TextAdded F.ENTRY (K.map keep.old disk.old lot.now) (K.map keep.new disk.new lot.now) number (name.now, inode)) }
     ensures is { K.shows lot.now keep.old disk.old → OnOk result (HasRoom lot.now (inode_of (K.map keep.old disk.old lot.now) number)) }
     ensures spent { Spent D.Disk K.View lot.now 8 keep.old disk.old keep.new disk.new }
     ensures none { IsErrOf result NoSpace → K.shows lot.now keep.old disk.old → free_count false lot.now (K.map keep.old disk.old lot.now) + uses_of (dir_blocks F.ENTRY (inode_of (K.map keep.old disk.old lot.now) number).size) < uses_of (dir_blocks F.ENTRY ((inode_of (K.map keep.old disk.old lot.now) number).size + 1)) }

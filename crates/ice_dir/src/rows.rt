@@ -2,7 +2,7 @@
 ghost use Rattle.std.specs.Prelude.{◌≡◌, ◌≤◌, ◌<◌, ◌+◌, ◌/◌, ℕ, length, slice_index};
 ghost use Rattle.ice_base.specs.Fields.{SameBeside};
 ghost use Rattle.ice_dir.specs.Changes.{dir_blocks};
-ghost use Rattle.ice_dir.specs.Rows.{per_block, place_of, row_at};
+ghost use Rattle.ice_dir.specs.Rows.{per_block, place_of, row_bytes, row_at, IsText};
 
 use ice_base::{Block, Form, read_u32, write_u32};
 
@@ -74,8 +74,7 @@ fn put_bytes(block: &mut Block, at: usize, bytes: &[u8])
 pub fn write_row<F: Form>(block: &mut Block, at: usize, name: &[u8], inode: u32)
     requires place { at + F.ENTRY ≤ 1024 }
     requires short { length name.now ≤ F.NAME }
-    ensures row { row_at F.ENTRY block.new at ≡ (name.now, inode) }
-    ensures blank { (k : ℕ) → 5 + length name.now ≤ k → k < F.ENTRY → slice_index block.new (at + k) ≡ 0 }
+    ensures text { IsText (name.now, inode) (row_bytes F.ENTRY block.new at) }
     ensures others { SameBeside at F.ENTRY block.old block.new }
 {
     write_u32(block, at, inode);
@@ -88,8 +87,7 @@ pub fn write_row<F: Form>(block: &mut Block, at: usize, name: &[u8], inode: u32)
 pub fn copy_row<F: Form>(from: &Block, at: usize, into: &mut Block, to: usize)
     requires from { at + F.ENTRY ≤ 1024 }
     requires into { to + F.ENTRY ≤ 1024 }
-    ensures row { row_at F.ENTRY into.new to ≡ row_at F.ENTRY from.now at }
-    ensures bytes { (k : ℕ) → k < F.ENTRY → slice_index into.new (to + k) ≡ slice_index from.now (at + k) }
+    ensures text { row_bytes F.ENTRY into.new to ≡ row_bytes F.ENTRY from.now at }
     ensures others { SameBeside to F.ENTRY into.old into.new }
 {
     let size = F::ENTRY as usize;

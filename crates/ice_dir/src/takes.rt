@@ -1,6 +1,6 @@
 //! Entries that are taken.
 ghost use Rattle.std.specs.Prelude.{◌≡◌, ◌≢◌, ◌≤◌, ◌<◌, ◌*◌, ◌+◌, ◌-◌, ◌/◌, ℕ, true, false, [], IsSome, IsNone, OnOk, OnErr, IfOk, IfErr, IsErrOf, length};
-ghost use Rattle.std.specs.List.{swap_remove};
+ghost use Rattle.std.specs.List.{swap_remove, position_or_len};
 ghost use Rattle.ice_base.specs.Disk.{Rose};
 ghost use Rattle.ice_base.specs.Lots.{is_sited, sub_address};
 ghost use Rattle.ice_base.specs.Used.{is_data, counted};
@@ -13,9 +13,9 @@ ghost use Rattle.ice_map.specs.Inodes.{inode_of};
 ghost use Rattle.ice_map.specs.Maps.{nth_block, uses, FreeOrTwice, Misleads};
 ghost use Rattle.ice_file.specs.Own.{MadeOf, WellMade, Confuses};
 ghost use Rattle.ice_file.specs.Writes.{uses_of};
-ghost use Rattle.ice_dir.specs.Changes.{dir_blocks, DirSet, RowPut, EntryGone};
+ghost use Rattle.ice_dir.specs.Changes.{dir_blocks, DirSet, RowPut, TextTaken, EntryGone};
 ghost use Rattle.ice_dir.specs.Faults.{IsTakeFault};
-ghost use Rattle.ice_dir.specs.Rows.{per_block, row_of, rows_of, look_up, without, IsDirectory};
+ghost use Rattle.ice_dir.specs.Rows.{per_block, entry_bytes, rows_of, named, look_up, without, IsDirectory};
 
 use crate::looks::{dir_inode, read_block, seek};
 use crate::rows::{blocks_for_rows, copy_row, row_place, rows_per_block};
@@ -36,7 +36,7 @@ fn move_last<D: Disk, K: Keep<D>, F: Form>(
     requires room { 1 ≤ K.room keep.old }
     requires short { dir.now.size ≤ 4096 }
     requires below { k < dir.now.size }
-    ensures put { K.shows lot.now keep.old disk.old → MadeOf lot.now (K.map keep.old disk.old lot.now) dir.now (dir_blocks F.ENTRY dir.now.size) → OnOk result (RowPut lot.now F.ENTRY (K.map keep.old disk.old lot.now) (K.map keep.new disk.new lot.now) dir.now dir.now (dir_blocks F.ENTRY dir.now.size) (dir_blocks F.ENTRY dir.now.size) k (row_of F.ENTRY (K.map keep.old disk.old lot.now) dir.now (dir.now.size - 1))) }
+    ensures put { K.shows lot.now keep.old disk.old → MadeOf lot.now (K.map keep.old disk.old lot.now) dir.now (dir_blocks F.ENTRY dir.now.size) → OnOk result (RowPut lot.now F.ENTRY (K.map keep.old disk.old lot.now) (K.map keep.new disk.new lot.now) dir.now dir.now (dir_blocks F.ENTRY dir.now.size) (dir_blocks F.ENTRY dir.now.size) k (entry_bytes F.ENTRY (K.map keep.old disk.old lot.now) dir.now (dir.now.size - 1))) }
     ensures counts { K.map keep.new disk.new lot.now sub_address ≡ K.map keep.old disk.old lot.now sub_address }
     ensures beside { (b : ℕ) → is_data lot.now b ≡ false → K.map keep.new disk.new lot.now b ≡ K.map keep.old disk.old lot.now b }
     ensures spent { Spent D.Disk K.View lot.now 1 keep.old disk.old keep.new disk.new }
@@ -72,6 +72,7 @@ fn remove_row<D: Disk, K: Keep<D>, P: Pool<D, K>, F: Form>(
     requires is { IsDirectory lot.now dir }
     requires below { k < dir.size }
     ensures removed { K.shows lot.now keep.old disk.old → inode_of (K.map keep.old disk.old lot.now) number ≡ dir → WellMade lot.now F.ENTRY (K.map keep.old disk.old lot.now) number → OnOk result (DirSet lot.now F.ENTRY (K.map keep.old disk.old lot.now) (K.map keep.new disk.new lot.now) number (swap_remove (rows_of F.ENTRY (K.map keep.old disk.old lot.now) number) k ([], 0))) }
+    ensures texts { K.shows lot.now keep.old disk.old → inode_of (K.map keep.old disk.old lot.now) number ≡ dir → WellMade lot.now F.ENTRY (K.map keep.old disk.old lot.now) number → OnOk result (TextTaken F.ENTRY (K.map keep.old disk.old lot.now) (K.map keep.new disk.new lot.now) number k) }
     ensures left { K.shows lot.now keep.old disk.old → inode_of (K.map keep.old disk.old lot.now) number ≡ dir → OnOk result (EntryGone lot.now F.ENTRY (K.map keep.old disk.old lot.now) (K.map keep.new disk.new lot.now) number) }
     ensures spent { Spent D.Disk K.View lot.now 8 keep.old disk.old keep.new disk.new }
     ensures zero { IsErrOf result (Damaged Counts) → K.shows lot.now keep.old disk.old → counted false (K.map keep.old disk.old lot.now) + uses_of (dir_blocks F.ENTRY (dir.size - 1)) < uses_of (dir_blocks F.ENTRY dir.size) }
@@ -109,6 +110,7 @@ pub fn take<D: Disk, K: Keep<D>, P: Pool<D, K>, F: Form>(
     requires room { 8 ≤ K.room keep.old }
     ensures found { K.shows lot.now keep.old disk.old → IfOk result (λ o. o ≡ look_up name.now (rows_of F.ENTRY (K.map keep.old disk.old lot.now) number)) }
     ensures taken { K.shows lot.now keep.old disk.old → WellMade lot.now F.ENTRY (K.map keep.old disk.old lot.now) number → IfOk result (λ o. IsSome o → DirSet lot.now F.ENTRY (K.map keep.old disk.old lot.now) (K.map keep.new disk.new lot.now) number (without name.now (rows_of F.ENTRY (K.map keep.old disk.old lot.now) number))) }
+    ensures texts { K.shows lot.now keep.old disk.old → WellMade lot.now F.ENTRY (K.map keep.old disk.old lot.now) number → IfOk result (λ o. IsSome o → TextTaken F.ENTRY (K.map keep.old disk.old lot.now) (K.map keep.new disk.new lot.now) number (position_or_len (named name.now) (rows_of F.ENTRY (K.map keep.old disk.old lot.now) number))) }
     ensures left { K.shows lot.now keep.old disk.old → IfOk result (λ o. IsSome o → EntryGone lot.now F.ENTRY (K.map keep.old disk.old lot.now) (K.map keep.new disk.new lot.now) number) }
     ensures absent { IfOk result (λ o. IsNone o → Looked D.Disk K.View lot.now keep.old disk.old keep.new disk.new) }
     ensures is { K.shows lot.now keep.old disk.old → OnOk result (IsDirectory lot.now (inode_of (K.map keep.old disk.old lot.now) number)) }

@@ -43,7 +43,7 @@ returns-clause-put g c = λ s made.
     row-moved lot g.F.Form.ENTRY (g.K.View.map c.args.keep.now c.args.disk.now lot) (g.K.View.map c.read_block.new.view c.read_block.new.disk lot) (g.K.View.map c.read_block-2.new.view c.read_block-2.new.disk lot) (g.K.View.map c.store.new.keep c.store.new.disk lot)
     c.args.dir.now c.args.k c.rows_per_block-per_block.result c.in_ok-at.at c.row_place-2.result c.row_place.result c.read_block.new.into c.read_block-2.new.into c.copy_row.new.into one.1 made (sited-few _ _ c.requires.sited) c.requires.below
     c.rows_per_block-per_block.ensures.value c.read_block.ensures.looked.map c.read_block-2.ensures.looked.map (c.in_ok-read_block.ensures.content s) (c.in_ok-at.ensures.content t) (c.in_ok-at.ensures.block t)
-    c.read_block-2.array_long c.copy_row.array_long c.row_place-2.ensures.value c.row_place.ensures.value c.copy_row.ensures.others c.copy_row.ensures.row
+    c.read_block-2.array_long c.copy_row.array_long c.row_place-2.ensures.value c.row_place.ensures.value c.copy_row.ensures.others c.copy_row.ensures.text
     (c.in_ok-store.ensures.content (c.read_block-2.ensures.looked.shows t)) c.store.ensures.puts.only
 
 pub returns-in_err-read_block-clause-misled : goal.returns-in_err-read_block-clause-misled

@@ -6,7 +6,7 @@ use Rattle.ice_map.proofs.MarkLaws.{data_not_bitmap, data_not_sub}
 use Rattle.ice_map.proofs.PutsLaws.{spent-then, bitmaps-only}
 use Rattle.ice_file.specs.Writes.{uses_of}
 use Rattle.ice_dir.proofs.PutLaws.{made-dir}
-use Rattle.ice_dir.proofs.TakeLaws.{row-free, row-misled, dir-removed, cut-six, off-length, beside-inode, entry-gone}
+use Rattle.ice_dir.proofs.TakeLaws.{row-free, row-misled, dir-removed, text-removed, cut-six, off-length, beside-inode, entry-gone}
 use Rattle.ice_dir.proofs.takes.remove_row.Goals as goal
 
 pub returns-in_err-move_last-clause-kept : goal.returns-in_err-move_last-clause-kept
@@ -55,6 +55,16 @@ returns-clause-removed g c = λ s is made.
     let put = c.in_ok-move_last.ensures.put s (made-dir lot g.F.Form.ENTRY (g.K.View.map c.args.keep.now c.args.disk.now lot) c.args.number c.args.dir is c.requires.is.kind made) in
     let t = c.move_last.ensures.spent.shows s in
     dir-removed lot g.F.Form.ENTRY (g.K.View.map c.args.keep.now c.args.disk.now lot) (g.K.View.map c.move_last.new.keep c.move_last.new.disk lot) (g.K.View.map c.cut.new.keep c.cut.new.disk lot) (g.K.View.map c.put_inode.new.keep c.put_inode.new.disk lot)
+    c.args.dir c.cut.new.inode c.args.number c.args.k c.blocks_for_rows-count.result c.blocks_for_rows-rest.result one.1 c.requires.is c.requires.below is put c.blocks_for_rows-count.ensures.value c.blocks_for_rows-rest.ensures.value
+    (c.in_ok-cut.ensures.cut t) c.cut.ensures.stays c.in_ok-cut.ensures.fields (c.in_ok-put_inode.ensures.written (c.cut.ensures.spent.shows t)) c.in_ok-put_inode.ensures.puts.only
+
+pub returns-clause-texts : goal.returns-clause-texts
+returns-clause-texts g c = λ s is made.
+    let lot = c.args.lot.now in
+    let one = g.F.Form.is_one in
+    let put = c.in_ok-move_last.ensures.put s (made-dir lot g.F.Form.ENTRY (g.K.View.map c.args.keep.now c.args.disk.now lot) c.args.number c.args.dir is c.requires.is.kind made) in
+    let t = c.move_last.ensures.spent.shows s in
+    text-removed lot g.F.Form.ENTRY (g.K.View.map c.args.keep.now c.args.disk.now lot) (g.K.View.map c.move_last.new.keep c.move_last.new.disk lot) (g.K.View.map c.cut.new.keep c.cut.new.disk lot) (g.K.View.map c.put_inode.new.keep c.put_inode.new.disk lot)
     c.args.dir c.cut.new.inode c.args.number c.args.k c.blocks_for_rows-count.result c.blocks_for_rows-rest.result one.1 c.requires.is c.requires.below is put c.blocks_for_rows-count.ensures.value c.blocks_for_rows-rest.ensures.value
     (c.in_ok-cut.ensures.cut t) c.cut.ensures.stays c.in_ok-cut.ensures.fields (c.in_ok-put_inode.ensures.written (c.cut.ensures.spent.shows t)) c.in_ok-put_inode.ensures.puts.only
 

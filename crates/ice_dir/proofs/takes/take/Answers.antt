@@ -5,11 +5,11 @@ use Rattle.ice_map.specs.declared.codec.Inode.{Inode}
 use Rattle.ice_map.specs.Inodes.{inode_of}
 use Rattle.ice_map.specs.Maps.{uses, FreeOrTwice}
 use Rattle.ice_file.specs.Own.{WellMade, Confuses}
-use Rattle.ice_dir.specs.Changes.{dir_blocks, DirSet}
+use Rattle.ice_dir.specs.Changes.{dir_blocks, DirSet, TextTaken}
 use Rattle.ice_dir.specs.Rows.{row_of, rows_of}
 use Rattle.ice_dir.proofs.DirLaws.{look-found, look-none, rows-read}
 use Rattle.ice_dir.proofs.FaultLaws.{misled-block}
-use Rattle.ice_dir.proofs.TakeLaws.{dir-without}
+use Rattle.ice_dir.proofs.TakeLaws.{row-named}
 use Rattle.ice_dir.proofs.takes.take.Goals as goal
 
 pub seek-requires-clause-short : goal.seek-requires-clause-short
@@ -42,10 +42,28 @@ returns-in_ok-remove_row-in-Some-clause-taken g c = λ s made some.
     let t = c.dir_inode.ensures.looked.shows s in
     let same : ms ≡ m0 = c.seek.ensures.looked.map ∙ c.dir_inode.ensures.looked.map in
     let found = rw c.in-Some.is at (c.in_ok-seek.ensures.found t) in
+    let at = row-named entry m0 (g.K.View.map c.dir_inode.new.view c.dir_inode.new.disk lot) c.args.number c.in_ok-dir.dir c.args.name.now c.in-Some.k one.1 (c.in_ok-dir.ensures.value s) c.in_ok-dir.ensures.is.kind c.dir_inode.ensures.looked.map
+    (rw c.bytes.ensures.value at found.0) in
     let removed = subst (λ (m : ℕ → List ℕ). inode_of m c.args.number ≡ c.in_ok-dir.dir → WellMade lot entry m c.args.number → DirSet lot entry m m3 c.args.number (swap_remove (rows_of entry m c.args.number) c.in-Some.k ([], 0))) same
     (c.in_ok-remove_row-in-Some.ensures.removed (c.seek.ensures.looked.shows t)) (sym (c.in_ok-dir.ensures.value s)) made in
-    dir-without lot entry m0 (g.K.View.map c.dir_inode.new.view c.dir_inode.new.disk lot) m3 c.args.number c.in_ok-dir.dir c.args.name.now c.in-Some.k one.1 (c.in_ok-dir.ensures.value s) c.in_ok-dir.ensures.is.kind c.dir_inode.ensures.looked.map
-    (rw c.bytes.ensures.value at found.0) removed
+    subst (λ i. DirSet lot entry m0 m3 c.args.number (swap_remove (rows_of entry m0 c.args.number) i ([], 0))) (sym at) removed
+
+pub returns-in_ok-remove_row-in-Some-clause-texts : goal.returns-in_ok-remove_row-in-Some-clause-texts
+returns-in_ok-remove_row-in-Some-clause-texts g c = λ s made some.
+    let lot = c.args.lot.now in
+    let entry = g.F.Form.ENTRY in
+    let one = g.F.Form.is_one in
+    let m0 = g.K.View.map c.args.keep.now c.args.disk.now lot in
+    let ms = g.K.View.map c.seek.new.view c.seek.new.disk lot in
+    let m3 = g.K.View.map c.remove_row.new.keep c.remove_row.new.disk lot in
+    let t = c.dir_inode.ensures.looked.shows s in
+    let same : ms ≡ m0 = c.seek.ensures.looked.map ∙ c.dir_inode.ensures.looked.map in
+    let found = rw c.in-Some.is at (c.in_ok-seek.ensures.found t) in
+    let at = row-named entry m0 (g.K.View.map c.dir_inode.new.view c.dir_inode.new.disk lot) c.args.number c.in_ok-dir.dir c.args.name.now c.in-Some.k one.1 (c.in_ok-dir.ensures.value s) c.in_ok-dir.ensures.is.kind c.dir_inode.ensures.looked.map
+    (rw c.bytes.ensures.value at found.0) in
+    let removed = subst (λ (m : ℕ → List ℕ). inode_of m c.args.number ≡ c.in_ok-dir.dir → WellMade lot entry m c.args.number → TextTaken entry m m3 c.args.number c.in-Some.k) same
+    (c.in_ok-remove_row-in-Some.ensures.texts (c.seek.ensures.looked.shows t)) (sym (c.in_ok-dir.ensures.value s)) made in
+    subst (λ i. TextTaken entry m0 m3 c.args.number i) (sym at) removed
 
 pub returns-in_err-seek-clause-misled : goal.returns-in_err-seek-clause-misled
 returns-in_err-seek-clause-misled g c = λ e s.
