@@ -22,10 +22,10 @@ use Rattle.ice_file.specs.Writes.{Moved, Reached, content_of, uses_of}
 use Rattle.ice_file.proofs.CutLaws.{cut-moved, cut-contents}
 use Rattle.ice_file.proofs.GrowthLaws.{Unmixed, unmixed-one, misled-here}
 use Rattle.ice_file.proofs.MoveLaws.{had-reached}
+use Rattle.ice_file.proofs.OwnLaws.{uses-nth, nth-moves}
 use Rattle.ice_file.proofs.SetLaws.{resized, nth-resized}
 use Rattle.ice_dir.specs.Changes.{dir_blocks, RowPut, DirSet, TextTaken, EntryGone}
-use Rattle.ice_dir.specs.Rows.{Row, per_block, place_of, row_bytes, entry_bytes, row_of, rows_of, named, FirstNamed, IsDirectory, row_at, without}
-use Rattle.ice_file.proofs.OwnLaws.{uses-nth, nth-moves}
+use Rattle.ice_dir.specs.Rows.{Row, per_block, place_of, row_bytes, entry_bytes, row_of, rows_of, named, FirstNamed, IsDirectory}
 use Rattle.ice_dir.proofs.DirLaws.{per-sixteen, position-found, rows-read}
 use Rattle.ice_dir.proofs.PutLaws.{dir-sixteenth, row-inside, row-put, dir-taken, text-taken}
 

@@ -1,5 +1,5 @@
 -- Changes of directories.
-use Rattle.std.specs.Prelude.{◌≡◌, ◌≢◌, ◌<◌, ℕ, ◌+◌, ◌-◌, ◌*◌, ◌/◌, ◌++◌, false, List, [], ◌∷◌, length, ◌⊎◌, true}
+use Rattle.std.specs.Prelude.{◌≡◌, ◌≢◌, ◌<◌, ◌⊎◌, ℕ, ◌+◌, ◌-◌, ◌*◌, ◌/◌, ◌++◌, true, false, List, [], ◌∷◌, length}
 use Rattle.std.specs.List.{swap_remove}
 use Rattle.ice_base.specs.Fields.{SameBeside}
 use Rattle.ice_base.specs.Lots.{LotView, sub_address}

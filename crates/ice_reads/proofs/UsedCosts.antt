@@ -1,5 +1,5 @@
 -- A tree uses as many blocks as it costs, in both forms.
-use Rattle.std.proofs.Common.{◌≡◌, ◌≤◌, ◌<◌, ◌+◌, ◌-◌, ◌*◌, ◌/◌, ◌==◌, ◌++◌, ℕ, Bool, true, false, cond, List, [], ◌∷◌, length, length-append, map, nat_lt, nat_le, nat_eq, ◌∙◌, sym, refl, ap, subst, arith, if◌then◌else◌}
+use Rattle.std.proofs.Common.{◌≡◌, ◌≤◌, ◌<◌, ◌+◌, ◌-◌, ◌*◌, ◌/◌, ◌==◌, ℕ, Bool, true, false, cond, List, [], ◌∷◌, length, length-append, map, nat_lt, nat_le, nat_eq, ◌∙◌, sym, refl, ap, subst, arith, if◌then◌else◌}
 use Rattle.std.specs.List.{range_with_len}
 use Rattle.std.proofs.lemmas.Bool.Decides.{nat_tests}
 use Rattle.std.proofs.lemmas.Nat.{div-add-mod', mod_below}
@@ -8,8 +8,8 @@ use Rattle.ice_base.specs.Fields.{word_at}
 use Rattle.ice_base.specs.Lots.{LotView}
 use Rattle.ice_map.specs.declared.codec.Inode.{Inode}
 use Rattle.ice_map.specs.Inodes.{inode_of}
-use Rattle.ice_map.specs.Maps.{uses, indirect_of, longest}
-use Rattle.ice_file.specs.Own.{Own, own, blocks_for, map_length, file_bytes}
+use Rattle.ice_map.specs.Maps.{indirect_of, longest}
+use Rattle.ice_file.specs.Own.{Own, blocks_for, map_length, file_bytes}
 use Rattle.ice_file.specs.Writes.{uses_of}
 use Rattle.ice_file.proofs.OwnLaws.{length-uses}
 use Rattle.ice_dir.specs.Rows.{Row}

@@ -1,21 +1,21 @@
 -- How many blocks and inodes a tree uses.
-use Rattle.std.proofs.Common.{◌≡◌, ◌≤◌, ◌<◌, ◌+◌, ◌-◌, ◌*◌, ◌/◌, ℕ, List, [], ◌∷◌, length, length-append, ◌∙◌, sym, refl, ap, arith}
+use Rattle.std.proofs.Common.{◌≡◌, ◌≤◌, ◌<◌, ◌+◌, ◌*◌, ℕ, List, [], ◌∷◌, length, length-append, ◌∙◌, sym, refl, ap, arith}
 use Rattle.std.proofs.lemmas.Bool.Decides.{nat_tests}
 use Rattle.std.proofs.lemmas.Nat.{div-add-mod'}
 use Rattle.ice_base.specs.Lots.{LotView}
 use Rattle.ice_map.specs.Inodes.{inode_of}
-use Rattle.ice_file.specs.Own.{own, blocks_for, map_length}
+use Rattle.ice_file.specs.Own.{own, map_length}
 use Rattle.ice_file.specs.Writes.{uses_of}
 use Rattle.ice_file.proofs.ByteLaws.{file_length, all_bytes}
-use Rattle.ice_file.proofs.OwnLaws.{length-uses}
 use Rattle.ice_dir.specs.Rows.{Row}
 use Rattle.ice_dir.proofs.DirLaws.{dir-length}
 use Rattle.std.proofs.lemmas.List.FromFn.{length-map-range_with_len}
 use Rattle.ice_file.specs.Files.{byte_of}
-use Rattle.tree_spec.specs.Trees.{Tree, File, Dir, Entries, Nil, Entry, rows, total_in}
-use Rattle.tree_spec.specs.Costs.{Form, form_one, map_cost, file_blocks, dir_blocks, blocks, nodes}
+use Rattle.tree_spec.specs.Trees.{Tree, File, Dir, Entries, Nil, Entry, total_in}
+use Rattle.tree_spec.specs.Costs.{Form, form_one, map_cost, blocks, nodes}
 use Rattle.ice_reads.specs.Tables.{Map, Table, rows_in, own_in, inode_named, IsFileInode, IsDirInode}
-use Rattle.ice_reads.specs.Reads.{Reads, ReadsEach, entries_use, used_blocks, used_inodes}
+use Rattle.ice_reads.proofs.UsedCosts.{cost_is_used}
+use Rattle.ice_reads.specs.Reads.{Reads, entries_use, used_blocks, used_inodes}
 
 -- each file and directory has one inode
 module _ (f : Form) (o : Table) where
@@ -42,14 +42,6 @@ file-size m i bytes r =
     let l = length-map-range_with_len (byte_of m (inode_of m i)) 0 (inode_of m i).size in
     sym l ∙ ap (λ (xs : List ℕ). length xs) (sym e ∙ r.bytes_are)
 
-pub file-map : (m : Map) (i : ℕ) (bytes : List ℕ) → IsFileInode form_one (own 64 m i) bytes → map_length 64 (inode_of m i) ≡ file_blocks (length bytes)
-file-map m i bytes r = file_length 64 (inode_of m i) r.is_file ∙ ap blocks_for (file-size m i bytes r) ∙ (let e : (length bytes + 1023) / 1024 ≡ (length bytes + 1024 - 1) / 1024 = ap (λ n. n / 1024) (omega arith) in e)
-
-pub dir-map : (lot : LotView) (m : Map) (i : ℕ) (es : Entries) → IsDirInode form_one lot (own 64 m i) es → map_length 64 (inode_of m i) ≡ dir_blocks form_one (length (rows es))
-dir-map lot m i es r =
-    dir-length 64 (inode_of m i) refl r.is_dir ∙ ap (λ n. (n + 15) / 16) (sym r.count)
-    ∙ (let e : (length (rows es) + 15) / 16 ≡ (length (rows es) + 16 - 1) / 16 = ap (λ n. n / 16) (omega arith) in e)
-
 -- a file has at most 268 blocks, and so has a directory
 pub file-short : (lot : LotView) (m : Map) (i : ℕ) (bytes : List ℕ) → IsFileInode form_one (own 64 m i) bytes → map_length 64 (inode_of m i) ≤ 268
 file-short lot m i bytes r =
@@ -66,22 +58,5 @@ dir-short lot m i es few r =
     omega arith
 
 module _ (lot : LotView) (few : length lot.groups ≤ 64) (m : Map) where
-  mutual
-    pub length-blocks : (i h : ℕ) (t : Tree) → Reads form_one lot (own_in form_one m) i h t → length (used_blocks form_one (own_in form_one m) i t) ≡ blocks form_one t
-    length-blocks i h (File bytes) r =
-        length-uses m (inode_of m i) (map_length 64 (inode_of m i)) ∙ uses-cost (map_length 64 (inode_of m i)) (file-short lot m i bytes r.1) ∙ ap map_cost (file-map m i bytes r.1)
-    length-blocks i h (Dir es) r =
-        let mine : length (own 64 m i).uses ≡ map_cost (dir_blocks form_one (length (rows es))) =
-        length-uses m (inode_of m i) (map_length 64 (inode_of m i)) ∙ uses-cost (map_length 64 (inode_of m i)) (dir-short lot m i es few r.1) ∙ ap map_cost (dir-map lot m i es r.1) in
-        let a = length-append (own 64 m i).uses (entries_use form_one (own_in form_one m) (λ i. (own 64 m i).uses) (rows_in form_one (own 64 m i)) es) in
-        let s = length-blocks_in (rows_in form_one (own 64 m i)) (h + 1) es r.2 in
-        omega arith
-
-    length-blocks_in : (rs : List Row) (h : ℕ) (es : Entries) → ReadsEach form_one lot (own_in form_one m) rs h es
-        → length (entries_use form_one (own_in form_one m) (λ i. (own_in form_one m i).uses) rs es) ≡ total_in (λ bytes. map_cost (file_blocks (length bytes))) (λ entries. map_cost (dir_blocks form_one entries)) es
-    length-blocks_in rs h Nil r = refl
-    length-blocks_in rs h (Entry c t es) r =
-        let a = length-append (used_blocks form_one (own_in form_one m) (inode_named c rs) t) (entries_use form_one (own_in form_one m) (λ i. (own_in form_one m i).uses) rs es) in
-        let x = length-blocks (inode_named c rs) h t r.0 in
-        let y = length-blocks_in rs h es r.1 in
-        omega arith
+  pub length-blocks : (i h : ℕ) (t : Tree) → Reads form_one lot (own_in form_one m) i h t → length (used_blocks form_one (own_in form_one m) i t) ≡ blocks form_one t
+  length-blocks i h t r = cost_is_used form_one lot m i h t refl few r

@@ -114,6 +114,7 @@ fn in_order(room: &mut Room) -> Value
     requires { room.old.rows ≡ [] }
     ensures permutation { IsPermutation room.old.entries room.new.entries }
     ensures sorted { IsSorted by_name room.new.entries }
+    ensures bytes { room.new.bytes ≡ room.old.bytes }
     ensures rows { room.new.rows ≡ [] }
     ensures number { result ≡ Listed (length room.new.entries) }
 {
@@ -144,6 +145,8 @@ pub fn list<D: Disk, V: View<D>, F: Form>(
     ensures untouched { (r : Why) → paths_refusal (form_of F.VERSION) (drop depth path.now ∷ []) ≡ Some r
         → (disk.new ≡ disk.old) × (view.new ≡ view.old) }
     ensures tallies { Tallies result room.new }
+    ensures bytes { room.new.bytes ≡ [] }
+    ensures rows { room.new.rows ≡ [] }
     ensures damaged { (n : ℕ) → IsErrOf result (Damaged n) → IfShown V.View lot.now view.old disk.old (λ old.
         (r : Rule) × (n ≡ rule_number r) × IsBroken F.ENTRY lot.now old r) }
     ensures looked { Looked D.Disk V.View lot.now view.old disk.old view.new disk.new }

@@ -143,6 +143,8 @@ pub fn read<D: Disk, V: View<D>, F: Form>(
     ensures untouched { (r : Why) → paths_refusal (form_of F.VERSION) (drop depth path.now ∷ []) ≡ Some r
         → (disk.new ≡ disk.old) × (view.new ≡ view.old) }
     ensures tallies { Tallies result room.new }
+    ensures entries { room.new.entries ≡ [] }
+    ensures rows { room.new.rows ≡ [] }
     ensures damaged { (n : ℕ) → IsErrOf result (Damaged n) → IfShown V.View lot.now view.old disk.old (λ old.
         (r : Rule) × (n ≡ rule_number r) × IsBroken F.ENTRY lot.now old r) }
     ensures looked { Looked D.Disk V.View lot.now view.old disk.old view.new disk.new }

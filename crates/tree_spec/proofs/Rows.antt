@@ -10,7 +10,7 @@ use Rattle.tree_spec.specs.Lines as line
 use Rattle.tree_spec.specs.Operations.{Operation, Mkdir, Make, Write, Read, Trunc, Remove, Rename, ListDir, Stat, operation}
 use Rattle.tree_spec.specs.Answers.{answer, refusal, tree_after}
 use Rattle.tree_spec.specs.Records.{Cube}
-use Rattle.tree_spec.specs.World.{World, rows_of}
+use Rattle.tree_spec.specs.World.{rows_of}
 use Rattle.tree_spec.specs.Routes.{route}
 use Rattle.tree_spec.proofs.Writes.{length-written}
 
