@@ -81,8 +81,8 @@ module _ (entry : ℕ) (e64 : entry ≡ 64) (lot : LotView) (m : ℕ → List �
       record { number = i; row = x.0; reached = reached; dir = dir; has = x.1; bad = subst (λ n. (n ≡ 0) ⊎ (64 * length lot.groups ≤ n)) (sym x.2) past }
 
   -- so does row k
-  pub row-broken : IsDirectory lot (inode_of m i) → (k : ℕ) (c : List ℕ) (j : ℕ) → slice_get (rows_of entry m i) k ≡ Some (c, j) → 64 * length lot.groups ≤ j → BadEntry entry lot m
-  row-broken dir k c j is past = record { number = i; row = (c, j); reached = reached; dir = dir; has = slice-has (rows_of entry m i) k (c, j) is; bad = inr past }
+  pub row-broken : IsDirectory lot (inode_of m i) → (k : ℕ) (c : List ℕ) (j : ℕ) → slice_get (rows_of entry m i) k ≡ Some (c, j) → (j ≡ 0) ⊎ (64 * length lot.groups ≤ j) → BadEntry entry lot m
+  row-broken dir k c j is past = record { number = i; row = (c, j); reached = reached; dir = dir; has = slice-has (rows_of entry m i) k (c, j) is; bad = past }
 
   -- a search for a name
   pub find-broken : (e : OpFault) → IsFindFault e → (e ≡ Damaged Kind → ¬ IsDirectory lot (inode_of m i)) → IsNode lot (inode_of m i) → (inode_of m i).kind ≡ 2

@@ -20,7 +20,7 @@ ghost use Rattle.ice_reads.specs.Reads.{Reads};
 ghost use Rattle.ice_reads.specs.Recovers.{MapRecovers};
 ghost use Rattle.ice_reads.specs.Tables.{own_in, rows_in};
 ghost use Rattle.ice_rules.specs.Rules.{rule_number};
-ghost use Rattle.ice_tree.specs.Broken.{IsBroken, IsBrokenBy};
+ghost use Rattle.ice_tree.specs.Broken.{BadEntry, IsBroken, IsBrokenBy};
 ghost use Rattle.ice_tree.specs.Listings.{listed_as, IsListFault};
 ghost use Rattle.ice_tree.specs.Outcomes.{AsModel, ShownBy, IsOneOf, look_refusals, list_rules};
 ghost use Rattle.ice_tree.specs.Places.{IsReached};
@@ -30,7 +30,7 @@ use crate::blank::blank_name;
 use crate::fault::refusal_of;
 use crate::looks::dir_at;
 use crate::paths::check_path;
-use crate::place::{Place, enter};
+use crate::place::{Place, enter_named};
 use ice_base::{Disk, Form, Lot, OpFault, View};
 use ice_dir::entry;
 use tree_spec::{Entry, Path, Refusal, Reply, Room, Value};
@@ -48,8 +48,8 @@ fn add_entry<D: Disk, V: View<D>, F: Form>(
     requires number { number < 64 * length lot.now.groups }
     requires fits { length room.old.entries < most_entries }
     ensures added { (h : ℕ) (es : Entries) (row : Row) → V.shows lot.now view.old disk.old → Reads (form_of F.VERSION) lot.now (own_in (form_of F.VERSION) (V.map view.old disk.old lot.now)) number h (Dir es)
-        → slice_get (rows_in (form_of F.VERSION) (own_in (form_of F.VERSION) (V.map view.old disk.old lot.now) number)) k ≡ Some row → OnOk result (room.new.entries ≡ room.old.entries ++ listed_as es row ∷ []) }
-    ensures sound { (h : ℕ) (es : Entries) → V.shows lot.now view.old disk.old → Reads (form_of F.VERSION) lot.now (own_in (form_of F.VERSION) (V.map view.old disk.old lot.now)) number h (Dir es) → k < length (rows es)
+        → slice_get (rows_in (form_of F.VERSION) (own_in (form_of F.VERSION) (V.map view.old disk.old lot.now) number)) k ≡ Some row → IsReached F.ENTRY lot.now (V.map view.old disk.old lot.now) number → ¬ BadEntry F.ENTRY lot.now (V.map view.old disk.old lot.now) → OnOk result (room.new.entries ≡ room.old.entries ++ listed_as es row ∷ []) }
+    ensures sound { (h : ℕ) (es : Entries) → V.shows lot.now view.old disk.old → Reads (form_of F.VERSION) lot.now (own_in (form_of F.VERSION) (V.map view.old disk.old lot.now)) number h (Dir es) → k < length (rows es) → IsReached F.ENTRY lot.now (V.map view.old disk.old lot.now) number → ¬ BadEntry F.ENTRY lot.now (V.map view.old disk.old lot.now)
         → IfErr result (λ e. e ≡ FaultDisk) }
     ensures one { OnOk result (length room.new.entries ≡ length room.old.entries + 1) }
     ensures kept { OnErr result (room.new.entries ≡ room.old.entries) }
@@ -62,7 +62,7 @@ fn add_entry<D: Disk, V: View<D>, F: Form>(
 {
     let mut name = blank_name();
     let next = entry::<D, V, F>(view, disk, lot, number, k, &mut name)?;
-    let place = enter::<D, V, F>(view, disk, lot, next)?;
+    let place = enter_named::<D, V, F>(view, disk, lot, next)?;
     let dir = matches!(place, Place::Dir { .. });
     room.add_entry(Entry { name, dir });
     Ok(())
@@ -81,9 +81,9 @@ fn add_entries<D: Disk, V: View<D>, F: Form>(
     requires number { number < 64 * length lot.now.groups }
     requires few { count ≤ most_entries }
     requires empty { room.old.entries ≡ [] }
-    ensures listed { (h : ℕ) (es : Entries) → V.shows lot.now view.old disk.old → Reads (form_of F.VERSION) lot.now (own_in (form_of F.VERSION) (V.map view.old disk.old lot.now)) number h (Dir es) → count ≡ length (rows es)
+    ensures listed { (h : ℕ) (es : Entries) → V.shows lot.now view.old disk.old → Reads (form_of F.VERSION) lot.now (own_in (form_of F.VERSION) (V.map view.old disk.old lot.now)) number h (Dir es) → count ≡ length (rows es) → IsReached F.ENTRY lot.now (V.map view.old disk.old lot.now) number → ¬ BadEntry F.ENTRY lot.now (V.map view.old disk.old lot.now)
         → OnOk result (room.new.entries ≡ map (listed_as es) (rows_in (form_of F.VERSION) (own_in (form_of F.VERSION) (V.map view.old disk.old lot.now) number))) }
-    ensures sound { (h : ℕ) (es : Entries) → V.shows lot.now view.old disk.old → Reads (form_of F.VERSION) lot.now (own_in (form_of F.VERSION) (V.map view.old disk.old lot.now)) number h (Dir es) → count ≡ length (rows es)
+    ensures sound { (h : ℕ) (es : Entries) → V.shows lot.now view.old disk.old → Reads (form_of F.VERSION) lot.now (own_in (form_of F.VERSION) (V.map view.old disk.old lot.now)) number h (Dir es) → count ≡ length (rows es) → IsReached F.ENTRY lot.now (V.map view.old disk.old lot.now) number → ¬ BadEntry F.ENTRY lot.now (V.map view.old disk.old lot.now)
         → IfErr result (λ e. e ≡ FaultDisk) }
     ensures all { OnOk result (length room.new.entries ≡ count) }
     ensures bytes { room.new.bytes ≡ room.old.bytes }

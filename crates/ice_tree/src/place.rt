@@ -90,8 +90,8 @@ pub(crate) fn enter<D: Disk, V: View<D>, F: Form>(
     look::<D, V, F>(view, disk, lot, number)
 }
 
-/// The place of the inode that a walked entry names. Damaged: the number is the root's or none of the lot.
-fn enter_named<D: Disk, V: View<D>, F: Form>(
+/// The place of the inode that an entry names. Damaged: the number is the root's or none of the lot.
+pub(crate) fn enter_named<D: Disk, V: View<D>, F: Form>(
     view: &mut V,
     disk: &mut D,
     lot: &Lot,
