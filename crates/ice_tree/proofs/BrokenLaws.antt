@@ -1,5 +1,5 @@
 -- The rules that entries of directories break.
-use Rattle.std.proofs.Common.{◌≡◌, ℕ, ◌+◌, ◌*◌, ◌/◌, ◌<◌, ◌≤◌, false, List, length, Some, None, Option, sym, refl, ap, ◌∙◌, subst, arith, inl, inr}
+use Rattle.std.proofs.Common.{◌≡◌, ◌⊎◌, ℕ, ◌+◌, ◌*◌, ◌/◌, ◌<◌, ◌≤◌, false, List, length, Some, None, Option, sym, refl, ap, ◌∙◌, subst, arith, inl, inr}
 use Rattle.std.proofs.lemmas.Nat.{div-add-mod', mod_below}
 use Rattle.std.proofs.lemmas.List.Elements.{Contains-get_or}
 use Rattle.std.proofs.lemmas.List.Folds.{find_at}
@@ -74,15 +74,15 @@ place-named entry m dir entries c j is Missing at = tt
 place-named entry m dir entries c j is Blocked at = tt
 
 module _ (entry : ℕ) (e64 : entry ≡ 64) (lot : LotView) (m : ℕ → List ℕ) (i : ℕ) (reached : IsReached entry lot m i) where
-  -- a name that leads to no inode of the lot
-  pub named-broken : IsDirectory lot (inode_of m i) → (c : List ℕ) (j : ℕ) → look_up c (rows_of entry m i) ≡ Some j → 64 * length lot.groups ≤ j → BadEntry entry lot m
+  -- a name that leads to the root or to no inode of the lot
+  pub named-broken : IsDirectory lot (inode_of m i) → (c : List ℕ) (j : ℕ) → look_up c (rows_of entry m i) ≡ Some j → (j ≡ 0) ⊎ (64 * length lot.groups ≤ j) → BadEntry entry lot m
   named-broken dir c j is past =
       let x = named-row (rows_of entry m i) c j is in
-      record { number = i; row = x.0; reached = reached; dir = dir; has = x.1; bad = inr (omega (arith, past, x.2)) }
+      record { number = i; row = x.0; reached = reached; dir = dir; has = x.1; bad = subst (λ n. (n ≡ 0) ⊎ (64 * length lot.groups ≤ n)) (sym x.2) past }
 
   -- so does row k
-  pub row-broken : IsDirectory lot (inode_of m i) → (k : ℕ) (c : List ℕ) (j : ℕ) → slice_get (rows_of entry m i) k ≡ Some (c, j) → 64 * length lot.groups ≤ j → BadEntry entry lot m
-  row-broken dir k c j is past = record { number = i; row = (c, j); reached = reached; dir = dir; has = slice-has (rows_of entry m i) k (c, j) is; bad = inr past }
+  pub row-broken : IsDirectory lot (inode_of m i) → (k : ℕ) (c : List ℕ) (j : ℕ) → slice_get (rows_of entry m i) k ≡ Some (c, j) → (j ≡ 0) ⊎ (64 * length lot.groups ≤ j) → BadEntry entry lot m
+  row-broken dir k c j is past = record { number = i; row = (c, j); reached = reached; dir = dir; has = slice-has (rows_of entry m i) k (c, j) is; bad = past }
 
   -- a search for a name
   pub find-broken : (e : OpFault) → IsFindFault e → (e ≡ Damaged Kind → ¬ IsDirectory lot (inode_of m i)) → IsNode lot (inode_of m i) → (inode_of m i).kind ≡ 2

@@ -72,6 +72,10 @@ module _ (f : Form) (one : f ≡ form_one) (lot : LotView) (m : Map) (i h : ℕ)
   Reads-node (tree.Dir es) r =
       inr (record { kind = ap (λ (x : Inode). x.kind) (sym inode-own) ∙ r.1.is_dir; few = omega (arith, r.1.within, ap (λ (x : Inode). x.size) inode-own) })
 
+  -- one that stands for a directory is one
+  pub reads-directory : (es : tree.Entries) → Reads f lot (own_in f m) i h (tree.Dir es) → IsDirectory lot (inode_of m i)
+  reads-directory es r = record { kind = ap (λ (x : Inode). x.kind) (sym inode-own) ∙ r.1.is_dir; few = omega (arith, r.1.within, ap (λ (x : Inode). x.size) inode-own) }
+
   pub Reads-file : (t : Tree) → Reads f lot (own_in f m) i h t → (x : Inode) → x ≡ inode_of m i → x.kind ≡ 1 → File i x.size ≡ place_by i (Found t)
   Reads-file (tree.File bytes) r x is k = ap (λ n. File i n) (ap (λ (y : Inode). y.size) (is ∙ sym inode-own) ∙ sym (length-file_bytes (own_in f m i)) ∙ ap length r.1.bytes_are)
   Reads-file (tree.Dir es) r x is k = absurd (one_not_two x.kind k (ap (λ (y : Inode). y.kind) (is ∙ sym inode-own) ∙ r.1.is_dir))

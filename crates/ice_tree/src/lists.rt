@@ -20,7 +20,7 @@ ghost use Rattle.ice_reads.specs.Reads.{Reads};
 ghost use Rattle.ice_reads.specs.Recovers.{MapRecovers};
 ghost use Rattle.ice_reads.specs.Tables.{own_in, rows_in};
 ghost use Rattle.ice_rules.specs.Rules.{rule_number};
-ghost use Rattle.ice_tree.specs.Broken.{IsBroken, IsBrokenBy};
+ghost use Rattle.ice_tree.specs.Broken.{BadEntry, IsBroken, IsBrokenBy};
 ghost use Rattle.ice_tree.specs.Listings.{listed_as, IsListFault};
 ghost use Rattle.ice_tree.specs.Outcomes.{AsModel, ShownBy, IsOneOf, look_refusals, list_rules};
 ghost use Rattle.ice_tree.specs.Places.{IsReached};
@@ -30,7 +30,7 @@ use crate::blank::blank_name;
 use crate::fault::refusal_of;
 use crate::looks::dir_at;
 use crate::paths::check_path;
-use crate::place::{Place, enter};
+use crate::place::{Place, enter_named};
 use ice_base::{Disk, Form, Lot, OpFault, View};
 use ice_dir::entry;
 use tree_spec::{Entry, Path, Refusal, Reply, Room, Value};
@@ -50,10 +50,12 @@ fn add_entry<D: Disk, V: View<D>, F: Form>(
     ensures added { (h : ℕ) (es : Entries) (row : Row) → IfShown V.View lot.now view.old disk.old (λ old.
         Reads (form_of F.VERSION) lot.now (own_in (form_of F.VERSION) old) number h (Dir es)
         → slice_get (rows_in (form_of F.VERSION) (own_in (form_of F.VERSION) old number)) k ≡ Some row
+        → IsReached F.ENTRY lot.now old number → ¬ BadEntry F.ENTRY lot.now old
         → OnOk result (room.new.entries ≡ room.old.entries ++ listed_as es row ∷ [])) }
     ensures sound { (h : ℕ) (es : Entries) → IfShown V.View lot.now view.old disk.old (λ old.
         Reads (form_of F.VERSION) lot.now (own_in (form_of F.VERSION) old) number h (Dir es)
-        → k < length (rows es) → IfErr result (λ e. e ≡ FaultDisk)) }
+        → k < length (rows es) → IsReached F.ENTRY lot.now old number → ¬ BadEntry F.ENTRY lot.now old
+        → IfErr result (λ e. e ≡ FaultDisk)) }
     ensures one { OnOk result (length room.new.entries ≡ length room.old.entries + 1) }
     ensures kept { OnErr result (room.new.entries ≡ room.old.entries) }
     ensures bytes { room.new.bytes ≡ room.old.bytes }
@@ -67,7 +69,7 @@ fn add_entry<D: Disk, V: View<D>, F: Form>(
 {
     let mut name = blank_name();
     let next = entry::<D, V, F>(view, disk, lot, number, k, &mut name)?;
-    let place = enter::<D, V, F>(view, disk, lot, next)?;
+    let place = enter_named::<D, V, F>(view, disk, lot, next)?;
     let dir = matches!(place, Place::Dir { .. });
     room.add_entry(Entry { name, dir });
     Ok(())
@@ -88,11 +90,13 @@ fn add_entries<D: Disk, V: View<D>, F: Form>(
     requires empty { room.old.entries ≡ [] }
     ensures listed { (h : ℕ) (es : Entries) → IfShown V.View lot.now view.old disk.old (λ old.
         Reads (form_of F.VERSION) lot.now (own_in (form_of F.VERSION) old) number h (Dir es)
-        → count ≡ length (rows es)
+        → count ≡ length (rows es) → IsReached F.ENTRY lot.now old number
+        → ¬ BadEntry F.ENTRY lot.now old
         → OnOk result (room.new.entries ≡ map (listed_as es) (rows_in (form_of F.VERSION) (own_in (form_of F.VERSION) old number)))) }
     ensures sound { (h : ℕ) (es : Entries) → IfShown V.View lot.now view.old disk.old (λ old.
         Reads (form_of F.VERSION) lot.now (own_in (form_of F.VERSION) old) number h (Dir es)
-        → count ≡ length (rows es) → IfErr result (λ e. e ≡ FaultDisk)) }
+        → count ≡ length (rows es) → IsReached F.ENTRY lot.now old number
+        → ¬ BadEntry F.ENTRY lot.now old → IfErr result (λ e. e ≡ FaultDisk)) }
     ensures all { OnOk result (length room.new.entries ≡ count) }
     ensures bytes { room.new.bytes ≡ room.old.bytes }
     ensures rows { room.new.rows ≡ room.old.rows }

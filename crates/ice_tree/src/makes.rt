@@ -154,7 +154,8 @@ fn put_node<D: Disk, K: Keep<D>, P: Pool<D, K>, F: Form>(
         → AsShown K.View lot.now keep.old disk.old keep.new disk.new (λ old new.
         Takes (form_of F.VERSION) mode lot.now old t k p dir spot.now name.now
         → OnOk result (MapRecovers (form_of F.VERSION) mode lot.now new (next (new_operation dir p) t) k)) }
-    ensures sound { (mode k : ℕ) (t : Tree) (p : List (List ℕ)) → IfShown K.View lot.now keep.old disk.old (λ old.
+    ensures sound { (mode k : ℕ) (t : Tree) (p : List (List ℕ))
+        → IfShown K.View lot.now keep.old disk.old (λ old.
         Takes (form_of F.VERSION) mode lot.now old t k p dir spot.now name.now
         → IfErr result (λ e. e ≡ FaultDisk)) }
     ensures spent { Spent D.Disk K.View lot.now 11 keep.old disk.old keep.new disk.new }
@@ -192,7 +193,8 @@ fn put_new<D: Disk, K: Keep<D>, P: Pool<D, K>, F: Form>(
         → AsShown K.View lot.now keep.old disk.old keep.new disk.new (λ old new.
         Takes (form_of F.VERSION) mode lot.now old t k p dir spot.now name.now
         → OnOk result (MapRecovers (form_of F.VERSION) mode lot.now new (next (new_operation dir p) t) (k + 1))) }
-    ensures sound { (mode k : ℕ) (t : Tree) (p : List (List ℕ)) → IfShown K.View lot.now keep.old disk.old (λ old.
+    ensures sound { (mode k : ℕ) (t : Tree) (p : List (List ℕ))
+        → IfShown K.View lot.now keep.old disk.old (λ old.
         Takes (form_of F.VERSION) mode lot.now old t k p dir spot.now name.now
         → IfErr result (λ e. e ≡ FaultDisk)) }
     ensures counted { OnOk result (K.held keep.new sub_address ≡ true) }

@@ -1,5 +1,5 @@
 //! Walks through the tree of a lot.
-ghost use Rattle.std.specs.Prelude.{◌≡◌, ◌≤◌, ◌<◌, ◌*◌, ◌-◌, ℕ, true, IfOk, IfErr, IsErrOf, length, take, drop};
+ghost use Rattle.std.specs.Prelude.{◌≡◌, ◌≢◌, ◌≤◌, ◌<◌, ◌⊎◌, ◌*◌, ◌-◌, ℕ, true, IfOk, IfErr, IsErrOf, length, take, drop};
 ghost use Rattle.ice_base.specs.Disk.{Rose};
 ghost use Rattle.ice_base.specs.Lots.{is_sited};
 ghost use Rattle.ice_base.specs.Views.{Looked, IfShown};
@@ -105,6 +105,39 @@ pub(crate) fn enter<D: Disk, V: View<D>, F: Form>(
     look::<D, V, F>(view, disk, lot, number)
 }
 
+/// The place of the inode that an entry names. Damaged: the number is the root's or none of the lot.
+pub(crate) fn enter_named<D: Disk, V: View<D>, F: Form>(
+    view: &mut V,
+    disk: &mut D,
+    lot: &Lot,
+    number: u32,
+) -> Result<Place, OpFault>
+    requires sited { is_sited lot.now (D.state disk.old).size ≡ true }
+    ensures place { (h : ℕ) (t : Tree) → IfShown V.View lot.now view.old disk.old (λ old.
+        number ≢ 0 → Reads (form_of F.VERSION) lot.now (own_in (form_of F.VERSION) old) number h t
+        → IfOk result (λ p. p ≡ place_by number (Found t))) }
+    ensures sound { (h : ℕ) (t : Tree) → IfShown V.View lot.now view.old disk.old (λ old.
+        number ≢ 0 → Reads (form_of F.VERSION) lot.now (own_in (form_of F.VERSION) old) number h t
+        → IfErr result (λ e. e ≡ FaultDisk)) }
+    ensures fits { IfOk result (PlaceFits lot.now) }
+    ensures at { IfOk result (PlaceOf number) }
+    ensures is { IfShown V.View lot.now view.old disk.old (λ old. IfOk result (PlaceIs old)) }
+    ensures reached { IfShown V.View lot.now view.old disk.old (λ old.
+        Reached F.ENTRY lot.now old number → IfOk result (PlaceReached F.ENTRY lot.now old)) }
+    ensures broken { IfShown V.View lot.now view.old disk.old (λ old.
+        Reached F.ENTRY lot.now old number
+        → ((number ≡ 0) ⊎ (64 * length lot.now.groups ≤ number) → BadEntry F.ENTRY lot.now old)
+        → IfErr result (IsBrokenBy F.ENTRY lot.now old)) }
+    ensures looked { Looked D.Disk V.View lot.now view.old disk.old view.new disk.new }
+    ensures faults { IfErr result IsWalkFault }
+    ensures failed { IsErrOf result FaultDisk → Rose (D.state disk.old).faults (D.state disk.new).faults }
+{
+    if number == 0 {
+        return Err(OpFault::Damaged(Rule::InodeTwice));
+    }
+    enter::<D, V, F>(view, disk, lot, number)
+}
+
 /// The place of a walk's next name.
 pub(crate) fn step<D: Disk, V: View<D>, F: Form>(
     view: &mut V,
@@ -117,11 +150,13 @@ pub(crate) fn step<D: Disk, V: View<D>, F: Form>(
     requires fits { PlaceFits lot.now from }
     ensures place { (i h : ℕ) (t : Tree) → IfShown V.View lot.now view.old disk.old (λ old.
         Reads (form_of F.VERSION) lot.now (own_in (form_of F.VERSION) old) i h t
-        → from ≡ place_by i (Found t)
+        → from ≡ place_by i (Found t) → PlaceReached F.ENTRY lot.now old from
+        → ¬ BadEntry F.ENTRY lot.now old
         → IfOk result (λ p. p ≡ place_by (inode_named name.now (rows_in (form_of F.VERSION) (own_in (form_of F.VERSION) old i))) (child name.now t))) }
     ensures sound { (i h : ℕ) (t : Tree) → IfShown V.View lot.now view.old disk.old (λ old.
         Reads (form_of F.VERSION) lot.now (own_in (form_of F.VERSION) old) i h t
-        → from ≡ place_by i (Found t) → IfErr result (λ e. e ≡ FaultDisk)) }
+        → from ≡ place_by i (Found t) → PlaceReached F.ENTRY lot.now old from
+        → ¬ BadEntry F.ENTRY lot.now old → IfErr result (λ e. e ≡ FaultDisk)) }
     ensures missing { from ≡ Missing → result ≡ Ok Missing }
     ensures blocked { from ≡ Blocked → result ≡ Ok Blocked }
     ensures fits { IfOk result (PlaceFits lot.now) }
@@ -140,7 +175,7 @@ pub(crate) fn step<D: Disk, V: View<D>, F: Form>(
     match from {
         Place::Dir { number, .. } => match find::<D, V, F>(view, disk, lot, number, name)? {
             None => Ok(Place::Missing),
-            Some(next) => enter::<D, V, F>(view, disk, lot, next),
+            Some(next) => enter_named::<D, V, F>(view, disk, lot, next),
         },
         Place::File { .. } => Ok(Place::Blocked),
         Place::Missing => Ok(Place::Missing),
@@ -149,7 +184,7 @@ pub(crate) fn step<D: Disk, V: View<D>, F: Form>(
 }
 
 /// The place where the walk of a path's names from `depth` on, up to `end`, ends. It begins at inode 0.
-/// Damaged: an inode on it is neither a file nor a directory, an entry names no inode of the lot, or a pointer is no data place.
+/// Damaged: an inode on it is neither a file nor a directory, an entry names the root or no inode of the lot, or a pointer is no data place.
 pub(crate) fn walk<D: Disk, V: View<D>, F: Form>(
     view: &mut V,
     disk: &mut D,

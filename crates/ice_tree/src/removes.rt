@@ -142,7 +142,8 @@ fn check_gone<D: Disk, K: Keep<D>, P: Pool<D, K>, F: Form>(
 ) -> Result<(), Refusal>
     requires sited { is_sited lot.now (D.state disk.old).size ≡ true }
     requires fits { GoneFits lot.now gone.now }
-    ensures quota { (mode k : ℕ) (t : Tree) (p : List (List ℕ)) → IfShown K.View lot.now keep.old disk.old (λ old.
+    ensures quota { (mode k : ℕ) (t : Tree) (p : List (List ℕ))
+        → IfShown K.View lot.now keep.old disk.old (λ old.
         MapRecovers (form_of F.VERSION) mode lot.now old t k
         → IsGone (form_of F.VERSION) (own_in (form_of F.VERSION) old) p t gone.now
         → gone_refusal p t ≡ None
@@ -301,7 +302,8 @@ fn take_away<D: Disk, K: Keep<D>, P: Pool<D, K>, F: Form>(
         → AsShown K.View lot.now keep.old disk.old keep.new disk.new (λ old new.
         Loses (form_of F.VERSION) mode lot.now old t k p gone.now name.now
         → OnOk result (MapRecovers (form_of F.VERSION) mode lot.now new (next (Remove p) t) k)) }
-    ensures sound { (mode k : ℕ) (t : Tree) (p : List (List ℕ)) → IfShown K.View lot.now keep.old disk.old (λ old.
+    ensures sound { (mode k : ℕ) (t : Tree) (p : List (List ℕ))
+        → IfShown K.View lot.now keep.old disk.old (λ old.
         Loses (form_of F.VERSION) mode lot.now old t k p gone.now name.now
         → IfErr result (λ e. e ≡ FaultDisk)) }
     ensures freed { AsShown K.View lot.now keep.old disk.old keep.new disk.new (λ old new.
@@ -336,7 +338,8 @@ fn put_away<D: Disk, K: Keep<D>, P: Pool<D, K>, F: Form>(
         → AsShown K.View lot.now keep.old disk.old keep.new disk.new (λ old new.
         Loses (form_of F.VERSION) mode lot.now old t k p gone.now name.now
         → OnOk result (MapRecovers (form_of F.VERSION) mode lot.now new (next (Remove p) t) (k + 1))) }
-    ensures sound { (mode k : ℕ) (t : Tree) (p : List (List ℕ)) → IfShown K.View lot.now keep.old disk.old (λ old.
+    ensures sound { (mode k : ℕ) (t : Tree) (p : List (List ℕ))
+        → IfShown K.View lot.now keep.old disk.old (λ old.
         Loses (form_of F.VERSION) mode lot.now old t k p gone.now name.now
         → IfErr result (λ e. e ≡ FaultDisk)) }
     ensures counted { OnOk result (K.held keep.new sub_address ≡ true) }

@@ -272,7 +272,8 @@ fn find_move<D: Disk, V: View<D>, F: Form>(
     requires shallow { length to.now ≤ depth + deepest }
     ensures found { (mode k : ℕ) (t : Tree) → IfShown V.View lot.now view.old disk.old (λ old.
         MapRecovers (form_of F.VERSION) mode lot.now old t k
-        → MatchResult result (λ step. (move_refusal (drop depth path.now) (drop depth to.now) t ≡ None) × IsMove (form_of F.VERSION) (own_in (form_of F.VERSION) old) (drop depth path.now) (drop depth to.now) t step) (λ r. RefusedAs (refused_of r) (move_refusal (drop depth path.now) (drop depth to.now) t))) }
+        → MatchResult result (λ step. (move_refusal (drop depth path.now) (drop depth to.now) t ≡ None)
+        × IsMove (form_of F.VERSION) (own_in (form_of F.VERSION) old) (drop depth path.now) (drop depth to.now) t step) (λ r. RefusedAs (refused_of r) (move_refusal (drop depth path.now) (drop depth to.now) t))) }
     ensures fits { IfOk result (MoveFits lot.now) }
     ensures below { OnOk result ((depth < length path.now) × (depth < length to.now)) }
     ensures looked { Looked D.Disk V.View lot.now view.old disk.old view.new disk.new }

@@ -197,7 +197,8 @@ fn put_bytes<D: Disk, K: Keep<D>, P: Pool<D, K>, F: Form>(
         → AsShown K.View lot.now keep.old disk.old keep.new disk.new (λ old new.
         TakesAt (form_of F.VERSION) mode lot.now old t k p (Write p at bytes.now) number
         → OnOk result (MapRecovers (form_of F.VERSION) mode lot.now new (next (Write p at bytes.now) t) (k + 1))) }
-    ensures sound { (mode k : ℕ) (t : Tree) (p : List (List ℕ)) → IfShown K.View lot.now keep.old disk.old (λ old.
+    ensures sound { (mode k : ℕ) (t : Tree) (p : List (List ℕ))
+        → IfShown K.View lot.now keep.old disk.old (λ old.
         TakesAt (form_of F.VERSION) mode lot.now old t k p (Write p at bytes.now) number
         → IfErr result (λ e. e ≡ FaultDisk)) }
     ensures counted { OnOk result (K.held keep.new sub_address ≡ true) }
@@ -229,7 +230,8 @@ fn put_cut<D: Disk, K: Keep<D>, P: Pool<D, K>, F: Form>(
         → AsShown K.View lot.now keep.old disk.old keep.new disk.new (λ old new.
         TakesAt (form_of F.VERSION) mode lot.now old t k p (Trunc p len) number
         → OnOk result (MapRecovers (form_of F.VERSION) mode lot.now new (next (Trunc p len) t) (k + 1))) }
-    ensures sound { (mode k : ℕ) (t : Tree) (p : List (List ℕ)) → IfShown K.View lot.now keep.old disk.old (λ old.
+    ensures sound { (mode k : ℕ) (t : Tree) (p : List (List ℕ))
+        → IfShown K.View lot.now keep.old disk.old (λ old.
         TakesAt (form_of F.VERSION) mode lot.now old t k p (Trunc p len) number
         → IfErr result (λ e. e ≡ FaultDisk)) }
     ensures counted { OnOk result (K.held keep.new sub_address ≡ true) }

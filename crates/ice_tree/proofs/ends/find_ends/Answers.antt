@@ -1,11 +1,12 @@
-use Rattle.std.proofs.Common.{ℕ, ◌≡◌, List, [], ◌-◌, take, drop, sym, ◌∙◌, arith, subst}
+use Rattle.std.proofs.Common.{ap, ℕ, ◌≡◌, List, [], ◌-◌, take, drop, sym, ◌∙◌, arith, subst}
 use Rattle.std.proofs.lemmas.Result.{err_from_is_err_and}
 use Rattle.ice_base.specs.declared.fault.OpFault.TheVariants.{Disk as FaultDisk}
 use Rattle.tree_spec.specs.Trees.{Tree, Found, child}
 use Rattle.tree_spec.specs.Costs.{form_of}
 use Rattle.ice_reads.specs.Tables.{Map, own_in, rows_in, inode_named}
 use Rattle.ice_reads.specs.Reads.{Reads}
-use Rattle.ice_tree.specs.Broken.{IsBrokenBy}
+use Rattle.ice_tree.specs.Broken.{BadEntry, IsBrokenBy}
+use Rattle.ice_tree.proofs.SoundLaws.{no-bad-entry}
 use Rattle.ice_tree.specs.Places.{place_by, PlaceIs, PlaceReached, PlaceNamed}
 use Rattle.ice_tree.proofs.EndLaws.{names-last, ends-root, ends-more}
 use Rattle.ice_tree.proofs.PlaceLaws.{next-place, next-fault}
@@ -32,7 +33,9 @@ returns-in_err-end-clause-sound g c = λ mode k t s r.
     (next-fault f c.args.lot.now (own_in f (g.V.View.map c.args.view.now c.args.disk.now c.args.lot.now)) (take (c.len-last.result - 1 - c.args.depth) (drop c.args.depth c.args.path.now)) t c.in_ok-parent.parent _
     r.holds.reads (c.in_ok-parent.ensures.place mode k t s r)
     (subst (λ (m : Map). (i h : ℕ) (u : Tree) → Reads f c.args.lot.now (own_in f m) i h u → c.in_ok-parent.parent ≡ place_by i (Found u) → c.in_err-end.field-0.0 ≡ FaultDisk) looked.map
-    (λ i h u q is. e.sound i h u (looked.shows s) q is))
+    (λ i h u q is. e.sound i h u (looked.shows s) q is
+    (subst (λ (m : Map). PlaceReached g.F.Form.ENTRY c.args.lot.now m c.in_ok-parent.parent) (sym looked.map) (c.in_ok-parent.ensures.reached s))
+    (λ b. no-bad-entry f (ap form_of g.F.Form.is_one.0) g.F.Form.ENTRY g.F.Form.is_one.1 mode c.args.lot.now (g.V.View.map c.args.view.now c.args.disk.now c.args.lot.now) t k r (subst (BadEntry g.F.Form.ENTRY c.args.lot.now) looked.map b))))
     e.missing e.blocked)
 
 pub returns-clause-found : goal.returns-clause-found
@@ -49,7 +52,9 @@ returns-clause-found g c = λ mode k t s r.
     at
     (next-place f c.args.lot.now o names c.name-name.result t c.in_ok-parent.parent c.in_ok-end.end r.holds.reads at
     (subst (λ (m : Map). (i h : ℕ) (u : Tree) → Reads f c.args.lot.now (own_in f m) i h u → c.in_ok-parent.parent ≡ place_by i (Found u) → c.in_ok-end.end ≡ place_by (inode_named c.name-name.result (rows_in f (own_in f m i))) (child c.name-name.result u)) looked.map
-    (λ i h u q is. e.place i h u (looked.shows s) q is))
+    (λ i h u q is. e.place i h u (looked.shows s) q is
+    (subst (λ (m : Map). PlaceReached g.F.Form.ENTRY c.args.lot.now m c.in_ok-parent.parent) (sym looked.map) (c.in_ok-parent.ensures.reached s))
+    (λ b. no-bad-entry f (ap form_of g.F.Form.is_one.0) g.F.Form.ENTRY g.F.Form.is_one.1 mode c.args.lot.now (g.V.View.map c.args.view.now c.args.disk.now c.args.lot.now) t k r (subst (BadEntry g.F.Form.ENTRY c.args.lot.now) looked.map b))))
     e.missing e.blocked)
 
 pub returns-in_err-parent-clause-broken : goal.returns-in_err-parent-clause-broken

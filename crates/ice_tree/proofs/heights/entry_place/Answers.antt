@@ -1,4 +1,4 @@
-use Rattle.std.proofs.Common.{IfOk, IfErr, Err, ℕ, List, ◌+◌, ◌≡◌, ap, sym, subst}
+use Rattle.std.proofs.Common.{inr, IfOk, IfErr, Err, ℕ, List, ◌+◌, ◌≡◌, ap, sym, subst}
 use Rattle.std.proofs.lemmas.Result.{err_from_is_err_and, IfOk-weaker}
 use Rattle.tree_spec.specs.Costs.{form_of}
 use Rattle.tree_spec.specs.Trees.{Found}
@@ -53,9 +53,9 @@ returns-clause-broken g c = λ s reached has.
     subst (λ (n : ℕ → List ℕ). IfErr c.enter.result (IsBrokenBy g.F.Form.ENTRY c.args.lot.now n)) looked.map
     (c.enter.ensures.broken (looked.shows s)
     (subst (λ (n : ℕ → List ℕ). Reached g.F.Form.ENTRY c.args.lot.now n c.in_ok-inode.inode) (sym looked.map) (row-reached g.F.Form.ENTRY c.args.lot.now m c.args.number c.args.k c.entry.new.into c.in_ok-inode.inode reached has.is row))
-    (λ past.
+    (λ low.
     subst (λ (n : ℕ → List ℕ). BadEntry g.F.Form.ENTRY c.args.lot.now n) (sym looked.map)
-    (row-broken g.F.Form.ENTRY g.F.Form.is_one.1 c.args.lot.now m c.args.number reached has.is c.args.k c.entry.new.into c.in_ok-inode.inode row past)))
+    (row-broken g.F.Form.ENTRY g.F.Form.is_one.1 c.args.lot.now m c.args.number reached has.is c.args.k c.entry.new.into c.in_ok-inode.inode row (inr low))))
 
 pub returns-clause-child : goal.returns-clause-child
 returns-clause-child g c = λ s reached has.

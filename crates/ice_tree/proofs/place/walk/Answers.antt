@@ -5,7 +5,8 @@ use Rattle.tree_spec.specs.Trees.{Tree, Found, child}
 use Rattle.tree_spec.specs.Costs.{form_of}
 use Rattle.ice_reads.specs.Tables.{own_in, rows_in, inode_named}
 use Rattle.ice_reads.specs.Reads.{Reads}
-use Rattle.ice_tree.specs.Broken.{IsBrokenBy}
+use Rattle.ice_tree.specs.Broken.{BadEntry, IsBrokenBy}
+use Rattle.ice_tree.proofs.SoundLaws.{no-bad-entry}
 use Rattle.ice_tree.specs.Places.{place_by, place_at, Root, PlaceIs, PlaceReached}
 use Rattle.ice_tree.proofs.Names.{names-next}
 use Rattle.ice_tree.proofs.PlaceLaws.{next-place, next-fault}
@@ -21,7 +22,9 @@ returns-in_err-place-2-clause-sound g c = λ mode k t s recovers.
     (next-fault f c.args.lot.now (own_in f (g.V.View.map c.args.view.now c.args.disk.now c.args.lot.now)) (take (c.loop-k.k - c.args.depth) (drop c.args.depth c.args.path.now)) t c.loop-k.place _
     recovers.holds.reads (i.place mode k t s recovers)
     (subst (λ (m : ℕ → List ℕ). (i h : ℕ) (u : Tree) → Reads f c.args.lot.now (own_in f m) i h u → c.loop-k.place ≡ place_by i (Found u) → c.in_err-place-2.field-0.0 ≡ FaultDisk) i.looked.map
-    (λ i' h u r is. e.sound i' h u (i.looked.shows s) r is))
+    (λ i' h u r is. e.sound i' h u (i.looked.shows s) r is
+    (subst (λ (m : ℕ → List ℕ). PlaceReached g.F.Form.ENTRY c.args.lot.now m c.loop-k.place) (sym i.looked.map) (i.reached s))
+    (λ b. no-bad-entry f (ap form_of g.F.Form.is_one.0) g.F.Form.ENTRY g.F.Form.is_one.1 mode c.args.lot.now (g.V.View.map c.args.view.now c.args.disk.now c.args.lot.now) t k recovers (subst (BadEntry g.F.Form.ENTRY c.args.lot.now) i.looked.map b))))
     e.missing e.blocked)
 
 pub returns-in_err-place-clause-broken : goal.returns-in_err-place-clause-broken
@@ -68,7 +71,9 @@ loop-k-preserved g c =
           next-place f c.args.lot.now (own_in f (g.V.View.map c.args.view.now c.args.disk.now c.args.lot.now)) (take (c.loop-k.k - c.args.depth) (drop c.args.depth c.args.path.now)) c.name-name.result t c.loop-k.place c.in_ok-place-2.place
           recovers.holds.reads (i.place mode done t s recovers)
           (subst (λ (m : ℕ → List ℕ). (i h : ℕ) (u : Tree) → Reads f c.args.lot.now (own_in f m) i h u → c.loop-k.place ≡ place_by i (Found u) → c.in_ok-place-2.place ≡ place_by (inode_named c.name-name.result (rows_in f (own_in f m i))) (child c.name-name.result u)) i.looked.map
-          (λ i' h u r is. e.place i' h u (i.looked.shows s) r is))
+          (λ i' h u r is. e.place i' h u (i.looked.shows s) r is
+          (subst (λ (m : ℕ → List ℕ). PlaceReached g.F.Form.ENTRY c.args.lot.now m c.loop-k.place) (sym i.looked.map) (i.reached s))
+          (λ b. no-bad-entry f (ap form_of g.F.Form.is_one.0) g.F.Form.ENTRY g.F.Form.is_one.1 mode c.args.lot.now (g.V.View.map c.args.view.now c.args.disk.now c.args.lot.now) t done recovers (subst (BadEntry g.F.Form.ENTRY c.args.lot.now) i.looked.map b))))
           e.missing e.blocked
           ∙ ap (λ n. place_at f (own_in f (g.V.View.map c.args.view.now c.args.disk.now c.args.lot.now)) n t) (sym (names-next c.args.path.now c.args.depth c.loop-k.k c.name-name.result i.from (omega arith) (c.name-name.ensures [])));
     }
