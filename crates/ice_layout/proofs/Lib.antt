@@ -1,2 +1,3 @@
+pub mod HeaderLaws
 pub mod SubLaws
 pub mod SuperLaws
