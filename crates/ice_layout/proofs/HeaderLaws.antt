@@ -1,5 +1,5 @@
 -- Gates and headers that were written or read.
-use Rattle.std.proofs.Common.{◌≡◌, ◌≢◌, ◌≤◌, ◌<◌, ◌+◌, ◌-◌, ◌*◌, ◌++◌, ◌&&◌, ◌==◌, ℕ, zero, suc, Bool, true, false, not, cond, eqb, List, [], ◌∷◌, length, map, take, replicate, slice_index, slice_set, get_or, Option, Some, None, refl, rules, sym, ap, ◌∙◌, subst, inl, inr, append_assoc, arith}
+use Rattle.std.proofs.Common.{◌≡◌, ◌≢◌, ◌≤◌, ◌<◌, ◌+◌, ◌-◌, ◌*◌, ◌++◌, ◌&&◌, ◌==◌, ℕ, zero, suc, Bool, true, false, not, cond, eqb, List, [], ◌∷◌, length, map, take, replicate, slice_index, slice_set, get_or, Option, Some, None, refl, rules, sym, ap, ◌∙◌, subst, inl, inr, ◌⊎◌, append_assoc, arith}
 use Rattle.std.specs.Prelude.{if◌then◌else◌, unwrap_or, ◌↔◌, nat_eq}
 use Rattle.std.specs.List.{list_all, range_with_len, IsDistinct, AllByRecursion}
 use Rattle.std.specs.Ordering.{nat_cmp}
@@ -7,12 +7,14 @@ use Rattle.std.specs.List.Sorted.{IsPermutation, IsSorted, IsStrictlyIncreasing,
 use Rattle.std.specs.Option.{option_map}
 use Rattle.std.proofs.lemmas.Bool.Decides.{nat_tests}
 use Rattle.std.proofs.lemmas.Grind.{elements, common_steps}
-use Rattle.std.proofs.lemmas.List.{ext_get_or, length-take-le}
+use Rattle.std.proofs.lemmas.List.{ext_get_or, length-take, length-take-le, length-append, length-replicate, get_or-take}
 use Rattle.std.proofs.lemmas.List.FromFn.{length-map-range_with_len, get_or-map-range_with_len, map-range_with_len_more}
 use Rattle.std.proofs.lemmas.List.Sorted.{IsNonDecreasingBy-from_sort, IsPermutation-sym}
 use Rattle.std.proofs.lemmas.Map.Keys.{IsDistinct-IsPermutation, IsStrictlyIncreasing-from_distinct}
 use Rattle.std.proofs.Math.Seq.{set-append_seam, take-append_seam}
-use Rattle.ice_base.specs.Fields.{word_at, WordSet}
+use Rattle.ice_base.specs.Fields.{word_at, WordSet, SameBeside}
+use Rattle.ice_base.proofs.FieldLaws.{word-beside}
+use Rattle.ice_layout.proofs.SuperLaws.{zero_at}
 use Rattle.ice_base.specs.Lots.{LotView, is_address}
 use Rattle.ice_base.specs.Spare.{has}
 use Rattle.ice_layout.specs.Geometry.{zero_block, between}
@@ -233,3 +235,78 @@ module _ (lot : LotView) (bytes : List ℕ) (n : ℕ) (mark : (word_at bytes 0 =
     read_right right =
         let us : take n xs ≡ targets_in bytes n = ap (λ (x : List ℕ). take n x) all ∙ taken bytes n in
         subst (λ (x : List ℕ). AreTargets lot x) (sym us) (slot_targets_right lot bytes (targets_in bytes n) (accepted right))
+
+-- ---- what was written
+
+taken-said : (header : List ℕ) (n : ℕ) (xs : List ℕ) → n ≤ length xs → ((i : ℕ) → i < n → word_at header (16 + 4 * i) ≡ slice_index xs i) → targets_in header n ≡ take n xs
+taken-said header n xs few same =
+    let long = targets-length header n in
+    let short : length (take n xs) ≡ n = length-take-le n xs few in
+    ext_get_or 0 (targets_in header n) (take n xs) (long ∙ sym short)
+    (λ i h. let less : i < n = omega (arith, h, long) in target-at header n i less ∙ same i less ∙ sym (get_or-take n xs i 0 less))
+
+room-said : (header : Header) → IsProperHeader header → header.count ≤ 240 → length header.targets ≡ 240
+room-said header proper few =
+    let ts = targets_said header in
+    let short : length ts ≤ 240 = omega (arith, length-take header.count header.targets) in
+    let whole : header.targets ≡ filled ts = ap (λ (h : Header). h.targets) proper.rest in
+    ap (λ (xs : List ℕ). length xs) whole ∙ (omega (arith, length-append ts (replicate (240 - length ts) 0), length-replicate {A = ℕ} (240 - length ts) 0))
+
+-- one more target written
+pub write-more : (header : Header) (b0 b b' : List ℕ) (n v : ℕ) → ((i : ℕ) → i < n → word_at b (16 + 4 * i) ≡ slice_index header.targets i) → SameBeside 16 (4 * n) b0 b → WordSet b (16 + 4 * n) v b' → v ≡ slice_index header.targets n
+    → ((i : ℕ) → i < n + 1 → word_at b' (16 + 4 * i) ≡ slice_index header.targets i) × SameBeside 16 (4 * (n + 1)) b0 b'
+write-more header b0 b b' n v said others w is = (
+  λ i h. elim (below-or-last i n h) [
+    | inl less ↦ word-beside b b' (16 + 4 * n) 4 (16 + 4 * i) w.others (inl (omega (arith, less))) ∙ said i less
+    | inr last ↦ subst (λ (k : ℕ). word_at b' (16 + 4 * k) ≡ slice_index header.targets k) (sym last) (w.value ∙ is)
+  ],
+  λ k apart. w.others k (beside k apart) ∙ others k (far k apart))
+  where
+    below-or-last : (i n : ℕ) → i < n + 1 → (i < n) ⊎ (i ≡ n)
+    below-or-last i n h = grind arith
+    beside : (k : ℕ) → (k < 16) ⊎ (16 + 4 * (n + 1) ≤ k) → (k < 16 + 4 * n) ⊎ (16 + 4 * n + 4 ≤ k)
+    beside k (inl h) = inl (omega (arith, h))
+    beside k (inr h) = inr (omega (arith, h))
+    far : (k : ℕ) → (k < 16) ⊎ (16 + 4 * (n + 1) ≤ k) → (k < 16) ⊎ (16 + 4 * n ≤ k)
+    far k (inl h) = inl h
+    far k (inr h) = inr (omega (arith, h))
+
+module _ (slot : ℕ) (header : Header) (b1 b2 b3 b4 : List ℕ) (w1 : WordSet zero_block 0 slot_magic b1) (long : length b1 ≡ 1024) (is : b2 ≡ slice_set b1 4 slot) (n : ℕ) (same : n ≡ header.count) (w3 : WordSet b2 8 n b3)
+    (targets : (i : ℕ) → i < header.count → word_at b4 (16 + 4 * i) ≡ slice_index header.targets i) (others : SameBeside 16 (4 * header.count) b3 b4) where
+  set-beside : SameBeside 4 1 b1 b2
+  set-beside k apart = let e : b2 ≡ slice_set b1 4 slot = is in grind (arith, elements)
+
+  magic : word_at b4 0 ≡ slot_magic
+  magic = word-beside b3 b4 16 (4 * header.count) 0 others (inl (omega arith)) ∙ word-beside b2 b3 8 4 0 w3.others (inl (omega arith)) ∙ word-beside b1 b2 4 1 0 set-beside (inl (omega arith)) ∙ w1.value
+
+  slot-there : slice_index b4 4 ≡ slot
+  slot-there = others 4 (inl (omega arith)) ∙ w3.others 4 (inl (omega arith)) ∙ rw is (let l = long in grind (arith, elements))
+
+  count-there : word_at b4 8 ≡ header.count
+  count-there = word-beside b3 b4 16 (4 * header.count) 8 others (inl (omega arith)) ∙ w3.value ∙ same
+
+  zero-before : (k : ℕ) → 5 ≤ k → k < 8 ⊎ 12 ≤ k → slice_index b3 k ≡ 0
+  zero-before k low apart = w3.others k (by apart) ∙ set-beside k (inr (omega arith)) ∙ w1.others k (inr (omega arith)) ∙ zero_at k
+    where
+      by : (k < 8) ⊎ (12 ≤ k) → (k < 8) ⊎ (8 + 4 ≤ k)
+      by (inl h) = inl h
+      by (inr h) = inr (omega (arith, h))
+
+  pub header_zeros : HeaderZeros header.count b4
+  header_zeros = record {
+    slot = λ k low high. others k (inl (omega arith)) ∙ zero-before k low (inl high);
+    count = λ k low high. others k (inl high) ∙ zero-before k (omega arith) (inr low);
+    targets = λ k low. others k (inr low) ∙ zero-before k (omega arith) (inr (omega arith));
+  }
+
+  pub header_written : IsProperHeader header → (lot : LotView) → lot.slot ≡ slot → list_all (is_address lot) (targets_said header) ≡ true → header_of lot b4 ≡ Some header
+  unfolding slot_targets
+  header_written proper lot of homes =
+      let number : between 1 240 header.count ≡ true = proper.number in
+      let few : header.count ≤ 240 = grind (arith, nat_tests) in
+      let room = room-said header proper few in
+      let us : targets_in b4 header.count ≡ targets_said header = taken-said b4 header.count header.targets (omega arith) targets in
+      let m : (word_at b4 0 == slot_magic && slice_index b4 4 == lot.slot) ≡ true = rw (magic, slot-there, of) (grind (arith, nat_tests)) in
+      let right : (list_all (is_address lot) (targets_in b4 header.count) && all_differ (targets_in b4 header.count)) ≡ true = rw (us, homes) proper.differ in
+      let all : slot_targets lot b4 ≡ Some (targets_in b4 (word_at b4 8)) = rw (m, count-there, number, right) refl in
+      rw (all, count-there, us) (ap (λ (h : Header). Some h) (sym proper.rest))

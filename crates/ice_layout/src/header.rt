@@ -1,10 +1,10 @@
 //! The gate and the header of a cube's journal.
-ghost use Rattle.std.specs.Prelude.{◌≡◌, ◌≤◌, ◌==◌, ◌&&◌, IfSome, IsTrue, ◌↔◌, take, slice_index};
+ghost use Rattle.std.specs.Prelude.{◌≡◌, ◌≤◌, ◌<◌, ◌+◌, ◌*◌, ◌==◌, ◌&&◌, ℕ, true, Some, IfSome, IsTrue, ◌↔◌, take, slice_index};
 ghost use Rattle.std.specs.List.{list_all};
 ghost use Rattle.std.specs.List.Sorted.{IsStrictlyIncreasing};
-ghost use Rattle.ice_base.specs.Fields.{word_at};
-ghost use Rattle.ice_base.specs.Lots.{is_address};
-ghost use Rattle.ice_layout.specs.Headers.{is_open, gate_block, slot_magic, header_of, targets_said, targets_in, all_differ, AreTargets, filled};
+ghost use Rattle.ice_base.specs.Fields.{word_at, SameBeside};
+ghost use Rattle.ice_base.specs.Lots.{LotView, is_address};
+ghost use Rattle.ice_layout.specs.Headers.{is_open, gate_block, slot_magic, header_of, targets_said, targets_in, all_differ, AreTargets, IsProperHeader, HeaderZeros, filled};
 
 use crate::sub::byte_if;
 use crate::superblock::is_between;
@@ -109,4 +109,32 @@ pub fn read_header(from: &Block, lot: &Lot) -> Option<Header>
         count: count as u16,
         targets,
     })
+}
+
+fn write_targets(header: &Header, into: &mut Block)
+    requires { header.now.count ≤ 240 }
+    ensures targets { (i : ℕ) → i < header.now.count
+        → word_at into.new (16 + 4 * i) ≡ slice_index header.now.targets i }
+    ensures others { SameBeside 16 (4 * header.now.count) into.old into.new }
+{
+    for i in 0..header.count as usize {
+        write_u32(into, 16 + 4 * i, header.targets[i]);
+    }
+}
+
+/// Writes the header of a slot's journal: `IceJ`, the slot in the byte at 4, the number of targets in four bytes at 8, the targets in
+/// four bytes each from 16 on, and zeros. Each lot of the slot that has the targets reads it back.
+pub fn write_header(slot: u8, header: &Header, into: &mut Block)
+    requires slot { slot < 16 }
+    requires proper { IsProperHeader header.now }
+    ensures header { (lot : LotView) → lot.slot ≡ slot
+        → list_all (is_address lot) (targets_said header.now) ≡ true
+        → header_of lot into.new ≡ Some header.now }
+    ensures zeros { HeaderZeros header.now.count into.new }
+{
+    *into = [0; 1024];
+    write_u32(into, 0, MAGIC);
+    into[4] = slot;
+    write_u32(into, 8, u32::from(header.count));
+    write_targets(header, into);
 }

@@ -11,10 +11,6 @@ use Rattle.ice_tables.specs.Journals.{is_open, slot_targets, system_targets, eff
 use Rattle.ice_tables.specs.Tables.{Tables, Row, mark_at, length_at, text_at, owner_byte, ordinal_byte, row_of, tables_in}
 use Rattle.ice_tables.specs.Lots.{groups_of, lot_of}
 
--- four bytes of a small number
-abbrev word : ℕ → List ℕ
-word n = n ∷ 0 ∷ 0 ∷ 0 ∷ []
-
 -- ---- rows and owners
 
 -- the blocks of the tables: slot 5 has `/home`, group 257 is the third of slot 5
@@ -65,50 +61,6 @@ groups_in_order = (refl, refl)
 lot_of_slot_1 : lot_of shared 1 ≡ record { slot = 1; base = 544; groups = 4 ∷ 0 ∷ 2 ∷ [] }
 unfolding groups_of
 lot_of_slot_1 = refl
-
--- ---- headers
-
--- a lot of one group
-abbrev lot : LotView
-lot = record { slot = 1; base = 544; groups = 0 ∷ [] }
-
--- a header of slot 1 with this number and these targets
-abbrev header : ℕ → List (List ℕ) → List ℕ
-header count targets = 0x49 ∷ 0x63 ∷ 0x65 ∷ 0x4a ∷ 1 ∷ 0 ∷ 0 ∷ 0 ∷ (word count ++ (word 0 ++ flat_map (λ (t : List ℕ). t) targets))
-
--- the bytes of the address of the sub-super block
-abbrev sub_word : List ℕ
-sub_word = 0xff ∷ 0xff ∷ 0xff ∷ 0xff ∷ []
-
-targets_of_a_lot : slot_targets lot (header 3 (word 9 ∷ sub_word ∷ word 0 ∷ word 7 ∷ [])) ≡ Some (9 ∷ sub_address ∷ 0 ∷ [])
-unfolding slot_targets word_at is_address has
-targets_of_a_lot = refl
-
-headers_refused :
-    (slot_targets lot (slice_set (header 1 (word 9 ∷ [])) 3 0x4b) ≡ None)
-    × (slot_targets lot (slice_set (header 1 (word 9 ∷ [])) 4 0) ≡ None)
-    × (slot_targets lot (header 0 []) ≡ None)
-    × (slot_targets lot (header 2 (word 9 ∷ word 9 ∷ [])) ≡ None)
-    × (slot_targets lot (header 1 ((0 ∷ 1 ∷ 0 ∷ 0 ∷ []) ∷ [])) ≡ None)
-    × (slot_targets lot (header 241 (map (λ k. k ∷ 0 ∷ 0 ∷ 0 ∷ []) (range_with_len 0 241))) ≡ None)
-unfolding slot_targets word_at is_address has
-headers_refused = (refl, refl, refl, refl, refl, refl)
-
--- a header of the tables with this number and these targets
-abbrev system_header : ℕ → List (List ℕ) → List ℕ
-system_header count targets = 0x49 ∷ 0x63 ∷ 0x65 ∷ 0x53 ∷ (word 0 ++ (word count ++ (word 0 ++ flat_map (λ (t : List ℕ). t) targets)))
-
-targets_of_the_tables : system_targets (system_header 2 (word 18 ∷ word 11 ∷ [])) ≡ Some (18 ∷ 11 ∷ [])
-unfolding system_targets word_at has
-targets_of_the_tables = refl
-
-system_headers_refused :
-    (system_targets (system_header 1 (word 10 ∷ [])) ≡ None)
-    × (system_targets (system_header 1 (word 19 ∷ [])) ≡ None)
-    × (system_targets (system_header 9 (map word (range_with_len 11 9))) ≡ None)
-    × (system_targets (slice_set (system_header 1 (word 11 ∷ [])) 0 0) ≡ None)
-unfolding system_targets word_at has
-system_headers_refused = (refl, refl, refl, refl)
 
 -- ---- gates
 
