@@ -236,6 +236,26 @@ module _ (lot : LotView) (bytes : List ℕ) (n : ℕ) (mark : (word_at bytes 0 =
         let us : take n xs ≡ targets_in bytes n = ap (λ (x : List ℕ). take n x) all ∙ taken bytes n in
         subst (λ (x : List ℕ). AreTargets lot x) (sym us) (slot_targets_right lot bytes (targets_in bytes n) (accepted right))
 
+header-said : (o : Option (List ℕ)) (h : Header) → option_map (λ ts. header_with ts) o ≡ Some h → o ≡ Some (targets_said h)
+header-said None h e = absurd (cc e)
+header-said (Some ts) h e =
+    let is : h ≡ header_with ts = header-of (header_with ts) h e in
+    ap (λ (xs : List ℕ). Some xs) (sym (take-filled ts) ∙ ap (λ (g : Header). targets_said g) (sym is))
+  where
+    header-of : (g h : Header) → Some g ≡ Some h → h ≡ g
+    header-of g h e = sym (ap (λ o. unwrap_or o g) e)
+
+-- the targets of a header that is read are those of the bytes
+pub said_targets : (lot : LotView) (bytes : List ℕ) (h : Header) → Some h ≡ header_of lot bytes → slot_targets lot bytes ≡ Some (targets_said h)
+said_targets lot bytes h e = header-said (slot_targets lot bytes) h (sym e)
+
+no-header : (o : Option (List ℕ)) → option_map (λ ts. header_with ts) o ≡ None → o ≡ None
+no-header None e = refl
+no-header (Some ts) e = absurd (cc e)
+
+pub no_targets : (lot : LotView) (bytes : List ℕ) → None ≡ header_of lot bytes → slot_targets lot bytes ≡ None
+no_targets lot bytes e = no-header (slot_targets lot bytes) (sym e)
+
 -- ---- what was written
 
 taken-said : (header : List ℕ) (n : ℕ) (xs : List ℕ) → n ≤ length xs → ((i : ℕ) → i < n → word_at header (16 + 4 * i) ≡ slice_index xs i) → targets_in header n ≡ take n xs

@@ -93,6 +93,7 @@ fn are_targets(targets: &[u32; 240], count: usize, lot: &Lot) -> bool
 pub fn read_header(from: &Block, lot: &Lot) -> Option<Header>
     ensures header { result ≡ header_of lot.now from.now }
     ensures targets { IfSome result (λ header. AreTargets lot.now (targets_said header)) }
+    ensures count { IfSome result (λ header. (1 ≤ header.count) × (header.count ≤ 240)) }
 {
     if !is_of_lot(from, lot) {
         return None;
