@@ -1,5 +1,5 @@
 -- Where journals lie, and which blocks an open one shows.
-use Rattle.std.proofs.Common.{◌≡◌, ◌≤◌, ◌<◌, ◌+◌, ◌*◌, ◌==◌, ℕ, zero, suc, Bool, true, false, List, [], ◌∷◌, length, slice_index, Option, Some, None, refl, sym, ap, ◌∙◌, subst, arith}
+use Rattle.std.proofs.Common.{◌≡◌, ◌≤◌, ◌<◌, ◌+◌, ◌*◌, ℕ, zero, suc, Bool, true, false, List, [], ◌∷◌, length, slice_index, Option, Some, None, refl, sym, ap, ◌∙◌, subst, arith}
 use Rattle.std.specs.Prelude.{◌≢◌, if◌then◌else◌, unwrap_or}
 use Rattle.std.specs.Option.{option_map}
 use Rattle.std.proofs.Math.Path.{fun_ext}
@@ -9,7 +9,7 @@ use Rattle.ice_base.specs.Lots.{LotView, is_address, is_sited, place, gate_place
 use Rattle.ice_base.proofs.LotLaws.{sited-below, area_below, inside_at}
 use Rattle.ice_layout.specs.Headers.{is_open, slot_targets}
 use Rattle.ice_tables.specs.Journals.{lot_places, replayed, effective_of}
-use Rattle.ice_journal.specs.Shown.{targets_now, shown, source, are_some}
+use Rattle.ice_journal.specs.Shown.{targets_now, shown, source}
 
 pub sited_area : (lot : LotView) (n : ℕ) → is_sited lot n ≡ true → 32 + 256 * lot.slot + 256 ≤ n
 sited_area lot n h = area_below lot n (sited-below lot n h)

@@ -83,7 +83,7 @@ impl Effective {
             → IfOk result (λ v. targets_now lot.now (D.state disk.old).now ≡ Some v) }
         ensures effective { (D.state disk.old).tells ≡ true
             → IfOk result (λ v. effective_of lot.now (D.state disk.old).now
-                ≡ Some (shown v lot.now (D.state disk.new).now)) }
+            ≡ Some (shown v lot.now (D.state disk.new).now)) }
         ensures pending { (D.state disk.old).tells ≡ true
             → IfOk result (λ v. are_some v ≡ is_open (block (D.state disk.old).now (gate_place lot.now))) }
         ensures refused { (D.state disk.old).tells ≡ true → IsErrOf result FaultHeader

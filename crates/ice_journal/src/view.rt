@@ -4,8 +4,8 @@ ghost use Rattle.ice_base.specs.Lots.{place, inside_out};
 ghost use Rattle.ice_tables.specs.Journals.{lot_places, replayed};
 ghost use Rattle.ice_journal.specs.Shown.{shown, Same, same_refl, same_then};
 
-use crate::effective::look;
 use crate::Effective;
+use crate::effective::look;
 use ice_base::{Block, BlockFault, Disk, Lot, View};
 
 // What is read are blocks of the disk itself, so it shows what the lot holds where the disk tells.

@@ -1,12 +1,12 @@
 -- Gates and headers that were written or read.
-use Rattle.std.proofs.Common.{◌≡◌, ◌≢◌, ◌≤◌, ◌<◌, ◌+◌, ◌-◌, ◌*◌, ◌++◌, ◌&&◌, ◌==◌, ℕ, zero, suc, Bool, true, false, not, cond, eqb, List, [], ◌∷◌, length, map, take, replicate, slice_index, slice_set, get_or, Option, Some, None, refl, rules, sym, ap, ◌∙◌, subst, inl, inr, ◌⊎◌, append_assoc, arith}
-use Rattle.std.specs.Prelude.{if◌then◌else◌, unwrap_or, ◌↔◌, nat_eq}
-use Rattle.std.specs.List.{list_all, range_with_len, IsDistinct, AllByRecursion}
+use Rattle.std.proofs.Common.{◌≡◌, ◌≢◌, ◌≤◌, ◌<◌, ◌+◌, ◌-◌, ◌*◌, ◌++◌, ◌&&◌, ◌==◌, ℕ, zero, suc, Bool, true, false, cond, eqb, List, [], ◌∷◌, length, take, replicate, slice_index, slice_set, Option, Some, None, refl, sym, ap, ◌∙◌, subst, inl, inr, ◌⊎◌, append_assoc, arith}
+use Rattle.std.specs.Prelude.{if◌then◌else◌, unwrap_or}
+use Rattle.std.specs.List.{list_all, IsDistinct, AllByRecursion}
 use Rattle.std.specs.Ordering.{nat_cmp}
-use Rattle.std.specs.List.Sorted.{IsPermutation, IsSorted, IsStrictlyIncreasing, IsNonDecreasing}
+use Rattle.std.specs.List.Sorted.{IsPermutation, IsSorted, IsStrictlyIncreasing}
 use Rattle.std.specs.Option.{option_map}
 use Rattle.std.proofs.lemmas.Bool.Decides.{nat_tests}
-use Rattle.std.proofs.lemmas.Grind.{elements, common_steps}
+use Rattle.std.proofs.lemmas.Grind.{elements}
 use Rattle.std.proofs.lemmas.List.{ext_get_or, length-take, length-take-le, length-append, length-replicate, get_or-take}
 use Rattle.std.proofs.lemmas.List.FromFn.{length-map-range_with_len, get_or-map-range_with_len, map-range_with_len_more}
 use Rattle.std.proofs.lemmas.List.Sorted.{IsNonDecreasingBy-from_sort, IsPermutation-sym}
@@ -280,13 +280,16 @@ write-more header b0 b b' n v said others w is = (
     | inl less ↦ word-beside b b' (16 + 4 * n) 4 (16 + 4 * i) w.others (inl (omega (arith, less))) ∙ said i less
     | inr last ↦ subst (λ (k : ℕ). word_at b' (16 + 4 * k) ≡ slice_index header.targets k) (sym last) (w.value ∙ is)
   ],
-  λ k apart. w.others k (beside k apart) ∙ others k (far k apart))
+  λ k apart. w.others k (beside k apart) ∙ others k (far k apart),
+)
   where
     below-or-last : (i n : ℕ) → i < n + 1 → (i < n) ⊎ (i ≡ n)
     below-or-last i n h = grind arith
+
     beside : (k : ℕ) → (k < 16) ⊎ (16 + 4 * (n + 1) ≤ k) → (k < 16 + 4 * n) ⊎ (16 + 4 * n + 4 ≤ k)
     beside k (inl h) = inl (omega (arith, h))
     beside k (inr h) = inr (omega (arith, h))
+
     far : (k : ℕ) → (k < 16) ⊎ (16 + 4 * (n + 1) ≤ k) → (k < 16) ⊎ (16 + 4 * n ≤ k)
     far k (inl h) = inl h
     far k (inr h) = inr (omega (arith, h))

@@ -1,5 +1,5 @@
 -- Worked examples: what bytes say as gates and headers, and what is written.
-use Rattle.std.proofs.Common.{◌≡◌, ℕ, Bool, true, false, List, [], ◌∷◌, ◌++◌, refl, None, Some}
+use Rattle.std.proofs.Common.{◌≡◌, ℕ, true, false, List, [], ◌∷◌, ◌++◌, refl, None, Some}
 use Rattle.std.specs.Prelude.{map, replicate, slice_set}
 use Rattle.std.specs.List.{range_with_len, flat_map}
 use Rattle.ice_base.specs.Fields.{word_at}
@@ -63,7 +63,6 @@ system_headers_refused :
     × (system_targets (slice_set (system_header 1 (word 11 ∷ [])) 0 0) ≡ None)
 unfolding system_targets word_at has
 system_headers_refused = (refl, refl, refl, refl)
-
 
 -- what is read: the number, the targets, and zeros after them
 said_of_a_lot : header_of lot (header 2 (word 9 ∷ sub_word ∷ word 7 ∷ [])) ≡ Some (record { count = 2; targets = 9 ∷ sub_address ∷ replicate 238 0 })

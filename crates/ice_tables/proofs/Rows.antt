@@ -1,16 +1,16 @@
 -- Worked examples: what bytes say of rows, owners and open gates.
-use Rattle.std.proofs.Common.{◌≡◌, ℕ, ◌+◌, ◌-◌, ◌*◌, Bool, true, false, List, [], ◌∷◌, ◌++◌, length, refl, Option, None, Some}
-use Rattle.std.specs.Prelude.{◌==◌, map, replicate, slice_set, if◌then◌else◌}
-use Rattle.std.specs.List.{range_with_len, flat_map}
+use Rattle.std.proofs.Common.{◌≡◌, ℕ, true, false, List, [], ◌∷◌, ◌++◌, refl, Option, None, Some}
+use Rattle.std.specs.Prelude.{◌==◌, map, replicate, if◌then◌else◌}
+use Rattle.std.specs.List.{range_with_len}
 use Rattle.ice_base.specs.Disk.{Image, block}
 use Rattle.ice_base.specs.Fields.{word_at}
-use Rattle.ice_base.specs.Lots.{LotView, sub_address, is_address, place, inside}
+use Rattle.ice_base.specs.Lots.{sub_address, is_address, place, inside}
 use Rattle.ice_base.specs.Spare.{has}
 use Rattle.tree_spec.specs.Names.{names_of}
 use Rattle.ice_layout.specs.Headers.{is_open, slot_targets, system_targets}
 use Rattle.ice_layout.proofs.HeaderRows.{word, lot, header, sub_word, system_header}
 use Rattle.ice_tables.specs.Journals.{effective_of, table_blocks}
-use Rattle.ice_tables.specs.Tables.{Tables, Row, mark_at, length_at, text_at, owner_byte, ordinal_byte, row_of, tables_in}
+use Rattle.ice_tables.specs.Tables.{Tables, row_of, tables_in}
 use Rattle.ice_tables.specs.Lots.{groups_of, lot_of}
 
 -- ---- rows and owners

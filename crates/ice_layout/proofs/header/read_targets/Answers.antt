@@ -1,4 +1,4 @@
-use Rattle.std.proofs.Common.{◌≡◌, ◌-◌, ◌++◌, ℕ, List, replicate, subst, arith}
+use Rattle.std.proofs.Common.{◌≡◌, ◌-◌, ◌++◌, ℕ, replicate, subst, arith}
 use Rattle.ice_layout.specs.Headers.{targets_in}
 use Rattle.ice_layout.proofs.HeaderLaws.{target-set, targets-filled}
 use Rattle.ice_layout.proofs.header.read_targets.Goals as goal

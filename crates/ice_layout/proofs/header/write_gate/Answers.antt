@@ -1,4 +1,4 @@
-use Rattle.std.proofs.Common.{Bool, true, false, ap, ◌∙◌, slice_set, List, ℕ}
+use Rattle.std.proofs.Common.{ap, ◌∙◌, slice_set, ℕ}
 use Rattle.ice_layout.specs.Geometry.{zero_block}
 use Rattle.ice_layout.specs.Headers.{is_open}
 use Rattle.ice_layout.proofs.HeaderLaws.{gate_reads}

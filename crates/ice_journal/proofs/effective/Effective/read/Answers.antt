@@ -1,9 +1,6 @@
-use Rattle.std.proofs.Common.{◌≡◌, List, ℕ, Option, Some, None, ap, sym, ◌∙◌, subst}
+use Rattle.std.proofs.Common.{List, ℕ, Some, ap, sym, ◌∙◌}
 use Rattle.ice_journal.specs.declared.area.Area.{Area}
-use Rattle.ice_base.specs.Disk.{block}
-use Rattle.ice_layout.specs.Headers.{slot_targets}
 use Rattle.ice_layout.proofs.HeaderLaws.{said_targets, no_targets}
-use Rattle.ice_journal.specs.Shown.{targets_now, shown}
 use Rattle.ice_journal.proofs.JournalLaws.{read_closed, read_open, effective_shown, effective_none, shown_same}
 use Rattle.ice_journal.proofs.effective.Effective.read.Goals as goal
 

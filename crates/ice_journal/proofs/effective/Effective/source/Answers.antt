@@ -1,4 +1,4 @@
-use Rattle.std.proofs.Common.{◌≡◌, ◌+◌, ◌*◌, ℕ, sym, ◌∙◌, ap, subst, ◌<◌}
+use Rattle.std.proofs.Common.{◌+◌, ℕ, sym, ◌∙◌, ap, subst, ◌<◌}
 use Rattle.ice_base.specs.Lots.{place}
 use Rattle.ice_base.proofs.LotLaws.{place-sited}
 use Rattle.ice_tables.specs.Journals.{lot_places}
