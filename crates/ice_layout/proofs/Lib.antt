@@ -1,2 +1,4 @@
+pub mod HeaderLaws
+pub mod HeaderRows
 pub mod SubLaws
 pub mod SuperLaws

@@ -1,3 +1,4 @@
 pub mod Geometry
+pub mod Headers
 pub mod Subs
 pub mod Supers

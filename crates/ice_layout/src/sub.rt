@@ -75,7 +75,7 @@ pub fn read_sub(from: &Block, slot: u8) -> Result<SubSuper, Rule>
     })
 }
 
-fn byte_if(holds: bool, byte: u8) -> u8
+pub(crate) fn byte_if(holds: bool, byte: u8) -> u8
     ensures { result ≡ (if holds then byte else 0) }
 {
     if holds { byte } else { 0 }

@@ -60,7 +60,7 @@ fn is_zero_from(block: &Block, at: usize) -> bool
     all_zero(&block[at..])
 }
 
-fn is_between(low: u32, high: u32, number: u32) -> bool
+pub(crate) fn is_between(low: u32, high: u32, number: u32) -> bool
     ensures { result ≡ between low high number }
 {
     low <= number && number <= high

@@ -1,19 +1,17 @@
--- Worked examples: what bytes say of rows, owners, headers and open gates.
-use Rattle.std.proofs.Common.{◌≡◌, ℕ, ◌+◌, ◌-◌, ◌*◌, Bool, true, false, List, [], ◌∷◌, ◌++◌, length, refl, Option, None, Some}
-use Rattle.std.specs.Prelude.{◌==◌, map, replicate, slice_set, if◌then◌else◌}
-use Rattle.std.specs.List.{range_with_len, flat_map}
+-- Worked examples: what bytes say of rows, owners and open gates.
+use Rattle.std.proofs.Common.{◌≡◌, ℕ, true, false, List, [], ◌∷◌, ◌++◌, refl, Option, None, Some}
+use Rattle.std.specs.Prelude.{◌==◌, map, replicate, if◌then◌else◌}
+use Rattle.std.specs.List.{range_with_len}
 use Rattle.ice_base.specs.Disk.{Image, block}
 use Rattle.ice_base.specs.Fields.{word_at}
-use Rattle.ice_base.specs.Lots.{LotView, sub_address, is_address, place, inside}
+use Rattle.ice_base.specs.Lots.{sub_address, is_address, place, inside}
 use Rattle.ice_base.specs.Spare.{has}
 use Rattle.tree_spec.specs.Names.{names_of}
-use Rattle.ice_tables.specs.Journals.{is_open, slot_targets, system_targets, effective_of, table_blocks}
-use Rattle.ice_tables.specs.Tables.{Tables, Row, mark_at, length_at, text_at, owner_byte, ordinal_byte, row_of, tables_in}
+use Rattle.ice_layout.specs.Headers.{is_open, slot_targets, system_targets}
+use Rattle.ice_layout.proofs.HeaderRows.{word, lot, header, sub_word, system_header}
+use Rattle.ice_tables.specs.Journals.{effective_of, table_blocks}
+use Rattle.ice_tables.specs.Tables.{Tables, row_of, tables_in}
 use Rattle.ice_tables.specs.Lots.{groups_of, lot_of}
-
--- four bytes of a small number
-abbrev word : ℕ → List ℕ
-word n = n ∷ 0 ∷ 0 ∷ 0 ∷ []
 
 -- ---- rows and owners
 
@@ -65,50 +63,6 @@ groups_in_order = (refl, refl)
 lot_of_slot_1 : lot_of shared 1 ≡ record { slot = 1; base = 544; groups = 4 ∷ 0 ∷ 2 ∷ [] }
 unfolding groups_of
 lot_of_slot_1 = refl
-
--- ---- headers
-
--- a lot of one group
-abbrev lot : LotView
-lot = record { slot = 1; base = 544; groups = 0 ∷ [] }
-
--- a header of slot 1 with this number and these targets
-abbrev header : ℕ → List (List ℕ) → List ℕ
-header count targets = 0x49 ∷ 0x63 ∷ 0x65 ∷ 0x4a ∷ 1 ∷ 0 ∷ 0 ∷ 0 ∷ (word count ++ (word 0 ++ flat_map (λ (t : List ℕ). t) targets))
-
--- the bytes of the address of the sub-super block
-abbrev sub_word : List ℕ
-sub_word = 0xff ∷ 0xff ∷ 0xff ∷ 0xff ∷ []
-
-targets_of_a_lot : slot_targets lot (header 3 (word 9 ∷ sub_word ∷ word 0 ∷ word 7 ∷ [])) ≡ Some (9 ∷ sub_address ∷ 0 ∷ [])
-unfolding slot_targets word_at is_address has
-targets_of_a_lot = refl
-
-headers_refused :
-    (slot_targets lot (slice_set (header 1 (word 9 ∷ [])) 3 0x4b) ≡ None)
-    × (slot_targets lot (slice_set (header 1 (word 9 ∷ [])) 4 0) ≡ None)
-    × (slot_targets lot (header 0 []) ≡ None)
-    × (slot_targets lot (header 2 (word 9 ∷ word 9 ∷ [])) ≡ None)
-    × (slot_targets lot (header 1 ((0 ∷ 1 ∷ 0 ∷ 0 ∷ []) ∷ [])) ≡ None)
-    × (slot_targets lot (header 241 (map (λ k. k ∷ 0 ∷ 0 ∷ 0 ∷ []) (range_with_len 0 241))) ≡ None)
-unfolding slot_targets word_at is_address has
-headers_refused = (refl, refl, refl, refl, refl, refl)
-
--- a header of the tables with this number and these targets
-abbrev system_header : ℕ → List (List ℕ) → List ℕ
-system_header count targets = 0x49 ∷ 0x63 ∷ 0x65 ∷ 0x53 ∷ (word 0 ++ (word count ++ (word 0 ++ flat_map (λ (t : List ℕ). t) targets)))
-
-targets_of_the_tables : system_targets (system_header 2 (word 18 ∷ word 11 ∷ [])) ≡ Some (18 ∷ 11 ∷ [])
-unfolding system_targets word_at has
-targets_of_the_tables = refl
-
-system_headers_refused :
-    (system_targets (system_header 1 (word 10 ∷ [])) ≡ None)
-    × (system_targets (system_header 1 (word 19 ∷ [])) ≡ None)
-    × (system_targets (system_header 9 (map word (range_with_len 11 9))) ≡ None)
-    × (system_targets (slice_set (system_header 1 (word 11 ∷ [])) 0 0) ≡ None)
-unfolding system_targets word_at has
-system_headers_refused = (refl, refl, refl, refl)
 
 -- ---- gates
 

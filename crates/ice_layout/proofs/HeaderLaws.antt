@@ -1,0 +1,335 @@
+-- Gates and headers that were written or read.
+use Rattle.std.proofs.Common.{◌≡◌, ◌≢◌, ◌≤◌, ◌<◌, ◌+◌, ◌-◌, ◌*◌, ◌++◌, ◌&&◌, ◌==◌, ℕ, zero, suc, Bool, true, false, cond, eqb, List, [], ◌∷◌, length, take, replicate, slice_index, slice_set, Option, Some, None, refl, sym, ap, ◌∙◌, subst, inl, inr, ◌⊎◌, append_assoc, arith}
+use Rattle.std.specs.Prelude.{if◌then◌else◌, unwrap_or}
+use Rattle.std.specs.List.{list_all, IsDistinct, AllByRecursion}
+use Rattle.std.specs.Ordering.{nat_cmp}
+use Rattle.std.specs.List.Sorted.{IsPermutation, IsSorted, IsStrictlyIncreasing}
+use Rattle.std.specs.Option.{option_map}
+use Rattle.std.proofs.lemmas.Bool.Decides.{nat_tests}
+use Rattle.std.proofs.lemmas.Grind.{elements}
+use Rattle.std.proofs.lemmas.List.{ext_get_or, length-take, length-take-le, length-append, length-replicate, get_or-take}
+use Rattle.std.proofs.lemmas.List.FromFn.{length-map-range_with_len, get_or-map-range_with_len, map-range_with_len_more}
+use Rattle.std.proofs.lemmas.List.Sorted.{IsNonDecreasingBy-from_sort, IsPermutation-sym}
+use Rattle.std.proofs.lemmas.Map.Keys.{IsDistinct-IsPermutation, IsStrictlyIncreasing-from_distinct}
+use Rattle.std.proofs.Math.Seq.{set-append_seam, take-append_seam}
+use Rattle.ice_base.specs.Fields.{word_at, WordSet, SameBeside}
+use Rattle.ice_base.proofs.FieldLaws.{word-beside}
+use Rattle.ice_layout.proofs.SuperLaws.{zero_at}
+use Rattle.ice_base.specs.Lots.{LotView, is_address}
+use Rattle.ice_base.specs.Spare.{has}
+use Rattle.ice_layout.specs.Geometry.{zero_block, between}
+use Rattle.ice_layout.specs.Headers.{is_open, gate_block, slot_magic, system_magic, is_table, all_differ, targets_in, targets_of, slot_targets, system_targets, filled, header_with, header_of, targets_said, AreTargets, IsProperHeader, HeaderZeros}
+use Rattle.ice_layout.specs.declared.header.Header.{Header}
+
+-- ---- gates
+
+pub gate_reads : (on : Bool) → is_open (gate_block on) ≡ on
+unfolding is_open
+gate_reads true = refl
+gate_reads false = refl
+
+-- ---- the targets of a header
+
+targets-more : (header : List ℕ) (n : ℕ) → targets_in header (n + 1) ≡ targets_in header n ++ word_at header (16 + 4 * n) ∷ []
+targets-more header n = map-range_with_len_more (λ i. word_at header (16 + 4 * i)) 0 n n (omega arith)
+
+pub targets-length : (header : List ℕ) (n : ℕ) → length (targets_in header n) ≡ n
+targets-length header n = length-map-range_with_len (λ i. word_at header (16 + 4 * i)) 0 n
+
+pub target-at : (header : List ℕ) (n i : ℕ) → i < n → slice_index (targets_in header n) i ≡ word_at header (16 + 4 * i)
+target-at header n i h = get_or-map-range_with_len (λ i. word_at header (16 + 4 * i)) 0 n i i 0 h (omega arith)
+
+-- one more target in its place
+pub target-set : (header : List ℕ) (n v : ℕ) (xs : List ℕ) → n < 240 → v ≡ word_at header (16 + 4 * n) → xs ≡ targets_in header n ++ replicate (240 - n) 0
+    → slice_set xs n v ≡ targets_in header (n + 1) ++ replicate (240 - (n + 1)) 0
+target-set header n v xs less is e =
+    let ts = targets_in header n in
+    let rest : List ℕ = replicate (240 - (n + 1)) 0 in
+    let one : 240 - n ≡ suc (240 - (n + 1)) = omega arith in
+    let zeros : replicate (240 - n) 0 ≡ 0 ∷ rest = ap (λ (k : ℕ). replicate k 0) one in
+    let seam : slice_set (ts ++ 0 ∷ rest) n v ≡ ts ++ v ∷ rest = subst (λ (k : ℕ). slice_set (ts ++ 0 ∷ rest) k v ≡ ts ++ v ∷ rest) (targets-length header n) (set-append_seam ts 0 rest v) in
+    let word : ts ++ v ∷ [] ≡ targets_in header (n + 1) = ap (λ (w : ℕ). ts ++ w ∷ []) is ∙ sym (targets-more header n) in
+    ap (λ (x : List ℕ). slice_set x n v) (e ∙ ap (λ (r : List ℕ). ts ++ r) zeros) ∙ seam ∙ sym (append_assoc ts (v ∷ []) rest) ∙ ap (λ (x : List ℕ). x ++ rest) word
+
+pub targets-filled : (header : List ℕ) (n : ℕ) (xs : List ℕ) → xs ≡ targets_in header n ++ replicate (240 - n) 0 → xs ≡ filled (targets_in header n)
+targets-filled header n xs e = e ∙ ap (λ (k : ℕ). targets_in header n ++ replicate (240 - k) 0) (sym (targets-length header n))
+
+-- ---- numbers that differ
+
+none-has : (x : ℕ) (xs : List ℕ) → AllByRecursion (λ y. eqb x y ≡ false) xs → has xs x ≡ false
+unfolding has
+none-has x [] h = refl
+none-has x (y ∷ xs) h = let here = h.0 in let rest = none-has x xs h.1 in grind (arith, nat_tests)
+
+has-none : (x : ℕ) (xs : List ℕ) → has xs x ≡ false → AllByRecursion (λ y. eqb x y ≡ false) xs
+unfolding has
+has-none x [] h = _
+has-none x (y ∷ xs) h = (grind (arith, nat_tests), has-none x xs (grind (arith, nat_tests)))
+
+pub distinct-differ : (xs : List ℕ) → IsDistinct eqb xs → all_differ xs ≡ true
+unfolding IsDistinct
+distinct-differ [] h = refl
+distinct-differ (x ∷ xs) h = let here = none-has x xs h.0 in let rest = distinct-differ xs h.1 in grind arith
+
+pub differ-distinct : (xs : List ℕ) → all_differ xs ≡ true → IsDistinct eqb xs
+unfolding IsDistinct
+differ-distinct [] h = _
+differ-distinct (x ∷ xs) h = (has-none x xs (grind arith), differ-distinct xs (grind arith))
+
+rising-tail : (x : ℕ) (xs : List ℕ) → IsStrictlyIncreasing (x ∷ xs) → IsStrictlyIncreasing xs
+rising-tail x xs up = λ k h. let e : suc k + 1 ≡ suc (k + 1) = omega arith in subst (λ (j : ℕ). slice_index xs k < slice_index (x ∷ xs) j) e (up (suc k) (omega (arith, h)))
+
+above : (x : ℕ) (xs : List ℕ) (y : ℕ) → IsStrictlyIncreasing (x ∷ xs) → y ≤ x → has xs y ≡ false
+unfolding has
+above x [] y up le = refl
+above x (z ∷ xs) y up le =
+    let more : x < z = up 0 (omega arith) in
+    let rest = above z xs y (rising-tail x (z ∷ xs) up) (omega arith) in
+    grind (arith, nat_tests)
+
+rising-differ : (xs : List ℕ) → IsStrictlyIncreasing xs → all_differ xs ≡ true
+rising-differ [] up = refl
+rising-differ (x ∷ xs) up =
+    let here = above x xs x up (omega arith) in
+    let rest = rising-differ xs (rising-tail x xs up) in
+    grind arith
+
+differ-moved : (xs ys : List ℕ) → IsPermutation xs ys → all_differ xs ≡ true → all_differ ys ≡ true
+differ-moved xs ys moved h = distinct-differ ys (IsDistinct-IsPermutation eqb (λ x y. eqb-flip x y) xs ys moved (differ-distinct xs h))
+  where
+    eqb-flip : (x y : ℕ) → eqb x y ≡ eqb y x
+    eqb-flip x y = grind (arith, nat_tests)
+
+-- Numbers differ exactly where they rise once they are sorted.
+pub differ-sorted : (xs ys : List ℕ) (b : Bool) → IsPermutation xs ys → IsSorted nat_cmp ys → (b ≡ true → IsStrictlyIncreasing ys) → (IsStrictlyIncreasing ys → b ≡ true) → b ≡ all_differ xs
+differ-sorted xs ys b moved sorted rise said = by (all_differ xs) refl b refl
+  where
+    by : (a : Bool) → all_differ xs ≡ a → (b2 : Bool) → b ≡ b2 → b ≡ a
+    by true is true t = t
+    by false is false t = t
+    by true is false t = said (IsStrictlyIncreasing-from_distinct ys (IsNonDecreasingBy-from_sort (λ x. x) ys sorted) (differ-distinct ys (differ-moved xs ys moved is)))
+    by false is true t = absurd (let f : all_differ xs ≡ true = differ-moved ys xs (IsPermutation-sym xs ys moved) (rising-differ ys (rise t)) in cc)
+
+-- ---- what was read
+
+if-some : {X : Type 0} (b : Bool) (o : Option X) (x : X) → (if b then o else None) ≡ Some x → (b ≡ true) × (o ≡ Some x)
+if-some true o x e = (refl, e)
+if-some false o x e = absurd (cc e)
+
+some_of : {X : Type 0} (x y : X) → Some x ≡ Some y → y ≡ x
+some_of x y e = sym (ap (λ o. unwrap_or o x) e)
+
+both : (a b : Bool) → (a && b) ≡ true → (a ≡ true) × (b ≡ true)
+both true true h = (refl, refl)
+both true false h = absurd (cc h)
+both false b h = absurd (cc h)
+
+-- what a list of targets that is found has
+record Found (most : ℕ) (home : ℕ → Bool) (header : List ℕ) (n : ℕ) (ts : List ℕ) : Type 0 where
+  pub number : between 1 most n ≡ true
+  pub homes : list_all home ts ≡ true
+  pub differ : all_differ ts ≡ true
+  pub are : ts ≡ targets_in header n
+
+found : (most : ℕ) (home : ℕ → Bool) (header : List ℕ) (n : ℕ) (ts : List ℕ) → targets_of most home header n ≡ Some ts → Found most home header n ts
+found most home header n ts e =
+    let us = targets_in header n in
+    let i = if-some (between 1 most n && (list_all home us && all_differ us)) (Some us) ts e in
+    let fits = both (between 1 most n) (list_all home us && all_differ us) i.0 in
+    let right = both (list_all home us) (all_differ us) fits.1 in
+    let are : ts ≡ us = some_of us ts i.1 in
+    record { number = fits.0; homes = ap (λ (xs : List ℕ). list_all home xs) are ∙ right.0; differ = ap (λ (xs : List ℕ). all_differ xs) are ∙ right.1; are = are }
+
+found-number : (most : ℕ) (home : ℕ → Bool) (header : List ℕ) (n : ℕ) (ts : List ℕ) → Found most home header n ts → (1 ≤ length ts) × (length ts ≤ most)
+found-number most home header n ts f =
+    let number : between 1 most n ≡ true = f.number in
+    let long : length ts ≡ n = ap (λ (xs : List ℕ). length xs) f.are ∙ targets-length header n in
+    let low : 1 ≤ n = grind (arith, nat_tests) in
+    let high : n ≤ most = grind (arith, nat_tests) in
+    (omega arith, omega arith)
+
+-- an accepted header has no more targets than there are bodies
+pub few-slot : (lot : LotView) (header ts : List ℕ) → slot_targets lot header ≡ Some ts → length ts ≤ 240
+unfolding slot_targets
+few-slot lot header ts e =
+    let i = if-some (word_at header 0 == slot_magic && slice_index header 4 == lot.slot) (targets_of 240 (is_address lot) header (word_at header 8)) ts e in
+    (found-number _ _ _ _ ts (found 240 (is_address lot) header (word_at header 8) ts i.1)).1
+
+pub few-system : (header ts : List ℕ) → system_targets header ≡ Some ts → length ts ≤ 8
+unfolding system_targets
+few-system header ts e =
+    let i = if-some (word_at header 0 == system_magic) (targets_of 8 is_table header (word_at header 8)) ts e in
+    (found-number _ _ _ _ ts (found 8 is_table header (word_at header 8) ts i.1)).1
+
+-- ---- what an accepted header has
+
+all-at : (test : ℕ → Bool) (xs : List ℕ) (i : ℕ) → list_all test xs ≡ true → i < length xs → test (slice_index xs i) ≡ true
+all-at test [] i h less = absurd (omega arith)
+all-at test (x ∷ xs) zero h less = (both (test x) (list_all test xs) h).0
+all-at test (x ∷ xs) (suc i) h less = all-at test xs i (both (test x) (list_all test xs) h).1 (omega arith)
+
+not-at : (xs : List ℕ) (x j : ℕ) → has xs x ≡ false → j < length xs → x ≢ slice_index xs j
+unfolding has
+not-at [] x j h less = absurd (omega arith)
+not-at (y ∷ xs) x zero h less = λ e. absurd (let t : cond (y == x) true (has xs x) ≡ false = h in grind (arith, nat_tests))
+not-at (y ∷ xs) x (suc j) h less = not-at xs x j (let t : cond (y == x) true (has xs x) ≡ false = h in grind (arith, nat_tests)) (omega arith)
+
+differ-at : (xs : List ℕ) (i j : ℕ) → all_differ xs ≡ true → i < j → j < length xs → slice_index xs i ≢ slice_index xs j
+differ-at [] i j h less in_it = absurd (omega arith)
+differ-at (x ∷ xs) i zero h less in_it = absurd (omega arith)
+differ-at (x ∷ xs) zero (suc j) h less in_it = not-at xs x j (grind arith) (omega arith)
+differ-at (x ∷ xs) (suc i) (suc j) h less in_it = differ-at xs i j (grind arith) (omega arith) (omega arith)
+
+pub slot_targets_right : (lot : LotView) (bytes ts : List ℕ) → slot_targets lot bytes ≡ Some ts → AreTargets lot ts
+unfolding slot_targets
+slot_targets_right lot bytes ts e =
+    let i = if-some (word_at bytes 0 == slot_magic && slice_index bytes 4 == lot.slot) (targets_of 240 (is_address lot) bytes (word_at bytes 8)) ts e in
+    let f = found 240 (is_address lot) bytes (word_at bytes 8) ts i.1 in
+    let n = found-number _ _ _ _ ts f in
+    record { some = n.0; few = n.1; homes = λ k less. all-at (is_address lot) ts k f.homes less; differ = λ k l h less. differ-at ts k l f.differ h less }
+
+-- ---- what was read
+
+make : ℕ → List ℕ → Header
+make n xs = record { count = n; targets = xs }
+
+take-filled : (ts : List ℕ) → take (length ts) (filled ts) ≡ ts
+take-filled ts = take-append_seam ts (replicate (240 - length ts) 0)
+
+taken : (header : List ℕ) (n : ℕ) → take n (filled (targets_in header n)) ≡ targets_in header n
+taken header n = subst (λ (k : ℕ). take k (filled (targets_in header n)) ≡ targets_in header n) (targets-length header n) (take-filled (targets_in header n))
+
+-- a header is refused by its first bytes, by its number of targets, or by these
+pub refused-mark : (lot : LotView) (bytes : List ℕ) → (word_at bytes 0 == slot_magic && slice_index bytes 4 == lot.slot) ≡ false → None ≡ header_of lot bytes
+unfolding slot_targets
+refused-mark lot bytes mark = rw mark refl
+
+module _ (lot : LotView) (bytes : List ℕ) (n : ℕ) (mark : (word_at bytes 0 == slot_magic && slice_index bytes 4 == lot.slot) ≡ true) (is : n ≡ word_at bytes 8) where
+  pub refused-number : between 1 240 n ≡ false → None ≡ header_of lot bytes
+  unfolding slot_targets
+  refused-number not_in = let number : between 1 240 (word_at bytes 8) ≡ false = subst (λ k. between 1 240 k ≡ false) is not_in in rw (mark, number) refl
+
+  module _ (xs : List ℕ) (fits : between 1 240 n ≡ true) (all : xs ≡ filled (targets_in bytes n)) where
+    number : between 1 240 (word_at bytes 8) ≡ true
+    number = subst (λ k. between 1 240 k ≡ true) is fits
+
+    targets : take n xs ≡ targets_in bytes (word_at bytes 8)
+    targets = ap (λ (x : List ℕ). take n x) all ∙ taken bytes n ∙ ap (λ (k : ℕ). targets_in bytes k) is
+
+    pub refused-targets : (list_all (is_address lot) (take n xs) && all_differ (take n xs)) ≡ false → None ≡ header_of lot bytes
+    unfolding slot_targets
+    refused-targets wrong = let w = subst (λ (x : List ℕ). (list_all (is_address lot) x && all_differ x) ≡ false) targets wrong in rw (mark, number, w) refl
+
+    -- else it is accepted
+    accepted : (list_all (is_address lot) (take n xs) && all_differ (take n xs)) ≡ true → slot_targets lot bytes ≡ Some (targets_in bytes n)
+    unfolding slot_targets
+    accepted right = let w = subst (λ (x : List ℕ). (list_all (is_address lot) x && all_differ x) ≡ true) targets right in rw (mark, number, w) (ap (λ (k : ℕ). Some (targets_in bytes k)) (sym is))
+
+    pub read_whole : (list_all (is_address lot) (take n xs) && all_differ (take n xs)) ≡ true → Some (record { count = n; targets = xs }) ≡ header_of lot bytes
+    unfolding make
+    read_whole right =
+        let said : make n xs ≡ make (length (targets_in bytes n)) (filled (targets_in bytes n)) = ap (λ (k : ℕ). make k xs) (sym (targets-length bytes n)) ∙ ap (λ (x : List ℕ). make (length (targets_in bytes n)) x) all in
+        rw (accepted right) (ap (λ (h : Header). Some h) said)
+
+    pub read_right : (list_all (is_address lot) (take n xs) && all_differ (take n xs)) ≡ true → AreTargets lot (take n xs)
+    read_right right =
+        let us : take n xs ≡ targets_in bytes n = ap (λ (x : List ℕ). take n x) all ∙ taken bytes n in
+        subst (λ (x : List ℕ). AreTargets lot x) (sym us) (slot_targets_right lot bytes (targets_in bytes n) (accepted right))
+
+header-said : (o : Option (List ℕ)) (h : Header) → option_map (λ ts. header_with ts) o ≡ Some h → o ≡ Some (targets_said h)
+header-said None h e = absurd (cc e)
+header-said (Some ts) h e =
+    let is : h ≡ header_with ts = header-of (header_with ts) h e in
+    ap (λ (xs : List ℕ). Some xs) (sym (take-filled ts) ∙ ap (λ (g : Header). targets_said g) (sym is))
+  where
+    header-of : (g h : Header) → Some g ≡ Some h → h ≡ g
+    header-of g h e = sym (ap (λ o. unwrap_or o g) e)
+
+-- the targets of a header that is read are those of the bytes
+pub said_targets : (lot : LotView) (bytes : List ℕ) (h : Header) → Some h ≡ header_of lot bytes → slot_targets lot bytes ≡ Some (targets_said h)
+said_targets lot bytes h e = header-said (slot_targets lot bytes) h (sym e)
+
+no-header : (o : Option (List ℕ)) → option_map (λ ts. header_with ts) o ≡ None → o ≡ None
+no-header None e = refl
+no-header (Some ts) e = absurd (cc e)
+
+pub no_targets : (lot : LotView) (bytes : List ℕ) → None ≡ header_of lot bytes → slot_targets lot bytes ≡ None
+no_targets lot bytes e = no-header (slot_targets lot bytes) (sym e)
+
+-- ---- what was written
+
+taken-said : (header : List ℕ) (n : ℕ) (xs : List ℕ) → n ≤ length xs → ((i : ℕ) → i < n → word_at header (16 + 4 * i) ≡ slice_index xs i) → targets_in header n ≡ take n xs
+taken-said header n xs few same =
+    let long = targets-length header n in
+    let short : length (take n xs) ≡ n = length-take-le n xs few in
+    ext_get_or 0 (targets_in header n) (take n xs) (long ∙ sym short)
+    (λ i h. let less : i < n = omega (arith, h, long) in target-at header n i less ∙ same i less ∙ sym (get_or-take n xs i 0 less))
+
+room-said : (header : Header) → IsProperHeader header → header.count ≤ 240 → length header.targets ≡ 240
+room-said header proper few =
+    let ts = targets_said header in
+    let short : length ts ≤ 240 = omega (arith, length-take header.count header.targets) in
+    let whole : header.targets ≡ filled ts = ap (λ (h : Header). h.targets) proper.rest in
+    ap (λ (xs : List ℕ). length xs) whole ∙ (omega (arith, length-append ts (replicate (240 - length ts) 0), length-replicate {A = ℕ} (240 - length ts) 0))
+
+-- one more target written
+pub write-more : (header : Header) (b0 b b' : List ℕ) (n v : ℕ) → ((i : ℕ) → i < n → word_at b (16 + 4 * i) ≡ slice_index header.targets i) → SameBeside 16 (4 * n) b0 b → WordSet b (16 + 4 * n) v b' → v ≡ slice_index header.targets n
+    → ((i : ℕ) → i < n + 1 → word_at b' (16 + 4 * i) ≡ slice_index header.targets i) × SameBeside 16 (4 * (n + 1)) b0 b'
+write-more header b0 b b' n v said others w is = (
+  λ i h. elim (below-or-last i n h) [
+    | inl less ↦ word-beside b b' (16 + 4 * n) 4 (16 + 4 * i) w.others (inl (omega (arith, less))) ∙ said i less
+    | inr last ↦ subst (λ (k : ℕ). word_at b' (16 + 4 * k) ≡ slice_index header.targets k) (sym last) (w.value ∙ is)
+  ],
+  λ k apart. w.others k (beside k apart) ∙ others k (far k apart),
+)
+  where
+    below-or-last : (i n : ℕ) → i < n + 1 → (i < n) ⊎ (i ≡ n)
+    below-or-last i n h = grind arith
+
+    beside : (k : ℕ) → (k < 16) ⊎ (16 + 4 * (n + 1) ≤ k) → (k < 16 + 4 * n) ⊎ (16 + 4 * n + 4 ≤ k)
+    beside k (inl h) = inl (omega (arith, h))
+    beside k (inr h) = inr (omega (arith, h))
+
+    far : (k : ℕ) → (k < 16) ⊎ (16 + 4 * (n + 1) ≤ k) → (k < 16) ⊎ (16 + 4 * n ≤ k)
+    far k (inl h) = inl h
+    far k (inr h) = inr (omega (arith, h))
+
+module _ (slot : ℕ) (header : Header) (b1 b2 b3 b4 : List ℕ) (w1 : WordSet zero_block 0 slot_magic b1) (long : length b1 ≡ 1024) (is : b2 ≡ slice_set b1 4 slot) (n : ℕ) (same : n ≡ header.count) (w3 : WordSet b2 8 n b3)
+    (targets : (i : ℕ) → i < header.count → word_at b4 (16 + 4 * i) ≡ slice_index header.targets i) (others : SameBeside 16 (4 * header.count) b3 b4) where
+  set-beside : SameBeside 4 1 b1 b2
+  set-beside k apart = let e : b2 ≡ slice_set b1 4 slot = is in grind (arith, elements)
+
+  magic : word_at b4 0 ≡ slot_magic
+  magic = word-beside b3 b4 16 (4 * header.count) 0 others (inl (omega arith)) ∙ word-beside b2 b3 8 4 0 w3.others (inl (omega arith)) ∙ word-beside b1 b2 4 1 0 set-beside (inl (omega arith)) ∙ w1.value
+
+  slot-there : slice_index b4 4 ≡ slot
+  slot-there = others 4 (inl (omega arith)) ∙ w3.others 4 (inl (omega arith)) ∙ rw is (let l = long in grind (arith, elements))
+
+  count-there : word_at b4 8 ≡ header.count
+  count-there = word-beside b3 b4 16 (4 * header.count) 8 others (inl (omega arith)) ∙ w3.value ∙ same
+
+  zero-before : (k : ℕ) → 5 ≤ k → k < 8 ⊎ 12 ≤ k → slice_index b3 k ≡ 0
+  zero-before k low apart = w3.others k (by apart) ∙ set-beside k (inr (omega arith)) ∙ w1.others k (inr (omega arith)) ∙ zero_at k
+    where
+      by : (k < 8) ⊎ (12 ≤ k) → (k < 8) ⊎ (8 + 4 ≤ k)
+      by (inl h) = inl h
+      by (inr h) = inr (omega (arith, h))
+
+  pub header_zeros : HeaderZeros header.count b4
+  header_zeros = record {
+    slot = λ k low high. others k (inl (omega arith)) ∙ zero-before k low (inl high);
+    count = λ k low high. others k (inl high) ∙ zero-before k (omega arith) (inr low);
+    targets = λ k low. others k (inr low) ∙ zero-before k (omega arith) (inr (omega arith));
+  }
+
+  pub header_written : IsProperHeader header → (lot : LotView) → lot.slot ≡ slot → list_all (is_address lot) (targets_said header) ≡ true → header_of lot b4 ≡ Some header
+  unfolding slot_targets
+  header_written proper lot of homes =
+      let number : between 1 240 header.count ≡ true = proper.number in
+      let few : header.count ≤ 240 = grind (arith, nat_tests) in
+      let room = room-said header proper few in
+      let us : targets_in b4 header.count ≡ targets_said header = taken-said b4 header.count header.targets (omega arith) targets in
+      let m : (word_at b4 0 == slot_magic && slice_index b4 4 == lot.slot) ≡ true = rw (magic, slot-there, of) (grind (arith, nat_tests)) in
+      let right : (list_all (is_address lot) (targets_in b4 header.count) && all_differ (targets_in b4 header.count)) ≡ true = rw (us, homes) proper.differ in
+      let all : slot_targets lot b4 ≡ Some (targets_in b4 (word_at b4 8)) = rw (m, count-there, number, right) refl in
+      rw (all, count-there, us) (ap (λ (h : Header). Some h) (sym proper.rest))

@@ -1,0 +1,5 @@
+use Rattle.std.proofs.Common.{◌<◌, ◌+◌, ℕ, slice_index}
+use Rattle.ice_layout.proofs.header.rises.Given as goal
+
+abbrev pub invariant-loop-k : goal.invariant-loop-k
+invariant-loop-k l = (i : ℕ) → i + 1 < l.k → slice_index l.numbers i < slice_index l.numbers (i + 1)
