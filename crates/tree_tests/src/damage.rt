@@ -188,6 +188,7 @@ fn damaged_inodes_and_entries_stop_what_meets_them(rt: HostRuntime) -> Result<()
     ];
     names(&rt, alloc, &base, &[(INODES, 264, 5)], 8, &bytes)?;
     names(&rt, alloc, &base, &[(ROOT, 64, 64)], 10, &met)?;
+    names(&rt, alloc, &base, &[(ROOT, 64, 0)], 10, &met)?;
     names(&rt, alloc, &base, &[(ROOT, 5, b'/')], 11, &[lists(b"/a")])?;
     let into = [renames(b"/a/e", b"/a/d/e")];
     names(&rt, alloc, &base, &[(ENTRIES[0], 5, b'/')], 11, &into)?;
