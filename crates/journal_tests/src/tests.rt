@@ -63,8 +63,8 @@ fn headers_are_refused_for_each_reason(rt: HostRuntime) {
     for (name, bytes, want) in [
         ("two targets", block(&HEADER), Some((2, SUB, 9, 0))),
         ("bytes that are not looked at", changed(5, 7), Some((2, SUB, 9, 0))),
-        ("nor behind the number", changed(15, 7), Some((2, SUB, 9, 0))),
-        ("nor behind the targets", changed(24, 7), Some((2, SUB, 9, 0))),
+        ("nor these", changed(15, 7), Some((2, SUB, 9, 0))),
+        ("nor targets behind the number", changed(24, 7), Some((2, SUB, 9, 0))),
         ("one target", changed(8, 1), Some((1, SUB, 0, 0))),
         ("three targets", changed(8, 3), Some((3, SUB, 9, 0))),
         ("the last address", changed(20, 255), Some((2, SUB, 255, 0))),
@@ -85,12 +85,20 @@ fn headers_are_refused_for_each_reason(rt: HostRuntime) {
     }
 }
 
+/// What is written of the header that these bytes say.
+fn written_back(bytes: &Block) -> Option<Block> {
+    let header = read_header(bytes, &lot())?;
+    let mut into = [0xee; 1024];
+    write_header(1, &header, &mut into);
+    Some(into)
+}
+
 #[test]
-fn what_is_read_is_written_back(rt: HostRuntime) -> Result<(), Fail> {
-    let header = read_header(&changed(24, 7), &lot()).ok_or("refused")?;
-    let mut bytes = [0xee; 1024];
-    write_header(1, &header, &mut bytes);
-    assert!(rt; bytes == block(&HEADER));
+fn what_is_read_is_written_back(rt: HostRuntime) {
+    assert!(rt; written_back(&changed(24, 7)) == Some(block(&HEADER)));
+    assert!(rt; written_back(&changed(5, 7)) == Some(block(&HEADER)));
+    assert!(rt; written_back(&full(240)) == Some(full(240)));
+    assert!(rt; written_back(&full(241)).is_none());
     for (on, first) in [(true, 1), (false, 0)] {
         let mut gate = [0xee; 1024];
         write_gate(on, &mut gate);
@@ -101,7 +109,6 @@ fn what_is_read_is_written_back(rt: HostRuntime) -> Result<(), Fail> {
     }
     let area = area_of(&lot());
     assert_eq!(rt; (area.gate, area.header, area.body, area.slot), (289, 290, 291, Some(1)));
-    Ok(())
 }
 
 /// A host of 800 blocks, each of which begins with its number in two bytes, but for this gate and this header.
@@ -146,5 +153,45 @@ fn bodies_stand_in_place_of_their_targets(rt: HostRuntime) -> Result<(), Fail> {
         assert_eq!(rt; seen(&rt, &mut view, &mut host, 256), Err(BlockFault::Range));
         assert_eq!(rt; (host.reads(), host.writes(), host.barriers()), (reads + 3, 0, 0));
     }
+    Ok(())
+}
+
+#[test]
+fn a_failed_read_is_a_fault_of_the_disk(rt: HostRuntime) -> Result<(), Fail> {
+    for (failing, want) in [
+        (0, (Err(JournalFault::Disk), 1)),
+        (1, (Err(JournalFault::Disk), 2)),
+        (2, (Ok(true), 2)),
+    ] {
+        let mut host = host(&rt, 1, &block(&HEADER))?;
+        host.fail_at(failing)?;
+        let found = read(&rt, &mut host).map(|view| view.is_pending());
+        assert_eq!(rt; (found, host.calls()), want, "call {failing}");
+    }
+    let mut host = host(&rt, 1, &block(&HEADER))?;
+    host.fail_at(2)?;
+    let mut view = read(&rt, &mut host).ok().ok_or("no view")?;
+    assert_eq!(rt; seen(&rt, &mut view, &mut host, SUB), Err(BlockFault::Disk));
+    assert_eq!(rt; seen(&rt, &mut view, &mut host, SUB), Ok(291));
+    Ok(())
+}
+
+#[test]
+fn a_refused_header_is_looked_at_only_behind_an_open_gate(rt: HostRuntime) -> Result<(), Fail> {
+    for (gate, want) in [
+        (0, Ok(false)),
+        (1, Err(JournalFault::Header)),
+        (2, Ok(false)),
+    ] {
+        let mut told = host(&rt, gate, &changed(21, 1))?;
+        assert_eq!(rt; read(&rt, &mut told).map(|view| view.is_pending()), want, "gate {gate}");
+        let mut mute = MuteHost { host: host(&rt, gate, &changed(21, 1))? };
+        assert_eq!(rt; read(&rt, &mut mute).map(|view| view.is_pending()), want, "gate {gate}");
+    }
+    let mut mute = MuteHost { host: host(&rt, 1, &block(&HEADER))? };
+    let mut view = read(&rt, &mut mute).ok().ok_or("no view")?;
+    assert_eq!(rt; seen(&rt, &mut view, &mut mute, 9), Ok(292));
+    assert_eq!(rt; seen(&rt, &mut view, &mut mute, 257), Err(BlockFault::Range));
+    assert_eq!(rt; (mute.host.calls(), mute.host.writes()), (3, 0));
     Ok(())
 }
