@@ -4,12 +4,14 @@ use Rattle.std.specs.Prelude.{◌≢◌, if◌then◌else◌, unwrap_or}
 use Rattle.std.specs.Option.{option_map}
 use Rattle.std.proofs.Math.Path.{fun_ext}
 use Rattle.std.proofs.lemmas.Bool.Decides.{nat_tests}
-use Rattle.ice_base.specs.Disk.{Image, block}
+use Rattle.ice_base.specs.Disk.{Image, DiskState, block}
+use Rattle.ice_base.specs.Looks.{LookedBy}
+use Rattle.ice_base.specs.Still.{Still}
 use Rattle.ice_base.specs.Lots.{LotView, is_address, is_sited, place, gate_place, header_place, inside}
 use Rattle.ice_base.proofs.LotLaws.{sited-below, area_below, inside_at}
 use Rattle.ice_layout.specs.Headers.{is_open, slot_targets}
 use Rattle.ice_tables.specs.Journals.{lot_places, replayed, effective_of}
-use Rattle.ice_journal.specs.Shown.{targets_now, shown, source}
+use Rattle.ice_journal.specs.Shown.{targets_now, shown, source, Same, same_then}
 
 pub sited_area : (lot : LotView) (n : ℕ) → is_sited lot n ≡ true → 32 + 256 * lot.slot + 256 ≤ n
 sited_area lot n h = area_below lot n (sited-below lot n h)
@@ -86,3 +88,18 @@ shown_same ts lot i j same = ap (λ (m : ℕ → List ℕ). inside lot m) (repla
 -- what stands at an address is the block of its source
 pub shown_at : (ts : List ℕ) (lot : LotView) (i : Image) (a : ℕ) → is_address lot a ≡ true → block i (source (place lot) ts (lot_places lot).body a) ≡ shown ts lot i a
 shown_at ts lot i a is = sym (replayed_source (place lot) ts (lot_places lot).body i a) ∙ sym (inside_at lot (replayed (place lot) ts (lot_places lot).body i) a is)
+
+-- what a look at the disk leaves of the view
+pub looked_still : {D : Type 0} (state : D → DiskState) (left : D → ℕ → Image → List ℕ → Type 0) (lot : LotView) (v : List ℕ) (e f : D) → Still state left e f
+    → LookedBy state (λ v d lot. shown v lot (state d).now) (λ lot v d. (state d).tells ≡ true) (λ v a. false) (λ v. 0) (λ lot v d w e. Same state left v d w e) lot v e v f
+looked_still state left lot v e f still = record {
+  map = shown_same v lot (state e).now (state f).now (λ k. still.within.same k (λ n. n));
+  shows = λ told. still.within.tells ∙ told;
+  held = refl;
+  room = refl;
+  size = still.within.size;
+  tells = still.within.tells;
+  streams = still.within.streams;
+  later = still.within.faults;
+  steady = λ u d s. same_then state left u d v e v f s (record { view = refl; still = still });
+}

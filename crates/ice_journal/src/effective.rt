@@ -3,7 +3,7 @@ ghost use Rattle.std.specs.Prelude.{◌≡◌, ◌≢◌, ◌<◌, ◌≤◌, �
 ghost use Rattle.ice_base.specs.Disk.{HasCause, Rose, block};
 ghost use Rattle.ice_base.specs.Lots.{is_address, is_sited, place, gate_place};
 ghost use Rattle.ice_base.specs.Still.{Still};
-ghost use Rattle.ice_layout.specs.Headers.{is_open, targets_said};
+ghost use Rattle.ice_layout.specs.Headers.{is_open, targets_said, IsProperHeader};
 ghost use Rattle.ice_tables.specs.Journals.{effective_of, lot_places};
 ghost use Rattle.ice_journal.specs.Shown.{targets_now, shown, source, are_some, AreNoneOrTargets};
 ghost use Rattle.ice_journal.specs.declared.effective.JournalFault.TheVariants.{Disk as FaultDisk, Header as FaultHeader};
@@ -63,7 +63,7 @@ impl Effective {
     }
 
     fn open(header: &Header) -> Effective
-        requires { header.now.count ≤ 240 }
+        requires { IsProperHeader header.now }
         ensures { result ≡ targets_said header.now }
     {
         Effective {
@@ -84,8 +84,8 @@ impl Effective {
         ensures effective { (D.state disk.old).tells ≡ true
             → IfOk result (λ v. effective_of lot.now (D.state disk.old).now
             ≡ Some (shown v lot.now (D.state disk.new).now)) }
-        ensures pending { (D.state disk.old).tells ≡ true
-            → IfOk result (λ v. are_some v ≡ is_open (block (D.state disk.old).now (gate_place lot.now))) }
+        ensures pending { (D.state disk.old).tells ≡ true → IfOk result (λ v.
+            are_some v ≡ is_open (block (D.state disk.old).now (gate_place lot.now))) }
         ensures refused { (D.state disk.old).tells ≡ true → IsErrOf result FaultHeader
             → targets_now lot.now (D.state disk.old).now ≡ None }
         ensures undefined { (D.state disk.old).tells ≡ true → IsErrOf result FaultHeader

@@ -18,7 +18,7 @@ use Rattle.ice_layout.proofs.SuperLaws.{zero_at}
 use Rattle.ice_base.specs.Lots.{LotView, is_address}
 use Rattle.ice_base.specs.Spare.{has}
 use Rattle.ice_layout.specs.Geometry.{zero_block, between}
-use Rattle.ice_layout.specs.Headers.{is_open, gate_block, slot_magic, system_magic, is_table, all_differ, targets_in, targets_of, slot_targets, system_targets, filled, header_with, header_of, targets_said, AreTargets, IsProperHeader, HeaderZeros}
+use Rattle.ice_layout.specs.Headers.{is_open, gate_block, slot_magic, system_magic, is_table, all_differ, targets_in, targets_of, slot_targets, system_targets, filled, header_with, header_of, targets_said, may_be_address, AreTargets, IsProperHeader, HeaderZeros}
 use Rattle.ice_layout.specs.declared.header.Header.{Header}
 
 -- ---- gates
@@ -193,6 +193,18 @@ slot_targets_right lot bytes ts e =
 make : ℕ → List ℕ → Header
 make n xs = record { count = n; targets = xs }
 
+may_be : (lot : LotView) (a : ℕ) → length lot.groups ≤ 64 → is_address lot a ≡ true → may_be_address a ≡ true
+unfolding is_address
+may_be lot a few is = grind (arith, nat_tests)
+
+all-may : (p q : ℕ → Bool) → ((a : ℕ) → p a ≡ true → q a ≡ true) → (xs : List ℕ) → list_all p xs ≡ true → list_all q xs ≡ true
+all-may p q weaker [] h = refl
+all-may p q weaker (x ∷ xs) h =
+    let b = both (p x) (list_all p xs) h in
+    let here = weaker x b.0 in
+    let rest = all-may p q weaker xs b.1 in
+    grind arith
+
 take-filled : (ts : List ℕ) → take (length ts) (filled ts) ≡ ts
 take-filled ts = take-append_seam ts (replicate (240 - length ts) 0)
 
@@ -235,6 +247,16 @@ module _ (lot : LotView) (bytes : List ℕ) (n : ℕ) (mark : (word_at bytes 0 =
     read_right right =
         let us : take n xs ≡ targets_in bytes n = ap (λ (x : List ℕ). take n x) all ∙ taken bytes n in
         subst (λ (x : List ℕ). AreTargets lot x) (sym us) (slot_targets_right lot bytes (targets_in bytes n) (accepted right))
+
+    -- and may be written again
+    pub read_proper : length lot.groups ≤ 64 → (list_all (is_address lot) (take n xs) && all_differ (take n xs)) ≡ true → IsProperHeader (record { count = n; targets = xs })
+    unfolding make
+    read_proper few right =
+        let us : take n xs ≡ targets_in bytes n = ap (λ (x : List ℕ). take n x) all ∙ taken bytes n in
+        let tests = both (list_all (is_address lot) (take n xs)) (all_differ (take n xs)) right in
+        let back : make n xs ≡ make (length (take n xs)) (filled (take n xs)) =
+            ap (λ (k : ℕ). make k xs) (sym (ap (λ (x : List ℕ). length x) us ∙ targets-length bytes n)) ∙ ap (λ (x : List ℕ). make (length (take n xs)) x) (all ∙ ap (λ (x : List ℕ). filled x) (sym us)) in
+        record { number = fits; homes = all-may (is_address lot) may_be_address (λ a is. may_be lot a few is) (take n xs) tests.0; differ = tests.1; rest = back }
 
 header-said : (o : Option (List ℕ)) (h : Header) → option_map (λ ts. header_with ts) o ≡ Some h → o ≡ Some (targets_said h)
 header-said None h e = absurd (cc e)

@@ -1,5 +1,5 @@
 //! The gate and the header of a cube's journal.
-ghost use Rattle.std.specs.Prelude.{◌≡◌, ◌≤◌, ◌<◌, ◌+◌, ◌*◌, ◌==◌, ◌&&◌, ℕ, true, Some, IfSome, IsTrue, ◌↔◌, take, slice_index};
+ghost use Rattle.std.specs.Prelude.{length, ◌≡◌, ◌≤◌, ◌<◌, ◌+◌, ◌*◌, ◌==◌, ◌&&◌, ℕ, true, Some, IfSome, IsTrue, ◌↔◌, take, slice_index};
 ghost use Rattle.std.specs.List.{list_all};
 ghost use Rattle.std.specs.List.Sorted.{IsStrictlyIncreasing};
 ghost use Rattle.ice_base.specs.Fields.{word_at, SameBeside};
@@ -83,8 +83,10 @@ fn is_of_lot(from: &Block, lot: &Lot) -> bool
 
 fn are_targets(targets: &[u32; 240], count: usize, lot: &Lot) -> bool
     requires { count ≤ 240 }
-    ensures { result ≡ (list_all (is_address lot.now) (take count targets.now) && all_differ (take count targets.now)) }
+    ensures few { length lot.now.groups ≤ 64 }
+    ensures right { result ≡ (list_all (is_address lot.now) (take count targets.now) && all_differ (take count targets.now)) }
 {
+    let _ = lot.len();
     are_addresses(&targets[..count], lot) && are_different(targets, count)
 }
 
@@ -93,7 +95,7 @@ fn are_targets(targets: &[u32; 240], count: usize, lot: &Lot) -> bool
 pub fn read_header(from: &Block, lot: &Lot) -> Option<Header>
     ensures header { result ≡ header_of lot.now from.now }
     ensures targets { IfSome result (λ header. AreTargets lot.now (targets_said header)) }
-    ensures count { IfSome result (λ header. (1 ≤ header.count) × (header.count ≤ 240)) }
+    ensures proper { IfSome result (λ header. IsProperHeader header) }
 {
     if !is_of_lot(from, lot) {
         return None;
