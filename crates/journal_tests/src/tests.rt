@@ -62,9 +62,17 @@ fn full(count: u8) -> Block {
 fn headers_are_refused_for_each_reason(rt: HostRuntime) {
     for (name, bytes, want) in [
         ("two targets", block(&HEADER), Some((2, SUB, 9, 0))),
-        ("bytes that are not looked at", changed(5, 7), Some((2, SUB, 9, 0))),
+        (
+            "bytes that are not looked at",
+            changed(5, 7),
+            Some((2, SUB, 9, 0)),
+        ),
         ("nor these", changed(15, 7), Some((2, SUB, 9, 0))),
-        ("nor targets behind the number", changed(24, 7), Some((2, SUB, 9, 0))),
+        (
+            "nor targets behind the number",
+            changed(24, 7),
+            Some((2, SUB, 9, 0)),
+        ),
         ("one target", changed(8, 1), Some((1, SUB, 0, 0))),
         ("three targets", changed(8, 3), Some((3, SUB, 9, 0))),
         ("the last address", changed(20, 255), Some((2, SUB, 255, 0))),
@@ -79,8 +87,12 @@ fn headers_are_refused_for_each_reason(rt: HostRuntime) {
         ("almost the sub-super block", changed(16, 0xfe), None),
         ("zeros", [0; 1024], None),
     ] {
-        let found = read_header(&bytes, &lot())
-            .map(|header| (header.count, header.targets[0], header.targets[1], header.targets[2]));
+        let found = read_header(&bytes, &lot()).map(|header| (
+            header.count,
+            header.targets[0],
+            header.targets[1],
+            header.targets[2],
+        ));
         assert_eq!(rt; found, want, "{name}");
     }
 }
@@ -108,7 +120,10 @@ fn what_is_read_is_written_back(rt: HostRuntime) {
         assert_eq!(rt; gate_is_on(&block(&[first, 1])), on, "{first}");
     }
     let area = area_of(&lot());
-    assert_eq!(rt; (area.gate, area.header, area.body, area.slot), (289, 290, 291, Some(1)));
+    assert_eq!(rt;
+        (area.gate, area.header, area.body, area.slot),
+        (289, 290, 291, Some(1))
+    );
 }
 
 /// A host of 800 blocks, each of which begins with its number in two bytes, but for this gate and this header.
@@ -126,7 +141,12 @@ fn host(rt: &HostRuntime, gate: u8, header: &Block) -> Result<MemHost, Fail> {
 }
 
 /// The number of the block that the view shows at an address.
-fn seen<D: Disk>(rt: &impl Abort, view: &mut Effective, disk: &mut D, at: u32) -> Result<u32, BlockFault> {
+fn seen<D: Disk>(
+    rt: &impl Abort,
+    view: &mut Effective,
+    disk: &mut D,
+    at: u32,
+) -> Result<u32, BlockFault> {
     assert!(rt; disk.blocks() == 800);
     let mut bytes = [0; 1024];
     view.get(disk, &lot(), at, &mut bytes)?;
@@ -147,11 +167,21 @@ fn bodies_stand_in_place_of_their_targets(rt: HostRuntime) -> Result<(), Fail> {
     ] {
         let mut host = host(&rt, gate, &block(&HEADER))?;
         let mut view = read(&rt, &mut host).ok().ok_or("no view")?;
-        assert_eq!(rt; (view.is_pending(), host.reads()), (pending, reads), "gate {gate}");
+        assert_eq!(rt;
+            (view.is_pending(), host.reads()),
+            (pending, reads),
+            "gate {gate}"
+        );
         let found = [SUB, 9, 10].map(|at| seen(&rt, &mut view, &mut host, at));
         assert_eq!(rt; found, want.map(Ok), "gate {gate}");
-        assert_eq!(rt; seen(&rt, &mut view, &mut host, 256), Err(BlockFault::Range));
-        assert_eq!(rt; (host.reads(), host.writes(), host.barriers()), (reads + 3, 0, 0));
+        assert_eq!(rt;
+            seen(&rt, &mut view, &mut host, 256),
+            Err(BlockFault::Range)
+        );
+        assert_eq!(rt;
+            (host.reads(), host.writes(), host.barriers()),
+            (reads + 3, 0, 0)
+        );
     }
     Ok(())
 }
@@ -184,14 +214,29 @@ fn a_refused_header_is_looked_at_only_behind_an_open_gate(rt: HostRuntime) -> Re
         (2, Ok(false)),
     ] {
         let mut told = host(&rt, gate, &changed(21, 1))?;
-        assert_eq!(rt; read(&rt, &mut told).map(|view| view.is_pending()), want, "gate {gate}");
-        let mut mute = MuteHost { host: host(&rt, gate, &changed(21, 1))? };
-        assert_eq!(rt; read(&rt, &mut mute).map(|view| view.is_pending()), want, "gate {gate}");
+        assert_eq!(rt;
+            read(&rt, &mut told).map(|view| view.is_pending()),
+            want,
+            "gate {gate}"
+        );
+        let mut mute = MuteHost {
+            host: host(&rt, gate, &changed(21, 1))?,
+        };
+        assert_eq!(rt;
+            read(&rt, &mut mute).map(|view| view.is_pending()),
+            want,
+            "gate {gate}"
+        );
     }
-    let mut mute = MuteHost { host: host(&rt, 1, &block(&HEADER))? };
+    let mut mute = MuteHost {
+        host: host(&rt, 1, &block(&HEADER))?,
+    };
     let mut view = read(&rt, &mut mute).ok().ok_or("no view")?;
     assert_eq!(rt; seen(&rt, &mut view, &mut mute, 9), Ok(292));
-    assert_eq!(rt; seen(&rt, &mut view, &mut mute, 257), Err(BlockFault::Range));
+    assert_eq!(rt;
+        seen(&rt, &mut view, &mut mute, 257),
+        Err(BlockFault::Range)
+    );
     assert_eq!(rt; (mute.host.calls(), mute.host.writes()), (3, 0));
     Ok(())
 }
