@@ -255,7 +255,7 @@ module _ (lot : LotView) (bytes : List ℕ) (n : ℕ) (mark : (word_at bytes 0 =
         let us : take n xs ≡ targets_in bytes n = ap (λ (x : List ℕ). take n x) all ∙ taken bytes n in
         let tests = both (list_all (is_address lot) (take n xs)) (all_differ (take n xs)) right in
         let back : make n xs ≡ make (length (take n xs)) (filled (take n xs)) =
-            ap (λ (k : ℕ). make k xs) (sym (ap (λ (x : List ℕ). length x) us ∙ targets-length bytes n)) ∙ ap (λ (x : List ℕ). make (length (take n xs)) x) (all ∙ ap (λ (x : List ℕ). filled x) (sym us)) in
+        ap (λ (k : ℕ). make k xs) (sym (ap (λ (x : List ℕ). length x) us ∙ targets-length bytes n)) ∙ ap (λ (x : List ℕ). make (length (take n xs)) x) (all ∙ ap (λ (x : List ℕ). filled x) (sym us)) in
         record { number = fits; homes = all-may (is_address lot) may_be_address (λ a is. may_be lot a few is) (take n xs) tests.0; differ = tests.1; rest = back }
 
 header-said : (o : Option (List ℕ)) (h : Header) → option_map (λ ts. header_with ts) o ≡ Some h → o ≡ Some (targets_said h)
