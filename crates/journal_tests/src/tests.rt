@@ -6,6 +6,7 @@ use disk_mem::{MemHost, MuteHost};
 use ice_base::{Block, BlockFault, Disk, Lot, SUB, View};
 use ice_journal::{Effective, JournalFault, area_of};
 use ice_layout::{gate_is_on, read_header, write_gate, write_header};
+use std::alloc::Global;
 use std::process::Abort;
 use std::test::Fail;
 
@@ -58,43 +59,44 @@ fn full(count: u8) -> Block {
     block
 }
 
+/// The number and the first three targets that are read.
+fn said(bytes: &Block) -> Option<[u32; 4]> {
+    let header = read_header(bytes, &lot())?;
+    Some([
+        u32::from(header.count),
+        header.targets[0],
+        header.targets[1],
+        header.targets[2],
+    ])
+}
+
 #[test]
 fn headers_are_refused_for_each_reason(rt: HostRuntime) {
-    for (name, bytes, want) in [
-        ("two targets", block(&HEADER), Some((2, SUB, 9, 0))),
+    for (name, at, byte, want) in [
+        ("two targets", 4, 1, Some([2, SUB, 9, 0])),
+        ("a byte that is not looked at", 5, 7, Some([2, SUB, 9, 0])),
+        ("nor is this one", 15, 7, Some([2, SUB, 9, 0])),
         (
-            "bytes that are not looked at",
-            changed(5, 7),
-            Some((2, SUB, 9, 0)),
+            "nor what is behind the targets",
+            24,
+            7,
+            Some([2, SUB, 9, 0]),
         ),
-        ("nor these", changed(15, 7), Some((2, SUB, 9, 0))),
-        (
-            "nor targets behind the number",
-            changed(24, 7),
-            Some((2, SUB, 9, 0)),
-        ),
-        ("one target", changed(8, 1), Some((1, SUB, 0, 0))),
-        ("three targets", changed(8, 3), Some((3, SUB, 9, 0))),
-        ("the last address", changed(20, 255), Some((2, SUB, 255, 0))),
-        ("240 targets", full(240), Some((240, 0, 1, 2))),
-        ("other bytes in front", changed(3, 0x4b), None),
-        ("another slot", changed(4, 0), None),
-        ("no targets", changed(8, 0), None),
-        ("241 targets", full(241), None),
-        ("258 targets", changed(9, 1), None),
-        ("a target twice", changed(8, 4), None),
-        ("a target of the next group", changed(21, 1), None),
-        ("almost the sub-super block", changed(16, 0xfe), None),
-        ("zeros", [0; 1024], None),
+        ("one target", 8, 1, Some([1, SUB, 0, 0])),
+        ("three targets", 8, 3, Some([3, SUB, 9, 0])),
+        ("the last address", 20, 255, Some([2, SUB, 255, 0])),
+        ("other bytes in front", 3, 0x4b, None),
+        ("another slot", 4, 0, None),
+        ("no targets", 8, 0, None),
+        ("258 targets", 9, 1, None),
+        ("a target twice", 8, 4, None),
+        ("a target of the next group", 21, 1, None),
+        ("almost the sub-super block", 16, 0xfe, None),
     ] {
-        let found = read_header(&bytes, &lot()).map(|header| (
-            header.count,
-            header.targets[0],
-            header.targets[1],
-            header.targets[2],
-        ));
-        assert_eq!(rt; found, want, "{name}");
+        assert_eq!(rt; said(&changed(at, byte)), want, "{name}");
     }
+    assert_eq!(rt; said(&full(240)), Some([240, 0, 1, 2]));
+    assert_eq!(rt; said(&full(241)), None);
 }
 
 /// What is written of the header that these bytes say.
@@ -126,16 +128,25 @@ fn what_is_read_is_written_back(rt: HostRuntime) {
     );
 }
 
-/// A host of 800 blocks, each of which begins with its number in two bytes, but for this gate and this header.
-fn host(rt: &HostRuntime, gate: u8, header: &Block) -> Result<MemHost, Fail> {
-    let mut host = MemHost::new(rt.alloc(), 800)?;
+/// What stands at first in a block: its number in two bytes, but for this gate and this header.
+fn start(at: u32, gate: u8, header: &Block) -> Block {
+    match at {
+        289 => block(&[gate, 1]),
+        290 => *header,
+        _ => block(&[(at % 256) as u8, (at / 256 % 256) as u8]),
+    }
+}
+
+fn set(rt: &impl Abort, host: &mut MemHost, at: u32, block: &Block) {
+    assert!(rt; at < host.blocks() && host.calls() == 0);
+    host.set_block(at, block);
+}
+
+/// A host of 800 such blocks.
+fn host(rt: &impl Abort, alloc: Global, gate: u8, header: &Block) -> Result<MemHost, Fail> {
+    let mut host = MemHost::new(alloc, 800)?;
     for at in 0..800_u32 {
-        let bytes = match at {
-            289 => block(&[gate, 1]),
-            290 => *header,
-            _ => block(&[(at % 256) as u8, (at / 256) as u8]),
-        };
-        host.set_block(at, &bytes);
+        set(rt, &mut host, at, &start(at, gate, header));
     }
     Ok(host)
 }
@@ -165,7 +176,7 @@ fn bodies_stand_in_place_of_their_targets(rt: HostRuntime) -> Result<(), Fail> {
         (1, true, 2, [291, 292, 554]),
         (2, false, 1, [288, 553, 554]),
     ] {
-        let mut host = host(&rt, gate, &block(&HEADER))?;
+        let mut host = host(&rt, rt.alloc(), gate, &block(&HEADER))?;
         let mut view = read(&rt, &mut host).ok().ok_or("no view")?;
         assert_eq!(rt;
             (view.is_pending(), host.reads()),
@@ -193,12 +204,12 @@ fn a_failed_read_is_a_fault_of_the_disk(rt: HostRuntime) -> Result<(), Fail> {
         (1, (Err(JournalFault::Disk), 2)),
         (2, (Ok(true), 2)),
     ] {
-        let mut host = host(&rt, 1, &block(&HEADER))?;
+        let mut host = host(&rt, rt.alloc(), 1, &block(&HEADER))?;
         host.fail_at(failing)?;
         let found = read(&rt, &mut host).map(|view| view.is_pending());
         assert_eq!(rt; (found, host.calls()), want, "call {failing}");
     }
-    let mut host = host(&rt, 1, &block(&HEADER))?;
+    let mut host = host(&rt, rt.alloc(), 1, &block(&HEADER))?;
     host.fail_at(2)?;
     let mut view = read(&rt, &mut host).ok().ok_or("no view")?;
     assert_eq!(rt; seen(&rt, &mut view, &mut host, SUB), Err(BlockFault::Disk));
@@ -213,14 +224,14 @@ fn a_refused_header_is_looked_at_only_behind_an_open_gate(rt: HostRuntime) -> Re
         (1, Err(JournalFault::Header)),
         (2, Ok(false)),
     ] {
-        let mut told = host(&rt, gate, &changed(21, 1))?;
+        let mut told = host(&rt, rt.alloc(), gate, &changed(21, 1))?;
         assert_eq!(rt;
             read(&rt, &mut told).map(|view| view.is_pending()),
             want,
             "gate {gate}"
         );
         let mut mute = MuteHost {
-            host: host(&rt, gate, &changed(21, 1))?,
+            host: host(&rt, rt.alloc(), gate, &changed(21, 1))?,
         };
         assert_eq!(rt;
             read(&rt, &mut mute).map(|view| view.is_pending()),
@@ -229,7 +240,7 @@ fn a_refused_header_is_looked_at_only_behind_an_open_gate(rt: HostRuntime) -> Re
         );
     }
     let mut mute = MuteHost {
-        host: host(&rt, 1, &block(&HEADER))?,
+        host: host(&rt, rt.alloc(), 1, &block(&HEADER))?,
     };
     let mut view = read(&rt, &mut mute).ok().ok_or("no view")?;
     assert_eq!(rt; seen(&rt, &mut view, &mut mute, 9), Ok(292));
