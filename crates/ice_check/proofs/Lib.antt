@@ -2,6 +2,8 @@ pub mod ShownLaws
 pub mod MarkLaws
 pub mod LookLaws
 pub mod NameLaws
+pub mod VisitLaws
+pub mod EntryLaws
 pub mod Checks
 pub mod Walking
 pub mod Ends

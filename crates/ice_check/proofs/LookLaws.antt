@@ -102,10 +102,10 @@ uses_data lot m inode count single each b h =
         ] refl
 
 -- what a map uses
-single_used : (m : Map) (inode : Inode) (count : ℕ) → 12 < count → has (uses m inode count) inode.single ≡ true
+pub single_used : (m : Map) (inode : Inode) (count : ℕ) → 12 < count → has (uses m inode count) inode.single ≡ true
 single_used m inode count h = has-left (indirect_of inode count) (blocks_of m inode count) inode.single (subst (λ xs. has xs inode.single ≡ true) (sym (indirect_one inode count h)) (has-head inode.single []))
 
-nth_used : (m : Map) (inode : Inode) (count n : ℕ) → n < count → has (uses m inode count) (nth_block m inode n) ≡ true
+pub nth_used : (m : Map) (inode : Inode) (count n : ℕ) → n < count → has (uses m inode count) (nth_block m inode n) ≡ true
 nth_used m inode count n h = has-right (indirect_of inode count) (blocks_of m inode count) (nth_block m inode n) (has-range (nth_block m inode) 0 count n (omega arith) (omega arith))
 
 -- ---- pointers that fit, or don't

@@ -1,5 +1,5 @@
 -- Names in an array: what order says of equal ones, and what they say of a directory.
-use Rattle.std.proofs.Common.{◌≡◌, ◌≢◌, ℕ, suc, zero, ◌+◌, ◌<◌, ◌≤◌, ◌==◌, Bool, true, false, List, [], ◌∷◌, length, take, get_or, Some, sym, refl, ap, ◌∙◌, subst, arith, set, length-take, length-set}
+use Rattle.std.proofs.Common.{◌≡◌, ◌≢◌, ℕ, suc, zero, ◌+◌, ◌-◌, ◌<◌, ◌≤◌, ◌==◌, Bool, true, false, List, [], ◌∷◌, length, take, get_or, Some, sym, refl, ap, ◌∙◌, subst, arith, set, length-take, length-set}
 use Rattle.std.specs.Prelude.{IsSorted, IsSortedBy, IsPermutation, slice_get, ◌||◌}
 use Rattle.std.specs.List.{sum_by, list_any}
 use Rattle.std.specs.Ordering.{eq_by_cmp, is_lt, ordering_reverse}
@@ -22,6 +22,7 @@ use Rattle.tree_spec.specs.Routes.{is_same_name}
 use Rattle.tree_spec.specs.Trees.{by_bytes}
 use Rattle.tree_spec.proofs.Trees.{same_name, is_same_name-refl}
 use Rattle.ice_reads.specs.Tables.{Map, own_in, rows_in, IsNameOf}
+use Rattle.ice_reads.proofs.Focus.{same_Some}
 use Rattle.ice_rules.specs.RowsRead.{names_in}
 use Rattle.ice_rules.specs.Walks.{entry_of, LooksInto}
 use Rattle.ice_rules.specs.Rules.{Breaks}
@@ -143,22 +144,39 @@ kept_set ks k x h = kept_at (set ks k x) k x (omega (arith, length-set {A = Kept
 pub kept_others : (ks : List Kept) (k j : ℕ) (x : Kept) → k < length ks → j < length ks → j ≢ k → get_or (names_of (set ks k x)) j [] ≡ get_or (names_of ks) j []
 kept_others ks k j x h hj ne = kept_at (set ks k x) j x (omega (arith, length-set {A = Kept})) ∙ ap kept_name (get_or-set_other ks k j x x ne) ∙ sym (kept_at ks j x hj)
 
+-- names beside each other in a loop over the array
+pub neighbours_alike : (ks : List Kept) (k : ℕ) (d e : Kept) → 1 ≤ k → k < length ks → kept_name (get_or ks (k - 1) d) ≡ kept_name (get_or ks k e) → get_or (names_of ks) (k - 1) [] ≡ get_or (names_of ks) (k - 1 + 1) []
+neighbours_alike ks k d e one h same =
+    let next : k ≡ k - 1 + 1 = omega arith in
+    kept_at ks (k - 1) d (omega arith) ∙ same ∙ sym (kept_at ks k e h) ∙ ap (λ x. get_or (names_of ks) x []) next
+
+pub neighbours_more : (ks : List Kept) (k : ℕ) (d e : Kept) → 1 ≤ k → k < length ks → ((j : ℕ) → j + 1 < k → get_or (names_of ks) j [] ≡ get_or (names_of ks) (j + 1) [] → ⊥) → kept_name (get_or ks (k - 1) d) ≢ kept_name (get_or ks k e)
+    → (j : ℕ) → j + 1 < k + 1 → get_or (names_of ks) j [] ≡ get_or (names_of ks) (j + 1) [] → ⊥
+neighbours_more ks k d e one h before apart j lt same =
+    elim (j + 1 == k) as (λ t. (j + 1 == k) ≡ t → ⊥) [
+      | true ↦ λ t.
+          let here : j + 1 ≡ k = grind (arith, nat_tests) in
+          let last : k - 1 ≡ j = omega arith in
+          apart (sym (kept_at ks (k - 1) d (omega arith)) ∙ ap (λ x. get_or (names_of ks) x []) last ∙ same ∙ ap (λ x. get_or (names_of ks) x []) here ∙ kept_at ks k e h)
+      | false ↦ λ t. let other : j + 1 ≢ k = grind (arith, nat_tests) in before j (omega arith) same
+    ] refl
+
 -- after a sort, whose neighbours differ
 pub sorted_names : (old new : List Kept) → IsPermutation old new → IsSortedBy (λ a b. is_lt (by_bytes (kept_name a) (kept_name b))) new
     → ((k : ℕ) → k + 1 < length new → get_or (names_of new) k [] ≢ get_or (names_of new) (k + 1) []) → AllDiffer (names_of old)
 sorted_names old new p up apart =
-    differ_before (names_of old) (names_of new) (IsPermutation-map kept_name old new p) (sorted_differ (names_of new) sorted (λ k h. apart k (omega (arith, length-map kept_name new))))
+    differ_before (names_of old) (names_of new) (IsPermutation-map kept_name old new p) (sorted_differ (names_of new) sorted (λ k h. apart k (omega (arith, length-map {A = Kept} {B = List ℕ} new kept_name))))
   where
     sorted : IsSorted by_bytes (names_of new)
     sorted k d low h =
-        let l = length-map kept_name new in
+        let l = length-map {A = Kept} {B = List ℕ} new kept_name in
         subst (λ x. is_lt (by_bytes x (get_or (names_of new) k d)) ≡ false) (sym (get_or-map kept_name new (k + 1) none d (omega arith)))
         (subst (λ x. is_lt (by_bytes (kept_name (get_or new (k + 1) none)) x) ≡ false) (sym (get_or-map kept_name new k none d (omega arith))) (up k none low (omega arith)))
 
 -- and whose neighbours are alike somewhere
 pub sorted_alike : (old new : List Kept) (k : ℕ) → IsPermutation old new → k + 1 < length new → get_or (names_of new) k [] ≡ get_or (names_of new) (k + 1) [] → TwoAlike (names_of old)
 sorted_alike old new k p h e =
-    alike_before (names_of old) (names_of new) (IsPermutation-map kept_name old new p) (record { one = k; other = k + 1; below = omega arith; within = omega (arith, length-map kept_name new); same = e })
+    alike_before (names_of old) (names_of new) (IsPermutation-map kept_name old new p) (record { one = k; other = k + 1; below = omega arith; within = omega (arith, length-map {A = Kept} {B = List ℕ} new kept_name); same = e })
 
 -- ---- the names of a directory
 
@@ -208,3 +226,30 @@ module _ (lot : LotView) (m : Map) (dir count : ℕ) (names cut : List (List ℕ
         name = subst (λ c. IsNameOf form_one c) (read.each t.one (get_or rs t.one ([], 0)) hi ri) (read.fit t.one hi);
         same = sym ni ∙ t.same ∙ nj;
       }
+
+-- one name more was read
+pub read_more : (m : Map) (dir k next : ℕ) (name : List ℕ) (ks : List Kept) (x : Kept) → k < length ks → entry_of form_one m dir k ≡ Some (name, next) → kept_name x ≡ name → IsNameOf form_one name → AreRead m dir k (names_of ks) → AreRead m dir (k + 1) (names_of (set ks k x))
+read_more m dir k next name ks x room at is fit old = record { each = each; fit = fits }
+  where
+    here : get_or (names_of (set ks k x)) k [] ≡ name
+    here = kept_set ks k x room ∙ is
+
+    each : (j : ℕ) (row : Row) → j < k + 1 → entry_of form_one m dir j ≡ Some row → get_or (names_of (set ks k x)) j [] ≡ row.0
+    each j row lt there =
+        elim (j == k) as (λ t. (j == k) ≡ t → get_or (names_of (set ks k x)) j [] ≡ row.0) [
+          | true ↦ λ t.
+              let same : j ≡ k = grind (arith, nat_tests) in
+              let one : (name, next) ≡ row = same_Some (name, next) row (sym at ∙ ap (λ n. entry_of form_one m dir n) (sym same) ∙ there) in
+              ap (λ n. get_or (names_of (set ks k x)) n []) same ∙ here ∙ ap (λ (r : Row). r.0) one
+          | false ↦ λ t. let other : j ≢ k = grind (arith, nat_tests) in kept_others ks k j x room (omega arith) other ∙ old.each j row (omega arith) there
+        ] refl
+
+    fits : (j : ℕ) → j < k + 1 → IsNameOf form_one (get_or (names_of (set ks k x)) j [])
+    fits j lt =
+        elim (j == k) as (λ t. (j == k) ≡ t → IsNameOf form_one (get_or (names_of (set ks k x)) j [])) [
+          | true ↦ λ t. let same : j ≡ k = grind (arith, nat_tests) in subst (λ c. IsNameOf form_one c) (sym (ap (λ n. get_or (names_of (set ks k x)) n []) same ∙ here)) fit
+          | false ↦ λ t. let other : j ≢ k = grind (arith, nat_tests) in subst (λ c. IsNameOf form_one c) (sym (kept_others ks k j x room (omega arith) other)) (old.fit j (omega arith))
+        ] refl
+
+pub none_read : (m : Map) (dir : ℕ) (names : List (List ℕ)) → AreRead m dir 0 names
+none_read m dir names = record { each = λ k row h at. absurd (omega arith); fit = λ k h. absurd (omega arith) }

@@ -1,5 +1,5 @@
 -- What a view shows, from one moment to a later one.
-use Rattle.std.proofs.Common.{◌≡◌, refl, ◌∙◌, Result, Ok, Err}
+use Rattle.std.proofs.Common.{◌≡◌, refl, ◌∙◌, arith, Result, Ok, Err}
 use Rattle.std.specs.Prelude.{IfErr, OnOk}
 use Rattle.ice_base.specs.Lots.{LotView}
 use Rattle.ice_base.specs.declared.disk.Disk as disk
@@ -23,3 +23,17 @@ still_shows d k lot v e w f m l s = record { shows = l.shows s.shows; is = l.map
 -- the view shows what it shows
 pub shows_itself : {V D : Type 0} (k : view.Ghosts V D) (lot : LotView) (v : V) (e : D) → k.shows lot v e → Shows k lot v e (k.map v e lot)
 shows_itself k lot v e s = record { shows = s; is = refl }
+
+-- one look and then another
+pub looked_then : {V D : Type 0} (d : disk.Ghosts D) (k : view.Ghosts V D) (lot : LotView) (u : V) (c : D) (v : V) (e : D) (w : V) (f : D) → Looked d k lot u c v e → Looked d k lot v e w f → Looked d k lot u c w f
+looked_then d k lot u c v e w f a b = record {
+  map = b.map ∙ a.map;
+  shows = λ s. b.shows (a.shows s);
+  held = b.held ∙ a.held;
+  room = b.room ∙ a.room;
+  size = b.size ∙ a.size;
+  tells = b.tells ∙ a.tells;
+  streams = b.streams ∙ a.streams;
+  later = let x = a.later in let y = b.later in omega arith;
+  steady = λ x y h. b.steady x y (a.steady x y h);
+}

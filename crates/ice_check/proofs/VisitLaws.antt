@@ -18,13 +18,10 @@ use Rattle.ice_rules.proofs.Orders.{before_apart}
 use Rattle.ice_check.specs.Marks.{marked, Marked, MarkedTwice, SeenBefore, AllNew, IsGood}
 use Rattle.ice_check.proofs.LookLaws.{same_uses, fits_here, kind_here}
 
--- neither a file nor a directory
-not_two : (k : ℕ) → k ≡ 1 → k ≢ 1 → ⊥
-not_two k a b = b a
-
+-- an inode that fits and is no file
 pub dir_kind : (lot : LotView) (i : ℕ) (inode : Inode) → KindFits form_one lot i inode → inode.kind ≢ 1 → (inode.kind ≡ 2) × (inode.size < 64 * length lot.groups)
-dir_kind lot i inode (inl h) no = absurd (no h.0)
-dir_kind lot i inode (inr h) no = h
+dir_kind lot i inode (inl h) other = absurd (other h.0)
+dir_kind lot i inode (inr h) other = h
 
 module _ (lot : LotView) (m : Map) (i : ℕ) (inode : Inode) (is : inode ≡ inode_of m i) (kind : KindFits form_one lot i inode) (pointers : List ℕ) (count : ℕ) (long : count ≡ map_length 64 inode)
     (same : 12 < map_length 64 inode → pointers ≡ m inode.single) (fits : PointersFit form_one lot (own_of (λ _. pointers) inode (map_length 64 inode))) where
@@ -42,8 +39,8 @@ module _ (lot : LotView) (m : Map) (i : ℕ) (inode : Inode) (is : inode ≡ ino
   file_here e = ap (λ (x : Inode). x.kind) (sym is) ∙ e
 
   pub dir_here : inode.kind ≢ 1 → ((own_in form_one m i).inode.kind ≡ 2) × (inode.size ≡ length (rows_in form_one (own_in form_one m i)))
-  dir_here no = (
-    ap (λ (x : Inode). x.kind) (sym is) ∙ (dir_kind lot i inode kind no).0,
+  dir_here other = (
+    ap (λ (x : Inode). x.kind) (sym is) ∙ (dir_kind lot i inode kind other).0,
     ap (λ (x : Inode). x.size) is ∙ sym (length-rows_in form_one (own_in form_one m i)),
   )
 

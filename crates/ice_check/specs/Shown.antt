@@ -2,6 +2,8 @@
 use Rattle.std.specs.Prelude.{◌≡◌, ℕ, List, length}
 use Rattle.ice_base.specs.Lots.{LotView, sub_address}
 use Rattle.ice_base.specs.declared.view.View as view
+use Rattle.ice_base.specs.declared.fault.OpFault.{OpFault}
+use Rattle.ice_base.specs.declared.fault.OpFault.TheVariants as op
 use Rattle.ice_base.specs.declared.fault.Rule.{Rule}
 use Rattle.ice_base.specs.declared.fault.Rule.TheVariants as rule
 use Rattle.ice_check.specs.declared.fault.CheckFault.{CheckFault}
@@ -51,3 +53,8 @@ abbrev pub IfBitmap : Type 0 → CheckFault → Type 0
 IfBitmap P Disk = Unit {0}
 IfBitmap P (Damaged rule.Bitmap) = P
 IfBitmap P (Damaged _) = ⊥
+
+-- a fault of a call below, as the checker says it
+abbrev pub told_as : OpFault → CheckFault
+told_as (op.Damaged r) = Damaged r
+told_as _ = Disk

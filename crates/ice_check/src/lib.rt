@@ -7,5 +7,7 @@ mod inodes;
 mod marks;
 mod names;
 mod reads;
+mod rows;
+mod walk;
 
 pub use fault::{CheckFault, Summary};
