@@ -7,3 +7,5 @@ pub mod EntryLaws
 pub mod Checks
 pub mod Walking
 pub mod Ends
+pub mod AgreeLaws
+pub mod WholeLaws

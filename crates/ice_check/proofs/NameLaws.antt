@@ -138,6 +138,9 @@ pub kept_take : (ks : List Kept) (count k : ℕ) → count ≤ length ks → k <
 kept_take ks count k room h =
     kept_at (take count ks) k none (omega (arith, length-take count ks)) ∙ ap kept_name (get_or-take count ks k none h) ∙ sym (kept_at ks k none (omega arith))
 
+pub cut_long : (ks : List Kept) (count : ℕ) → count ≤ length ks → length (names_of (take count ks)) ≡ count
+cut_long ks count room = omega (arith, length-map {A = Kept} {B = List ℕ} (take count ks) kept_name, length-take count ks)
+
 pub kept_set : (ks : List Kept) (k : ℕ) (x : Kept) → k < length ks → get_or (names_of (set ks k x)) k [] ≡ kept_name x
 kept_set ks k x h = kept_at (set ks k x) k x (omega (arith, length-set {A = Kept})) ∙ ap kept_name (get_or-set_same ks k x x h)
 

@@ -136,3 +136,9 @@ pub record BitsDisagree (lot : LotView) (m : Map) (ins bls : List Bool) : Type 0
   pub group : ℕ
   pub below : group < length lot.groups
   pub bad : GroupDisagrees (m (256 * group)) group ins bls
+
+-- ---- counts
+
+-- the numbers of marks are other ones than these
+abbrev pub CountsDiffer : LotView → ℕ → ℕ → List Bool → List Bool → Type 0
+CountsDiffer lot bs ns ins bls = (count_below (marked bls) (256 * length lot.groups) ≢ bs) ⊎ (count_below (marked ins) (64 * length lot.groups) ≢ ns)

@@ -12,7 +12,7 @@ use Rattle.ice_check.specs.declared.fault.Summary.{Summary}
 use Rattle.tree_spec.specs.Trees.{Tree}
 use Rattle.tree_spec.specs.Costs.{Form, form_one, blocks, nodes}
 use Rattle.ice_reads.specs.Tables.{Map}
-use Rattle.ice_reads.specs.Recovers.{MapRecovers}
+use Rattle.ice_reads.specs.Recovers.{Holds, MapRecovers}
 use Rattle.ice_rules.specs.Rules.{Breaks, MayName, form_in}
 
 -- the view shows what the lot holds, which is this map
@@ -58,3 +58,8 @@ IfBitmap P (Damaged _) = ⊥
 abbrev pub told_as : OpFault → CheckFault
 told_as (op.Damaged r) = Damaged r
 told_as _ = Disk
+
+-- the map holds some tree
+pub record HoldsSome (lot : LotView) (m : Map) : Type 0 where
+  pub tree : Tree
+  pub holds : Holds form_one lot m tree

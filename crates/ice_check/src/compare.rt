@@ -7,7 +7,7 @@ ghost use Rattle.ice_base.specs.Used.{bit_index, bits_of};
 ghost use Rattle.ice_base.specs.Views.{Looked};
 ghost use Rattle.ice_reads.specs.Tables.{Map};
 ghost use Rattle.ice_check.specs.Marks.{marked, BitsAgree, BitsDisagree, GroupAgrees, GroupDisagrees};
-ghost use Rattle.ice_check.specs.Shown.{Shows, IfBitmap};
+ghost use Rattle.ice_check.specs.Shown.{Shows, IsCheckFault, IfBitmap};
 ghost use Rattle.ice_check.specs.declared.fault.CheckFault.TheVariants.{Disk as FaultDisk};
 
 use crate::fault::CheckFault;
@@ -73,11 +73,12 @@ pub fn compare_bits<D: Disk, V: View<D>>(
     requires blocks { 256 * length lot.now.groups ≤ length blocks.now }
     ensures agrees { (m : Map) → Shows V.View lot.now view.old disk.old m → OnOk result (BitsAgree lot.now m inodes.now blocks.now) }
     ensures disagrees { (m : Map) → Shows V.View lot.now view.old disk.old m → IfErr result (IfBitmap (BitsDisagree lot.now m inodes.now blocks.now)) }
+    ensures faults { IfErr result IsCheckFault }
     ensures looked { Looked D.Disk V.View lot.now view.old disk.old view.new disk.new }
     ensures failed { IsErrOf result FaultDisk → Rose (D.state disk.old).faults (D.state disk.new).faults }
 {
     let mut block = [0; 1024];
-    for group in 0..u32::from(lot.len()) {
+    for group in 0..lot.len() as u32 {
         read_block(view, disk, lot, 256 * group, &mut block)?;
         if !group_agrees(&block, group as usize, inodes, blocks) {
             return Err(CheckFault::Damaged(Rule::Bitmap));

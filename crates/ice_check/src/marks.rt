@@ -3,11 +3,19 @@ ghost use Rattle.std.specs.Prelude.{◌≡◌, ◌≤◌, ◌<◌, [], ◌∷◌
 ghost use Rattle.ice_base.specs.Bits.{count_below};
 ghost use Rattle.ice_base.specs.Spare.{has};
 ghost use Rattle.ice_map.specs.Maps.{longest, uses, blocks_of, indirect_of};
-ghost use Rattle.ice_check.specs.Marks.{marked, Marked, MarkedTwice};
+ghost use Rattle.ice_check.specs.Marks.{marked, Marked, MarkedTwice, Unmarked};
 
 use crate::inodes::pointer;
 use ice_base::Block;
 use ice_map::Inode;
+
+/// Marks of which none is given.
+pub fn unmarked<const N: usize>() -> [bool; N]
+    ensures blank { Unmarked result }
+    ensures long { length result ≡ N }
+{
+    [false; N]
+}
 
 /// Gives a number its mark, or says that it has one.
 #[tactic(auto, using(crate::proofs::MarkLaws::marked_laws))]

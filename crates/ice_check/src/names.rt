@@ -13,12 +13,14 @@ pub struct Kept {
     pub len: usize,
 }
 
-/// No name.
-pub fn no_name() -> Kept {
-    Kept {
+/// An array of no names.
+pub fn no_names<const N: usize>() -> [Kept; N]
+    ensures { length result ≡ N }
+{
+    [Kept {
         bytes: [0; 123],
         len: 0,
-    }
+    }; N]
 }
 
 fn name_bytes(kept: &Kept) -> &[u8]

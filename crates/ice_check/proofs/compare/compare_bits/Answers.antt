@@ -8,7 +8,7 @@ returns-then-not-group_agrees-clause-disagrees g c = λ m s.
     let read = c.in_ok-read_block.ensures.content m (still_shows g.D.Disk g.V.View _ _ _ _ _ m c.loop-group.invariant.looked s) in
     record {
       group = c.loop-group.group;
-      below = ?;
+      below = omega (arith, c.loop-group-test.true, c.len-group-end.ensures.len);
       bad = subst (λ (b : List ℕ). GroupDisagrees b c.loop-group.group c.args.inodes.now c.args.blocks.now) read (c.group_agrees.ensures.no c.if-not-group_agrees.true);
     }
 

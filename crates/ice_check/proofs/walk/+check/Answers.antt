@@ -46,13 +46,37 @@ check_inode-returns-in-None-clause-seen g t c = λ m w s at seen.
     (c.mark.ensures.new c.if-not-mark.false) (c.in_ok-visit.ensures.marks m later)
 
 pub check_inode-returns-in-Some-clause-checked : goal.check_inode-returns-in-Some-clause-checked
-check_inode-returns-in-Some-clause-checked g t c = λ m s. ?
+check_inode-returns-in-Some-clause-checked g t c = λ m s.
+    let used = sym (c.in_ok-used.ensures.value m s) ∙ c.if-not-used.false in
+    let later = still_shows g.D.Disk g.V.View _ _ _ _ _ m c.is_used.ensures.looked s in
+    let dir = subst (λ o. IfSome o (λ n. ((own_in form_one m c.args.number).inode.kind ≡ 2) × (n ≡ length (rows_in form_one (own_in form_one m c.args.number))))) c.in-Some.is (c.in_ok-visit.ensures.dir m later) in
+    let own = c.mark.ensures.new c.if-not-mark.false in
+    let sound = c.in_ok-visit.ensures.sound m later used in
+    let further = still_shows g.D.Disk g.V.View _ _ _ _ _ m c.visit.ensures.looked later in
+    ok-then c.check_rows.result _ _ (λ rows. dir_checked form_one c.args.lot.now m c.args.number c.args.depth c.in-Some.count _ _ _ _ _ _ c.requires.number c.if-depth-gt24.false sound dir.0 dir.1 own (c.in_ok-visit.ensures.marks m later) rows)
+    (c.check_rows.ensures.checked m further (record { sound = sound; dir = dir.0 }) dir.1)
 
 pub check_inode-returns-in-Some-clause-broken : goal.check_inode-returns-in-Some-clause-broken
-check_inode-returns-in-Some-clause-broken g t c = λ m w s at seen. ?
+check_inode-returns-in-Some-clause-broken g t c = λ m w s at seen.
+    let used = sym (c.in_ok-used.ensures.value m s) ∙ c.if-not-used.false in
+    let later = still_shows g.D.Disk g.V.View _ _ _ _ _ m c.is_used.ensures.looked s in
+    let dir = subst (λ o. IfSome o (λ n. ((own_in form_one m c.args.number).inode.kind ≡ 2) × (n ≡ length (rows_in form_one (own_in form_one m c.args.number))))) c.in-Some.is (c.in_ok-visit.ensures.dir m later) in
+    let own = c.mark.ensures.new c.if-not-mark.false in
+    let sound = c.in_ok-visit.ensures.sound m later used in
+    let further = still_shows g.D.Disk g.V.View _ _ _ _ _ m c.visit.ensures.looked later in
+    c.check_rows.ensures.broken m w further (record { sound = sound; dir = dir.0 }) dir.1 at
+    (seen_dir form_one c.args.lot.now m w c.args.number c.args.depth at c.args.inodes.now _ c.args.blocks.now _ c.if-depth-gt24.false used sound seen own (c.in_ok-visit.ensures.marks m later))
 
 pub check_inode-returns-in-Some-clause-seen : goal.check_inode-returns-in-Some-clause-seen
-check_inode-returns-in-Some-clause-seen g t c = λ m w s at seen. ?
+check_inode-returns-in-Some-clause-seen g t c = λ m w s at seen.
+    let used = sym (c.in_ok-used.ensures.value m s) ∙ c.if-not-used.false in
+    let later = still_shows g.D.Disk g.V.View _ _ _ _ _ m c.is_used.ensures.looked s in
+    let dir = subst (λ o. IfSome o (λ n. ((own_in form_one m c.args.number).inode.kind ≡ 2) × (n ≡ length (rows_in form_one (own_in form_one m c.args.number))))) c.in-Some.is (c.in_ok-visit.ensures.dir m later) in
+    let own = c.mark.ensures.new c.if-not-mark.false in
+    let sound = c.in_ok-visit.ensures.sound m later used in
+    let further = still_shows g.D.Disk g.V.View _ _ _ _ _ m c.visit.ensures.looked later in
+    c.check_rows.ensures.seen m w further (record { sound = sound; dir = dir.0 }) dir.1 at
+    (seen_dir form_one c.args.lot.now m w c.args.number c.args.depth at c.args.inodes.now _ c.args.blocks.now _ c.if-depth-gt24.false used sound seen own (c.in_ok-visit.ensures.marks m later))
 
 pub check_rows-loop-k-init : goal.check_rows-loop-k-init
 check_rows-loop-k-init g t c = record {
