@@ -32,7 +32,7 @@ fn a_sound_lot_says_its_cost(rt: HostRuntime) -> Result<(), Fail> {
 }
 
 /// What each of these lots breaks alone. Each is the lot of one empty directory in the root with other bytes.
-fn damages() -> [(Rule, &'static [Byte]); 13] {
+fn damages() -> [(Rule, &'static [Byte]); 14] {
     [
         (Rule::Magic, &[(SUB, 0, 0)]),
         (Rule::Version, &[(SUB, 4, 9)]),
@@ -67,6 +67,7 @@ fn damages() -> [(Rule, &'static [Byte]); 13] {
             ],
         ),
         (Rule::Bitmap, &[(BITMAP, 1, 7)]),
+        (Rule::Bitmap, &[(BITMAP, 1, 1)]),
     ]
 }
 

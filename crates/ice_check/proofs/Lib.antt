@@ -1,5 +1,6 @@
 pub mod ShownLaws
 pub mod MarkLaws
+pub mod BitLaws
 pub mod LookLaws
 pub mod NameLaws
 pub mod VisitLaws

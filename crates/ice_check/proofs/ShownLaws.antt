@@ -1,6 +1,8 @@
 -- What a view shows, from one moment to a later one.
-use Rattle.std.proofs.Common.{◌≡◌, refl, ◌∙◌, arith, Result, Ok, Err}
+use Rattle.std.proofs.Common.{◌≡◌, refl, ◌∙◌, sym, subst, arith, Result, Ok, Err}
 use Rattle.std.specs.Prelude.{IfErr, OnOk}
+use Rattle.std.specs.Result.{IsErr, IsErrAnd}
+use Rattle.ice_check.specs.declared.fault.CheckFault.{CheckFault}
 use Rattle.ice_base.specs.Lots.{LotView}
 use Rattle.ice_base.specs.declared.disk.Disk as disk
 use Rattle.ice_base.specs.declared.view.View as view
@@ -37,3 +39,8 @@ looked_then d k lot u c v e w f a b = record {
   later = let x = a.later in let y = b.later in omega arith;
   steady = λ x y h. b.steady x y (a.steady x y h);
 }
+
+-- what follows from the fault of a call that is handed on
+pub handed : {T : Type 0} (r : Result T CheckFault) (e : CheckFault) (P : CheckFault → Type 0) → IsErr r × IsErrAnd r (λ x. x ≡ e) → P e → IfErr r P
+handed (Ok x) e P s h = tt
+handed (Err x) e P s h = subst P (sym s.1) h

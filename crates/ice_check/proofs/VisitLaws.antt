@@ -12,10 +12,13 @@ use Rattle.ice_dir.specs.Rows.{Row}
 use Rattle.tree_spec.specs.Costs.{form_one}
 use Rattle.ice_reads.specs.Tables.{Map, own_in, rows_in, IsNameOf}
 use Rattle.ice_reads.proofs.Losses.{length-rows_in}
-use Rattle.ice_rules.specs.Walks.{KindFits, PointersFit, IsSound, IsNamable, WalksTo, WalkUses, LooksInto, entry_of}
-use Rattle.ice_rules.specs.Rules.{Breaks}
+use Rattle.ice_rules.specs.Walks.{KindFits, PointersFit, IsSound, IsNamable, WalksTo, WalkUses, LooksInto, BlockReached, entry_of}
+use Rattle.ice_rules.specs.Rules.{Breaks, Differs}
 use Rattle.ice_rules.proofs.Orders.{before_apart}
-use Rattle.ice_check.specs.Marks.{marked, Marked, MarkedTwice, SeenBefore, AllNew, IsGood}
+use Rattle.ice_check.specs.Marks.{marked, Marked, MarkedTwice, SeenBefore, SomeUnused, AllNew, IsGood}
+use Rattle.ice_check.specs.declared.fault.CheckFault.{CheckFault}
+use Rattle.ice_check.specs.declared.fault.CheckFault.TheVariants as check
+use Rattle.ice_check.specs.Shown.{IfBitmap, Broke}
 use Rattle.ice_check.proofs.LookLaws.{same_uses, fits_here, kind_here}
 
 -- an inode that fits and is no file
@@ -43,6 +46,21 @@ module _ (lot : LotView) (m : Map) (i : ℕ) (inode : Inode) (is : inode ≡ ino
     ap (λ (x : Inode). x.kind) (sym is) ∙ (dir_kind lot i inode kind other).0,
     ap (λ (x : Inode). x.size) is ∙ sym (length-rows_in form_one (own_in form_one m i)),
   )
+
+  -- a block that is not marked used
+  pub unused_here : (w : List ℕ) → WalksTo form_one lot m w i → used_inode m i ≡ true → SomeUnused m (uses (λ _. pointers) inode count) → Breaks form_one lot m rule.Bitmap
+  unused_here w by used u =
+      let among = subst (λ xs. has xs u.block ≡ true) uses_here u.among in
+      inr (inl (record {
+        block = u.block;
+        place = (sound_here used).pointers.places u.block among;
+        bad = subst (λ b. Differs b (BlockReached form_one lot m u.block)) (sym u.unused) (record { walk = w; inode = i; by = record { by = by; sound = sound_here used; uses = among } });
+      }))
+
+  pub unused_broke : (w : List ℕ) (e : CheckFault) → WalksTo form_one lot m w i → used_inode m i ≡ true → IfBitmap (SomeUnused m (uses (λ _. pointers) inode count)) e → Broke lot m e
+  unused_broke w check.Disk by used h = tt
+  unused_broke w (check.Damaged rule.Bitmap) by used h = unused_here w by used h
+  unused_broke w (check.Damaged _) by used h = absurd h
 
   -- a block that has a mark, or that the map has twice
   pub twice_here : (w : List ℕ) (ins old : List Bool) → WalksTo form_one lot m w i → used_inode m i ≡ true → SeenBefore form_one lot m w ins old → MarkedTwice old (uses (λ _. pointers) inode count) → Breaks form_one lot m rule.BlockTwice

@@ -142,3 +142,9 @@ pub record BitsDisagree (lot : LotView) (m : Map) (ins bls : List Bool) : Type 0
 -- the numbers of marks are other ones than these
 abbrev pub CountsDiffer : LotView → ℕ → ℕ → List Bool → List Bool → Type 0
 CountsDiffer lot bs ns ins bls = (count_below (marked bls) (256 * length lot.groups) ≢ bs) ⊎ (count_below (marked ins) (64 * length lot.groups) ≢ ns)
+
+-- some block of the list is not marked used
+pub record SomeUnused (m : Map) (xs : List ℕ) : Type 0 where
+  pub block : ℕ
+  pub among : has xs block ≡ true
+  pub unused : used_block m block ≡ false

@@ -31,8 +31,10 @@ fn reserved_set(block: &Block) -> bool
 /// Whether the bits of a group from one on are the marks of the numbers from `start` on.
 fn bits_agree(block: &Block, inodes: bool, from: u32, marks: &[bool], start: usize) -> bool
     requires { start + bits_of inodes ≤ length marks.now }
-    ensures yes { result ≡ true → (i : ℕ) → from ≤ i → i < bits_of inodes → bit_of block.now (bit_index inodes i) ≡ marked marks.now (start + i) }
-    ensures no { result ≡ false → (i : ℕ) × (from ≤ i) × (i < bits_of inodes) × (bit_of block.now (bit_index inodes i) ≢ marked marks.now (start + i)) }
+    ensures yes { result ≡ true → (i : ℕ) → from ≤ i → i < bits_of inodes
+        → bit_of block.now (bit_index inodes i) ≡ marked marks.now (start + i) }
+    ensures no { result ≡ false → (i : ℕ) × (from ≤ i) × (i < bits_of inodes)
+        × (bit_of block.now (bit_index inodes i) ≢ marked marks.now (start + i)) }
 {
     for i in from..bits(inodes) {
         if bit(block, inodes, i) != marks[start + i as usize] {
@@ -71,8 +73,10 @@ pub fn compare_bits<D: Disk, V: View<D>>(
     requires sited { is_sited lot.now (D.state disk.old).size ≡ true }
     requires inodes { 64 * length lot.now.groups ≤ length inodes.now }
     requires blocks { 256 * length lot.now.groups ≤ length blocks.now }
-    ensures agrees { (m : Map) → Shows V.View lot.now view.old disk.old m → OnOk result (BitsAgree lot.now m inodes.now blocks.now) }
-    ensures disagrees { (m : Map) → Shows V.View lot.now view.old disk.old m → IfErr result (IfBitmap (BitsDisagree lot.now m inodes.now blocks.now)) }
+    ensures agrees { (m : Map) → Shows V.View lot.now view.old disk.old m
+        → OnOk result (BitsAgree lot.now m inodes.now blocks.now) }
+    ensures disagrees { (m : Map) → Shows V.View lot.now view.old disk.old m
+        → IfErr result (IfBitmap (BitsDisagree lot.now m inodes.now blocks.now)) }
     ensures faults { IfErr result IsCheckFault }
     ensures looked { Looked D.Disk V.View lot.now view.old disk.old view.new disk.new }
     ensures failed { IsErrOf result FaultDisk → Rose (D.state disk.old).faults (D.state disk.new).faults }

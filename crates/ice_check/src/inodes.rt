@@ -123,7 +123,8 @@ fn read_pointers<D: Disk, V: View<D>>(
 ) -> Result<(), CheckFault>
     requires sited { is_sited lot.now (D.state disk.old).size ≡ true }
     requires single { 12 < count → is_data lot.now inode.now.single ≡ true }
-    ensures content { (m : Map) → Shows V.View lot.now view.old disk.old m → OnOk result (12 < count → into.new ≡ m inode.now.single) }
+    ensures content { (m : Map) → Shows V.View lot.now view.old disk.old m
+        → OnOk result (12 < count → into.new ≡ m inode.now.single) }
     ensures looked { Looked D.Disk V.View lot.now view.old disk.old view.new disk.new }
     ensures fault { IfErr result IsDisk }
     ensures failed { OnErr result (Rose (D.state disk.old).faults (D.state disk.new).faults) }
@@ -148,8 +149,10 @@ pub fn look<D: Disk, V: View<D>>(
     ensures value { (m : Map) → Shows V.View lot.now view.old disk.old m → IfOk result (λ inode. inode ≡ inode_of m number) }
     ensures kind { IfOk result (KindFits form_one lot.now number) }
     ensures fits { IfOk result (λ inode. PointersFit form_one lot.now (own_of (λ _. pointers.new) inode (map_length 64 inode))) }
-    ensures content { (m : Map) → Shows V.View lot.now view.old disk.old m → IfOk result (λ inode. 12 < map_length 64 inode → pointers.new ≡ m inode.single) }
-    ensures broken { (m : Map) (w : List ℕ) → Shows V.View lot.now view.old disk.old m → WalksTo form_one lot.now m w number → used_inode m number ≡ true → IfErr result (Broke lot.now m) }
+    ensures content { (m : Map) → Shows V.View lot.now view.old disk.old m
+        → IfOk result (λ inode. 12 < map_length 64 inode → pointers.new ≡ m inode.single) }
+    ensures broken { (m : Map) (w : List ℕ) → Shows V.View lot.now view.old disk.old m → WalksTo form_one lot.now m w number
+        → used_inode m number ≡ true → IfErr result (Broke lot.now m) }
     ensures looked { Looked D.Disk V.View lot.now view.old disk.old view.new disk.new }
     ensures faults { IfErr result IsCheckFault }
     ensures failed { IsErrOf result FaultDisk → Rose (D.state disk.old).faults (D.state disk.new).faults }

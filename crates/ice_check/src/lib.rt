@@ -11,6 +11,7 @@ ghost use Rattle.ice_reads.specs.Recovers.{MapRecovers};
 ghost use Rattle.ice_check.specs.Shown.{IsDisk, IsCheckFault, Named, Sums};
 ghost use Rattle.ice_check.specs.declared.fault.CheckFault.TheVariants.{Disk as FaultDisk};
 
+mod bits;
 mod compare;
 mod fault;
 mod inodes;
@@ -37,7 +38,8 @@ pub fn check<D: Disk, V: View<D>>(
     requires sited { is_sited lot.now (D.state disk.old).size ≡ true }
     // Where the view shows what the lot holds, the answer is Ok exactly where its map recovers a tree, but for a fault of the disk.
     ensures recovers { IfShown V.View lot.now view.old disk.old (λ m. IfOk result (Sums lot.now m)) }
-    ensures exact { (f : Form) (mode k : ℕ) (t : Tree) → f ≡ form_of f.version → IfShown V.View lot.now view.old disk.old (λ m. MapRecovers f mode lot.now m t k → IfErr result IsDisk) }
+    ensures exact { (f : Form) (mode k : ℕ) (t : Tree) → f ≡ form_of f.version
+        → IfShown V.View lot.now view.old disk.old (λ m. MapRecovers f mode lot.now m t k → IfErr result IsDisk) }
     // A rule that is named may be named.
     ensures named { IfShown V.View lot.now view.old disk.old (λ m. IfErr result (Named lot.now m)) }
     // Whatever the view shows, nothing of it changes, the refused header is never named, and a fault of the disk has its cause.

@@ -46,9 +46,11 @@ pub fn read_entry<D: Disk, V: View<D>>(
 ) -> Result<u32, CheckFault>
     requires sited { is_sited lot.now (D.state disk.old).size ≡ true }
     requires number { number < 64 * length lot.now.groups }
-    ensures row { (m : Map) → Shows V.View lot.now view.old disk.old m → IfOk result (λ next. entry_of form_one m number k ≡ Some (name.new, next)) }
+    ensures row { (m : Map) → Shows V.View lot.now view.old disk.old m
+        → IfOk result (λ next. entry_of form_one m number k ≡ Some (name.new, next)) }
     ensures fits { OnOk result (IsNameOf form_one name.new) }
-    ensures broken { (m : Map) (w : List ℕ) → Shows V.View lot.now view.old disk.old m → LooksInto form_one lot.now m w number → k < length (rows_in form_one (own_in form_one m number)) → IfErr result (Broke lot.now m) }
+    ensures broken { (m : Map) (w : List ℕ) → Shows V.View lot.now view.old disk.old m → LooksInto form_one lot.now m w number
+        → k < length (rows_in form_one (own_in form_one m number)) → IfErr result (Broke lot.now m) }
     ensures looked { Looked D.Disk V.View lot.now view.old disk.old view.new disk.new }
     ensures faults { IfErr result IsCheckFault }
     ensures failed { IsErrOf result FaultDisk → Rose (D.state disk.old).faults (D.state disk.new).faults }
@@ -75,8 +77,10 @@ fn read_names<D: Disk, V: View<D>>(
     requires number { number < 64 * length lot.now.groups }
     requires room { count ≤ length names.old }
     ensures long { length names.new ≡ length names.old }
-    ensures names { (m : Map) → Shows V.View lot.now view.old disk.old m → OnOk result (AreRead m number count (names_of names.new)) }
-    ensures broken { (m : Map) (w : List ℕ) → Shows V.View lot.now view.old disk.old m → LooksInto form_one lot.now m w number → count ≡ length (rows_in form_one (own_in form_one m number)) → IfErr result (Broke lot.now m) }
+    ensures names { (m : Map) → Shows V.View lot.now view.old disk.old m
+        → OnOk result (AreRead m number count (names_of names.new)) }
+    ensures broken { (m : Map) (w : List ℕ) → Shows V.View lot.now view.old disk.old m → LooksInto form_one lot.now m w number
+        → count ≡ length (rows_in form_one (own_in form_one m number)) → IfErr result (Broke lot.now m) }
     ensures looked { Looked D.Disk V.View lot.now view.old disk.old view.new disk.new }
     ensures faults { IfErr result IsCheckFault }
     ensures failed { IsErrOf result FaultDisk → Rose (D.state disk.old).faults (D.state disk.new).faults }
@@ -102,8 +106,10 @@ pub fn check_names<D: Disk, V: View<D>>(
     requires number { number < 64 * length lot.now.groups }
     requires room { count ≤ length names.old }
     ensures long { length names.new ≡ length names.old }
-    ensures new { (m : Map) → Shows V.View lot.now view.old disk.old m → count ≡ length (rows_in form_one (own_in form_one m number)) → OnOk result (AllNew m number) }
-    ensures broken { (m : Map) (w : List ℕ) → Shows V.View lot.now view.old disk.old m → LooksInto form_one lot.now m w number → count ≡ length (rows_in form_one (own_in form_one m number)) → IfErr result (Broke lot.now m) }
+    ensures new { (m : Map) → Shows V.View lot.now view.old disk.old m
+        → count ≡ length (rows_in form_one (own_in form_one m number)) → OnOk result (AllNew m number) }
+    ensures broken { (m : Map) (w : List ℕ) → Shows V.View lot.now view.old disk.old m → LooksInto form_one lot.now m w number
+        → count ≡ length (rows_in form_one (own_in form_one m number)) → IfErr result (Broke lot.now m) }
     ensures looked { Looked D.Disk V.View lot.now view.old disk.old view.new disk.new }
     ensures faults { IfErr result IsCheckFault }
     ensures failed { IsErrOf result FaultDisk → Rose (D.state disk.old).faults (D.state disk.new).faults }

@@ -11,6 +11,7 @@ ghost use Rattle.ice_check.specs.Marks.{Marked, Checked, CheckedRows, AllNew, Is
 ghost use Rattle.ice_check.specs.Shown.{Shows, IsCheckFault, Broke};
 ghost use Rattle.ice_check.specs.declared.fault.CheckFault.TheVariants.{Disk as FaultDisk};
 
+use crate::bits::check_bits;
 use crate::fault::CheckFault;
 use crate::inodes::{look, map_blocks};
 use crate::marks::{mark, mark_blocks};
@@ -32,11 +33,17 @@ fn visit<D: Disk, V: View<D>>(
     requires blocks { 256 * length lot.now.groups ≤ length blocks.old }
     ensures wide { length blocks.new ≡ length blocks.old }
     ensures few { IfOk result (λ o. IfSome o (λ n. n < 64 * length lot.now.groups)) }
-    ensures sound { (m : Map) → Shows V.View lot.now view.old disk.old m → used_inode m number ≡ true → OnOk result (IsSound form_one lot.now m number) }
-    ensures marks { (m : Map) → Shows V.View lot.now view.old disk.old m → OnOk result (Marked blocks.old blocks.new (own_in form_one m number).uses) }
-    ensures file { (m : Map) → Shows V.View lot.now view.old disk.old m → IfOk result (λ o. IfNone o ((own_in form_one m number).inode.kind ≡ 1)) }
-    ensures dir { (m : Map) → Shows V.View lot.now view.old disk.old m → IfOk result (λ o. IfSome o (λ n. ((own_in form_one m number).inode.kind ≡ 2) × (n ≡ length (rows_in form_one (own_in form_one m number))))) }
-    ensures broken { (m : Map) (w : List ℕ) (inodes : List Bool) → Shows V.View lot.now view.old disk.old m → WalksTo form_one lot.now m w number → used_inode m number ≡ true
+    ensures sound { (m : Map) → Shows V.View lot.now view.old disk.old m → used_inode m number ≡ true
+        → OnOk result (IsSound form_one lot.now m number) }
+    ensures marks { (m : Map) → Shows V.View lot.now view.old disk.old m
+        → OnOk result (Marked blocks.old blocks.new (own_in form_one m number).uses) }
+    ensures file { (m : Map) → Shows V.View lot.now view.old disk.old m
+        → IfOk result (λ o. IfNone o ((own_in form_one m number).inode.kind ≡ 1)) }
+    ensures dir { (m : Map) → Shows V.View lot.now view.old disk.old m
+        → IfOk result (λ o. IfSome o (λ n. ((own_in form_one m number).inode.kind ≡ 2)
+        × (n ≡ length (rows_in form_one (own_in form_one m number))))) }
+    ensures broken { (m : Map) (w : List ℕ) (inodes : List Bool) → Shows V.View lot.now view.old disk.old m
+        → WalksTo form_one lot.now m w number → used_inode m number ≡ true
         → SeenBefore form_one lot.now m w inodes blocks.old → IfErr result (Broke lot.now m) }
     ensures looked { Looked D.Disk V.View lot.now view.old disk.old view.new disk.new }
     ensures faults { IfErr result IsCheckFault }
@@ -45,6 +52,7 @@ fn visit<D: Disk, V: View<D>>(
     let mut pointers = [0; 1024];
     let inode = look(view, disk, lot, number, &mut pointers)?;
     let count = map_blocks(&inode);
+    check_bits(view, disk, lot, &inode, &pointers, count)?;
     if !mark_blocks(&inode, &pointers, count, blocks) {
         return Err(CheckFault::Damaged(Rule::BlockTwice));
     }
@@ -73,8 +81,10 @@ fn next_inode<D: Disk, V: View<D>>(
     requires sited { is_sited lot.now (D.state disk.old).size ≡ true }
     requires number { number < 64 * length lot.now.groups }
     ensures below { IfOk result (λ next. next < 64 * length lot.now.groups) }
-    ensures good { (m : Map) → Shows V.View lot.now view.old disk.old m → AllNew m number → IfOk result (IsGood form_one lot.now m number k) }
-    ensures broken { (m : Map) (w : List ℕ) → Shows V.View lot.now view.old disk.old m → LooksInto form_one lot.now m w number → k < length (rows_in form_one (own_in form_one m number)) → IfErr result (Broke lot.now m) }
+    ensures good { (m : Map) → Shows V.View lot.now view.old disk.old m → AllNew m number
+        → IfOk result (IsGood form_one lot.now m number k) }
+    ensures broken { (m : Map) (w : List ℕ) → Shows V.View lot.now view.old disk.old m → LooksInto form_one lot.now m w number
+        → k < length (rows_in form_one (own_in form_one m number)) → IfErr result (Broke lot.now m) }
     ensures looked { Looked D.Disk V.View lot.now view.old disk.old view.new disk.new }
     ensures faults { IfErr result IsCheckFault }
     ensures failed { IsErrOf result FaultDisk → Rose (D.state disk.old).faults (D.state disk.new).faults }
@@ -108,10 +118,13 @@ pub fn check_inode<D: Disk, V: View<D>>(
     ensures long { length inodes.new ≡ length inodes.old }
     ensures wide { length blocks.new ≡ length blocks.old }
     ensures room { length names.new ≡ length names.old }
-    ensures checked { (m : Map) → Shows V.View lot.now view.old disk.old m → OnOk result (Checked form_one lot.now m number depth inodes.old inodes.new blocks.old blocks.new) }
-    ensures broken { (m : Map) (w : List ℕ) → Shows V.View lot.now view.old disk.old m → IsAt form_one lot.now m w number depth → SeenBefore form_one lot.now m w inodes.old blocks.old
+    ensures checked { (m : Map) → Shows V.View lot.now view.old disk.old m
+        → OnOk result (Checked form_one lot.now m number depth inodes.old inodes.new blocks.old blocks.new) }
+    ensures broken { (m : Map) (w : List ℕ) → Shows V.View lot.now view.old disk.old m → IsAt form_one lot.now m w number depth
+        → SeenBefore form_one lot.now m w inodes.old blocks.old
         → IfErr result (Broke lot.now m) }
-    ensures seen { (m : Map) (w : List ℕ) → Shows V.View lot.now view.old disk.old m → IsAt form_one lot.now m w number depth → SeenBefore form_one lot.now m w inodes.old blocks.old
+    ensures seen { (m : Map) (w : List ℕ) → Shows V.View lot.now view.old disk.old m → IsAt form_one lot.now m w number depth
+        → SeenBefore form_one lot.now m w inodes.old blocks.old
         → OnOk result (SeenWithin form_one lot.now m w inodes.new blocks.new) }
     ensures looked { Looked D.Disk V.View lot.now view.old disk.old view.new disk.new }
     ensures faults { IfErr result IsCheckFault }
@@ -158,12 +171,17 @@ fn check_rows<D: Disk, V: View<D>>(
     ensures long { length inodes.new ≡ length inodes.old }
     ensures wide { length blocks.new ≡ length blocks.old }
     ensures room { length names.new ≡ length names.old }
-    ensures checked { (m : Map) → Shows V.View lot.now view.old disk.old m → IsOpen form_one lot.now m number → count ≡ length (rows_in form_one (own_in form_one m number))
+    ensures checked { (m : Map) → Shows V.View lot.now view.old disk.old m → IsOpen form_one lot.now m number
+        → count ≡ length (rows_in form_one (own_in form_one m number))
         → OnOk result (CheckedRows form_one lot.now m (rows_in form_one (own_in form_one m number)) (depth + 1) count inodes.old inodes.new blocks.old blocks.new) }
-    ensures broken { (m : Map) (w : List ℕ) → Shows V.View lot.now view.old disk.old m → IsOpen form_one lot.now m number → count ≡ length (rows_in form_one (own_in form_one m number))
-        → IsAt form_one lot.now m w number depth → SeenBefore form_one lot.now m (w ++ 0 ∷ []) inodes.old blocks.old → IfErr result (Broke lot.now m) }
-    ensures seen { (m : Map) (w : List ℕ) → Shows V.View lot.now view.old disk.old m → IsOpen form_one lot.now m number → count ≡ length (rows_in form_one (own_in form_one m number))
-        → IsAt form_one lot.now m w number depth → SeenBefore form_one lot.now m (w ++ 0 ∷ []) inodes.old blocks.old → OnOk result (SeenWithin form_one lot.now m w inodes.new blocks.new) }
+    ensures broken { (m : Map) (w : List ℕ) → Shows V.View lot.now view.old disk.old m → IsOpen form_one lot.now m number
+        → count ≡ length (rows_in form_one (own_in form_one m number))
+        → IsAt form_one lot.now m w number depth → SeenBefore form_one lot.now m (w ++ 0 ∷ []) inodes.old blocks.old
+        → IfErr result (Broke lot.now m) }
+    ensures seen { (m : Map) (w : List ℕ) → Shows V.View lot.now view.old disk.old m → IsOpen form_one lot.now m number
+        → count ≡ length (rows_in form_one (own_in form_one m number))
+        → IsAt form_one lot.now m w number depth → SeenBefore form_one lot.now m (w ++ 0 ∷ []) inodes.old blocks.old
+        → OnOk result (SeenWithin form_one lot.now m w inodes.new blocks.new) }
     ensures looked { Looked D.Disk V.View lot.now view.old disk.old view.new disk.new }
     ensures faults { IfErr result IsCheckFault }
     ensures failed { IsErrOf result FaultDisk → Rose (D.state disk.old).faults (D.state disk.new).faults }

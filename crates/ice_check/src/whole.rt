@@ -28,7 +28,8 @@ pub fn read_sub_super<D: Disk, V: View<D>>(
     lot: &Lot,
 ) -> Result<SubSuper, CheckFault>
     requires sited { is_sited lot.now (D.state disk.old).size ≡ true }
-    ensures sub { (m : Map) → Shows V.View lot.now view.old disk.old m → IfOk result (λ sub. IsSub lot.now.slot sub (m sub_address)) }
+    ensures sub { (m : Map) → Shows V.View lot.now view.old disk.old m
+        → IfOk result (λ sub. IsSub lot.now.slot sub (m sub_address)) }
     ensures named { (m : Map) → Shows V.View lot.now view.old disk.old m → IfErr result (Named lot.now m) }
     ensures looked { Looked D.Disk V.View lot.now view.old disk.old view.new disk.new }
     ensures faults { IfErr result IsCheckFault }
@@ -73,8 +74,10 @@ pub fn check_tree<D: Disk, V: View<D>>(
     requires blocks { 256 * length lot.now.groups ≤ length blocks.old }
     requires names { 64 * length lot.now.groups ≤ length names.old }
     requires blank { Unmarked inodes.old × Unmarked blocks.old }
-    ensures holds { (m : Map) → Shows V.View lot.now view.old disk.old m → counted false m ≡ sub.now.blocks → counted true m ≡ sub.now.nodes → OnOk result (HoldsSome lot.now m) }
-    ensures broken { (m : Map) → Shows V.View lot.now view.old disk.old m → counted false m ≡ sub.now.blocks → counted true m ≡ sub.now.nodes → IfErr result (Broke lot.now m) }
+    ensures holds { (m : Map) → Shows V.View lot.now view.old disk.old m → counted false m ≡ sub.now.blocks
+        → counted true m ≡ sub.now.nodes → OnOk result (HoldsSome lot.now m) }
+    ensures broken { (m : Map) → Shows V.View lot.now view.old disk.old m → counted false m ≡ sub.now.blocks
+        → counted true m ≡ sub.now.nodes → IfErr result (Broke lot.now m) }
     ensures looked { Looked D.Disk V.View lot.now view.old disk.old view.new disk.new }
     ensures faults { IfErr result IsCheckFault }
     ensures failed { IsErrOf result FaultDisk → Rose (D.state disk.old).faults (D.state disk.new).faults }
@@ -99,8 +102,10 @@ pub fn check_blank<D: Disk, V: View<D>, const INODES: usize, const BLOCKS: usize
     requires blocks { 256 * length lot.now.groups ≤ BLOCKS }
     requires few_inodes { INODES ≤ 4096 }
     requires few_blocks { BLOCKS ≤ 16384 }
-    ensures holds { (m : Map) → Shows V.View lot.now view.old disk.old m → counted false m ≡ sub.now.blocks → counted true m ≡ sub.now.nodes → OnOk result (HoldsSome lot.now m) }
-    ensures broken { (m : Map) → Shows V.View lot.now view.old disk.old m → counted false m ≡ sub.now.blocks → counted true m ≡ sub.now.nodes → IfErr result (Broke lot.now m) }
+    ensures holds { (m : Map) → Shows V.View lot.now view.old disk.old m → counted false m ≡ sub.now.blocks
+        → counted true m ≡ sub.now.nodes → OnOk result (HoldsSome lot.now m) }
+    ensures broken { (m : Map) → Shows V.View lot.now view.old disk.old m → counted false m ≡ sub.now.blocks
+        → counted true m ≡ sub.now.nodes → IfErr result (Broke lot.now m) }
     ensures looked { Looked D.Disk V.View lot.now view.old disk.old view.new disk.new }
     ensures faults { IfErr result IsCheckFault }
     ensures failed { IsErrOf result FaultDisk → Rose (D.state disk.old).faults (D.state disk.new).faults }

@@ -4,14 +4,9 @@ use Rattle.std.specs.Prelude.{IfErr}
 use Rattle.ice_base.proofs.LotLaws.{sited-few}
 use Rattle.ice_check.specs.declared.fault.CheckFault.{CheckFault}
 use Rattle.ice_check.specs.Shown.{Named}
-use Rattle.ice_check.proofs.ShownLaws.{still_shows, shows_itself}
+use Rattle.ice_check.proofs.ShownLaws.{handed, still_shows, shows_itself}
 use Rattle.ice_check.proofs.WholeLaws.{blocks-counted, nodes-counted, broke_named, sums_here, named_none}
 use Rattle.ice_check.proofs.check.Goals as goal
-
--- what follows from the fault of a call that is handed on
-handed : {T : Type 0} (r : Result T CheckFault) (e : CheckFault) (P : CheckFault → Type 0) → IsErr r × IsErrAnd r (λ x. x ≡ e) → P e → IfErr r P
-handed (Ok x) e P s h = tt
-handed (Err x) e P s h = subst P (sym s.1) h
 
 pub check_blank-requires-clause-inodes : goal.check_blank-requires-clause-inodes
 check_blank-requires-clause-inodes g c = let few = sited-few c.args.lot.now (g.D.Disk.state c.args.disk.now).size c.requires.sited in omega arith

@@ -5,14 +5,9 @@ use Rattle.tree_spec.specs.Costs.{form_one}
 use Rattle.ice_reads.specs.Tables.{own_in, rows_in}
 use Rattle.ice_check.specs.declared.fault.CheckFault.{CheckFault}
 use Rattle.ice_check.proofs.Checks.{file_checked, dir_checked, none_checked, more_checked}
-use Rattle.ice_check.proofs.ShownLaws.{ok-then, still_shows, looked_then}
+use Rattle.ice_check.proofs.ShownLaws.{handed, ok-then, still_shows, looked_then}
 use Rattle.ice_check.proofs.Walking.{bit_broken, deep_broken, twice_broken, looks, walks_to, seen_file, seen_dir, at_child, seen_next, seen_whole}
 use Rattle.ice_check.proofs.walk.+check.Goals as goal
-
--- what follows from the fault of a call that is handed on
-handed : {T : Type 0} (r : Result T CheckFault) (e : CheckFault) (P : CheckFault → Type 0) → IsErr r × IsErrAnd r (λ x. x ≡ e) → P e → IfErr r P
-handed (Ok x) e P s h = tt
-handed (Err x) e P s h = subst P (sym s.1) h
 
 pub check_inode-returns-then-not-used-clause-broken : goal.check_inode-returns-then-not-used-clause-broken
 check_inode-returns-then-not-used-clause-broken g t c = λ m w s at seen.

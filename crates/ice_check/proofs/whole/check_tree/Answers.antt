@@ -6,13 +6,8 @@ use Rattle.tree_spec.specs.Costs.{form_one}
 use Rattle.ice_check.specs.declared.fault.CheckFault.{CheckFault}
 use Rattle.ice_check.proofs.AgreeLaws.{agreed, holds_some, bits_broke, counts_broke}
 use Rattle.ice_check.proofs.Ends.{seen_none, at_root}
-use Rattle.ice_check.proofs.ShownLaws.{still_shows}
+use Rattle.ice_check.proofs.ShownLaws.{handed, still_shows}
 use Rattle.ice_check.proofs.whole.check_tree.Goals as goal
-
--- what follows from the fault of a call that is handed on
-handed : {T : Type 0} (r : Result T CheckFault) (e : CheckFault) (P : CheckFault → Type 0) → IsErr r × IsErrAnd r (λ x. x ≡ e) → P e → IfErr r P
-handed (Ok x) e P s h = tt
-handed (Err x) e P s h = subst P (sym s.1) h
 
 pub check_inode-requires-clause-number : goal.check_inode-requires-clause-number
 check_inode-requires-clause-number g c = let some = sited-some _ _ c.requires.sited in omega arith
