@@ -1,9 +1,9 @@
 -- What a comparison of the bitmaps with the marks says of the whole lot.
-use Rattle.std.proofs.Common.{◌≡◌, ◌≢◌, ◌⊎◌, ℕ, ◌+◌, ◌*◌, ◌/◌, ◌%◌, ◌<◌, ◌≤◌, Bool, true, false, List, length, sym, refl, ap, ◌∙◌, subst, arith, inl, inr, ⊎_elim}
+use Rattle.std.proofs.Common.{◌≡◌, ℕ, ◌+◌, ◌*◌, ◌/◌, ◌%◌, Bool, true, false, List, length, sym, refl, ap, ◌∙◌, arith, inl, inr}
 use Rattle.std.proofs.lemmas.Nat.{div-add-mod', mod_below, div_below}
-use Rattle.ice_base.specs.Bits.{bit_of, count_below}
+use Rattle.ice_base.specs.Bits.{count_below}
 use Rattle.ice_base.specs.Lots.{LotView}
-use Rattle.ice_base.specs.Used.{used_block, used_inode, is_data, counted}
+use Rattle.ice_base.specs.Used.{is_data, counted}
 use Rattle.ice_base.specs.declared.fault.Rule.TheVariants as rule
 use Rattle.ice_base.proofs.UsedLaws.{used-bit, used-at, data_of, data_below, data_place, unreserved, group_mod}
 use Rattle.tree_spec.specs.Costs.{form_one}

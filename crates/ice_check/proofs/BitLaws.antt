@@ -1,5 +1,5 @@
 -- Blocks of a map that are not marked used.
-use Rattle.std.proofs.Common.{◌≡◌, ℕ, ◌<◌, ◌≤◌, true, false, List, [], ◌∷◌, sym, subst, arith}
+use Rattle.std.proofs.Common.{◌≡◌, ℕ, ◌<◌, true, false, List, [], ◌∷◌, sym, subst, arith}
 use Rattle.ice_base.specs.Spare.{has}
 use Rattle.ice_base.specs.Used.{used_block}
 use Rattle.ice_map.specs.declared.codec.Inode.{Inode}
@@ -9,7 +9,7 @@ use Rattle.ice_reads.specs.Tables.{Map}
 use Rattle.ice_check.specs.Marks.{SomeUnused}
 use Rattle.ice_check.specs.declared.fault.CheckFault.{CheckFault}
 use Rattle.ice_check.specs.declared.fault.CheckFault.TheVariants as check
-use Rattle.ice_check.specs.Shown.{IfBitmap, Broke}
+use Rattle.ice_check.specs.Shown.{IfBitmap}
 use Rattle.ice_base.specs.declared.fault.Rule.TheVariants as rule
 
 pub bitmap_then : (e : CheckFault) (P Q : Type 0) → (P → Q) → IfBitmap P e → IfBitmap Q e

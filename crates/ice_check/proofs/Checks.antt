@@ -1,19 +1,18 @@
 -- What the parts of a check say together of a tree.
-use Rattle.std.proofs.Common.{◌≡◌, ◌≢◌, ℕ, suc, zero, ◌+◌, ◌*◌, ◌<◌, ◌≤◌, ◌==◌, ◌⊎◌, Bool, true, false, List, [], ◌∷◌, ◌++◌, length, set, sym, refl, ap, subst, arith, inl, inr, ⊎_elim}
+use Rattle.std.proofs.Common.{◌≡◌, ℕ, suc, zero, ◌+◌, ◌*◌, ◌<◌, ◌≤◌, ◌==◌, ◌⊎◌, Bool, true, false, List, [], ◌∷◌, ◌++◌, length, refl, ap, subst, arith, inl, inr, ⊎_elim}
 use Rattle.std.proofs.lemmas.Bool.Decides.{nat_tests}
-use Rattle.std.proofs.lemmas.List.{get_or-set_same, get_or-set_other}
 use Rattle.ice_base.specs.Lots.{LotView}
 use Rattle.ice_base.specs.Used.{used_inode}
 use Rattle.ice_map.specs.Maps.{times}
 use Rattle.ice_map.proofs.ListLaws.{times-append}
-use Rattle.ice_file.specs.Own.{mark, file_bytes}
+use Rattle.ice_file.specs.Own.{file_bytes}
 use Rattle.ice_dir.specs.Rows.{Row}
 use Rattle.tree_spec.specs.Answers.{deepest}
 use Rattle.tree_spec.specs.Trees.{File, Dir, Entries, Nil}
 use Rattle.tree_spec.specs.Costs.{Form}
 use Rattle.ice_reads.specs.Tables.{Map, Table, own_in, rows_in, IsInode}
 use Rattle.ice_reads.specs.Reads.{Reads, tree_uses, entries_use, used_inodes, used_blocks}
-use Rattle.ice_reads.proofs.Frames.{times-here, times-other}
+use Rattle.ice_reads.proofs.Frames.{times-other}
 use Rattle.ice_rules.specs.Walks.{IsSound, KindFits}
 use Rattle.ice_rules.proofs.RowLaws.{no_rows, all_rows, with_row, uses-more, rows_more}
 use Rattle.ice_check.specs.Marks.{Marked, Checked, CheckedRows, IsGood}

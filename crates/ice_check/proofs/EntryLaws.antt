@@ -1,5 +1,5 @@
 -- What a read of an entry shows.
-use Rattle.std.proofs.Common.{◌≡◌, ◌≢◌, ℕ, ◌*◌, ◌/◌, ◌<◌, ◌≤◌, Bool, true, false, List, [], length, get_or, Some, sym, refl, ap, ◌∙◌, subst, arith, inl, inr}
+use Rattle.std.proofs.Common.{◌≡◌, ℕ, ◌*◌, ◌/◌, ◌<◌, ◌≤◌, true, false, List, [], length, get_or, sym, refl, ap, ◌∙◌, subst, arith, inl, inr}
 use Rattle.std.specs.Prelude.{slice_get, IfSome, nat_lt}
 use Rattle.std.proofs.lemmas.Bool.Decides.{nat_tests}
 use Rattle.std.proofs.lemmas.Option.{slice_get-get_or}
@@ -7,18 +7,17 @@ use Rattle.ice_base.specs.Lots.{LotView}
 use Rattle.ice_base.specs.Used.{is_data}
 use Rattle.ice_base.specs.declared.fault.OpFault.{OpFault}
 use Rattle.ice_base.specs.declared.fault.OpFault.TheVariants as op
-use Rattle.ice_base.specs.declared.fault.Rule.{Rule}
 use Rattle.ice_base.specs.declared.fault.Rule.TheVariants as rule
 use Rattle.ice_map.specs.Inodes.{inode_of}
-use Rattle.ice_map.specs.Maps.{nth_block, leads, blocks_of, indirect_of, uses}
+use Rattle.ice_map.specs.Maps.{nth_block, leads}
 use Rattle.ice_map.proofs.MapLaws.{nth-direct, leads-direct, leads-single}
 use Rattle.ice_file.specs.Own.{map_length}
 use Rattle.ice_dir.specs.Faults.{IsEntryFault}
-use Rattle.ice_dir.specs.Rows.{Row, rows_of, IsDirectory, HasEntry}
+use Rattle.ice_dir.specs.Rows.{Row, rows_of, HasEntry}
 use Rattle.ice_dir.proofs.DirLaws.{row-below}
 use Rattle.tree_spec.specs.Costs.{form_one}
 use Rattle.tree_spec.specs.Names.{is_name}
-use Rattle.ice_reads.specs.Tables.{Map, own_in, rows_in, IsNameOf}
+use Rattle.ice_reads.specs.Tables.{Map, own_in, rows_in}
 use Rattle.ice_reads.proofs.Losses.{length-rows_in}
 use Rattle.ice_rules.specs.Walks.{KindFits, LooksInto}
 use Rattle.ice_rules.specs.Rules.{Breaks}

@@ -1,8 +1,8 @@
 -- What a look at an inode shows.
-use Rattle.std.proofs.Common.{◌≡◌, ◌≢◌, ℕ, suc, zero, ◌+◌, ◌-◌, ◌*◌, ◌/◌, ◌<◌, ◌≤◌, ◌==◌, ◌⊎◌, Bool, true, false, List, [], ◌∷◌, ◌++◌, map, length, sym, refl, ap, ◌∙◌, subst, arith, inl, inr, ⊎_elim, cond, nat_lt}
+use Rattle.std.proofs.Common.{◌≡◌, ℕ, suc, zero, ◌+◌, ◌*◌, ◌<◌, ◌≤◌, ◌==◌, true, false, List, [], ◌∷◌, ◌++◌, map, length, sym, refl, ap, ◌∙◌, subst, arith, inl, inr, nat_lt}
 use Rattle.std.specs.List.{range_with_len}
 use Rattle.std.proofs.lemmas.Bool.Decides.{nat_tests}
-use Rattle.std.proofs.lemmas.Nat.{div-add-mod', mod_below}
+use Rattle.std.proofs.lemmas.Nat.{div-add-mod'}
 use Rattle.ice_base.specs.Lots.{LotView}
 use Rattle.ice_base.specs.Spare.{has}
 use Rattle.ice_base.specs.Used.{used_inode, is_data}
@@ -15,7 +15,7 @@ use Rattle.ice_map.proofs.MapLaws.{nth-direct, nth-single}
 use Rattle.ice_file.specs.Own.{blocks_for, map_length, own_of}
 use Rattle.tree_spec.specs.Costs.{form_one}
 use Rattle.ice_reads.specs.Tables.{Map, own_in, RestIsZero}
-use Rattle.ice_rules.specs.Walks.{KindFits, PointersFit, IsSound, WalksTo}
+use Rattle.ice_rules.specs.Walks.{KindFits, PointersFit, WalksTo}
 use Rattle.ice_rules.specs.Rules.{Breaks}
 use Rattle.ice_check.proofs.MarkLaws.{indirect_none, indirect_one}
 

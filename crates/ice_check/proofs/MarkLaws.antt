@@ -1,9 +1,8 @@
 -- Marks of numbers, and of what the map of an inode uses.
-use Rattle.std.proofs.Common.{◌≡◌, ◌≢◌, ℕ, suc, zero, ◌+◌, ◌-◌, ◌<◌, ◌≤◌, ◌==◌, ◌⊎◌, Bool, true, false, List, [], ◌∷◌, ◌++◌, map, length, set, sym, refl, ap, ◌∙◌, subst, arith, inl, inr, cond, nat_lt}
+use Rattle.std.proofs.Common.{◌≡◌, ◌≢◌, ℕ, ◌+◌, ◌-◌, ◌<◌, ◌≤◌, ◌==◌, ◌⊎◌, Bool, true, false, List, [], ◌∷◌, ◌++◌, map, length, set, sym, refl, ap, subst, arith, inl, inr, nat_lt}
 use Rattle.std.specs.List.{range_with_len}
 use Rattle.std.proofs.lemmas.Bool.Decides.{nat_tests}
 use Rattle.std.proofs.lemmas.List.{get_or-set_same, get_or-set_other}
-use Rattle.ice_base.specs.Spare.{has}
 use Rattle.ice_map.specs.declared.codec.Inode.{Inode}
 use Rattle.ice_map.specs.Maps.{times, nth_block, blocks_of, indirect_of, uses}
 use Rattle.ice_map.proofs.ListLaws.{times-append, range-append, has-range, has-times, has-left, has-right, has-head}
@@ -35,7 +34,6 @@ marked_one marks i h clear = record { each = at }
           let other : k ≢ i = λ same. apart i k e (sym same) in
           omega (arith, ap mark (get_or-set_other marks i k true false other), times-other k i [] e)
     ] refl
-
 
 pub ruleset marked_laws = (marked_one)
 

@@ -1,7 +1,7 @@
 -- Names in an array: what order says of equal ones, and what they say of a directory.
 use Rattle.std.proofs.Common.{◌≡◌, ◌≢◌, ℕ, suc, zero, ◌+◌, ◌-◌, ◌<◌, ◌≤◌, ◌==◌, Bool, true, false, List, [], ◌∷◌, length, take, get_or, Some, sym, refl, ap, ◌∙◌, subst, arith, set, length-take, length-set}
-use Rattle.std.specs.Prelude.{IsSorted, IsSortedBy, IsPermutation, slice_get, ◌||◌}
-use Rattle.std.specs.List.{sum_by, list_any}
+use Rattle.std.specs.Prelude.{IsSorted, IsSortedBy, IsPermutation, slice_get}
+use Rattle.std.specs.List.{sum_by}
 use Rattle.std.specs.Ordering.{eq_by_cmp, is_lt, ordering_reverse}
 use Rattle.std.specs.Cmp.Lexicographic.{nat_list_cmp_total}
 use Rattle.std.specs.FinMap.{slice_cmp-IsAntisymmetric, nat_cmp-IsAntisymmetric}
@@ -23,7 +23,6 @@ use Rattle.tree_spec.specs.Trees.{by_bytes}
 use Rattle.tree_spec.proofs.Trees.{same_name, is_same_name-refl}
 use Rattle.ice_reads.specs.Tables.{Map, own_in, rows_in, IsNameOf}
 use Rattle.ice_reads.proofs.Focus.{same_Some}
-use Rattle.ice_rules.specs.RowsRead.{names_in}
 use Rattle.ice_rules.specs.Walks.{entry_of, LooksInto}
 use Rattle.ice_rules.specs.Rules.{Breaks}
 use Rattle.ice_check.specs.Marks.{is_taken, AreRead, AllNew}

@@ -1,5 +1,5 @@
 -- What a look at an inode and its marks say together.
-use Rattle.std.proofs.Common.{◌≡◌, ◌≢◌, ◌⊎◌, ℕ, ◌+◌, ◌*◌, ◌<◌, Bool, true, List, [], length, Some, sym, refl, ap, ◌∙◌, subst, arith, inl, inr, ⊎_elim}
+use Rattle.std.proofs.Common.{◌≡◌, ◌≢◌, ℕ, ◌*◌, ◌<◌, Bool, true, List, length, Some, sym, refl, ap, ◌∙◌, subst, inl, inr, ⊎_elim}
 use Rattle.ice_base.specs.Lots.{LotView}
 use Rattle.ice_base.specs.Spare.{has}
 use Rattle.ice_base.specs.Used.{used_inode}
@@ -8,14 +8,13 @@ use Rattle.ice_map.specs.declared.codec.Inode.{Inode}
 use Rattle.ice_map.specs.Inodes.{inode_of}
 use Rattle.ice_map.specs.Maps.{times, uses}
 use Rattle.ice_file.specs.Own.{map_length, own_of}
-use Rattle.ice_dir.specs.Rows.{Row}
 use Rattle.tree_spec.specs.Costs.{form_one}
 use Rattle.ice_reads.specs.Tables.{Map, own_in, rows_in, IsNameOf}
 use Rattle.ice_reads.proofs.Losses.{length-rows_in}
 use Rattle.ice_rules.specs.Walks.{KindFits, PointersFit, IsSound, IsNamable, WalksTo, WalkUses, LooksInto, BlockReached, entry_of}
 use Rattle.ice_rules.specs.Rules.{Breaks, Differs}
 use Rattle.ice_rules.proofs.Orders.{before_apart}
-use Rattle.ice_check.specs.Marks.{marked, Marked, MarkedTwice, SeenBefore, SomeUnused, AllNew, IsGood}
+use Rattle.ice_check.specs.Marks.{Marked, MarkedTwice, SeenBefore, SomeUnused, AllNew, IsGood}
 use Rattle.ice_check.specs.declared.fault.CheckFault.{CheckFault}
 use Rattle.ice_check.specs.declared.fault.CheckFault.TheVariants as check
 use Rattle.ice_check.specs.Shown.{IfBitmap, Broke}

@@ -1,26 +1,25 @@
 -- What a whole check says of the sub-super block and the tree.
-use Rattle.std.proofs.Common.{◌≡◌, ◌≢◌, ◌⊎◌, ℕ, suc, zero, ◌+◌, ◌*◌, ◌<◌, ◌≤◌, Bool, true, false, List, [], ◌∷◌, length, Option, Some, None, sym, refl, ap, ◌∙◌, subst, arith, inl, inr, ⊎_elim}
-use Rattle.std.specs.Prelude.{replicate, MatchOption, not, ◌==◌, if◌then◌else◌, nat_lt, slice_index, ◌^◌}
+use Rattle.std.proofs.Common.{◌≡◌, ℕ, suc, zero, ◌≤◌, Bool, true, false, List, length, Some, None, sym, refl, ap, ◌∙◌, subst, arith}
+use Rattle.std.specs.Prelude.{replicate, not, ◌==◌, if◌then◌else◌, nat_lt, slice_index, ◌^◌}
 use Rattle.std.proofs.lemmas.Bool.Decides.{nat_tests}
 use Rattle.ice_base.specs.Fields.{word_at, long_at}
 use Rattle.ice_base.specs.Lots.{LotView, sub_address}
 use Rattle.ice_base.specs.Used.{counted}
 use Rattle.ice_base.specs.declared.fault.Rule.{Rule}
 use Rattle.ice_base.specs.declared.fault.Rule.TheVariants as rule
-use Rattle.ice_layout.specs.Subs.{sub_rule, sub_of, IsSub, sub_magic}
+use Rattle.ice_layout.specs.Subs.{sub_rule, IsSub, sub_magic}
 use Rattle.ice_layout.specs.declared.sub.SubSuper.{SubSuper}
 use Rattle.tree_spec.specs.Trees.{Tree}
-use Rattle.tree_spec.specs.Costs.{Form, form_one, form_of, blocks, nodes}
+use Rattle.tree_spec.specs.Costs.{Form, form_one, form_of, blocks}
 use Rattle.ice_reads.specs.Tables.{Map, own_in}
-use Rattle.ice_reads.specs.Recovers.{Holds, MapRecovers}
+use Rattle.ice_reads.specs.Recovers.{MapRecovers}
 use Rattle.ice_reads.proofs.Focus.{same_Some}
 use Rattle.ice_rules.specs.Rules.{Breaks, MayName, form_in}
 use Rattle.ice_rules.proofs.Soundness.{named_recovers_nothing}
 use Rattle.ice_steps.proofs.Lengths.{length-blocks, length-inodes}
-use Rattle.ice_check.specs.Marks.{marked, Unmarked}
+use Rattle.ice_check.specs.Marks.{Unmarked}
 use Rattle.ice_check.specs.declared.fault.CheckFault.{CheckFault}
 use Rattle.ice_check.specs.declared.fault.CheckFault.TheVariants as check
-use Rattle.ice_check.specs.declared.fault.Summary.{Summary}
 use Rattle.ice_check.specs.Shown.{Named, Broke, Sums, HoldsSome, IsDisk, IsCheckFault}
 
 -- ---- no mark

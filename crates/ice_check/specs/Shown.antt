@@ -1,16 +1,15 @@
 -- What a checker says of the blocks that a view shows.
-use Rattle.std.specs.Prelude.{◌≡◌, ℕ, List, length}
-use Rattle.ice_base.specs.Lots.{LotView, sub_address}
+use Rattle.std.specs.Prelude.{◌≡◌, ℕ}
+use Rattle.ice_base.specs.Lots.{LotView}
 use Rattle.ice_base.specs.declared.view.View as view
 use Rattle.ice_base.specs.declared.fault.OpFault.{OpFault}
 use Rattle.ice_base.specs.declared.fault.OpFault.TheVariants as op
-use Rattle.ice_base.specs.declared.fault.Rule.{Rule}
 use Rattle.ice_base.specs.declared.fault.Rule.TheVariants as rule
 use Rattle.ice_check.specs.declared.fault.CheckFault.{CheckFault}
 use Rattle.ice_check.specs.declared.fault.CheckFault.TheVariants.{Damaged, Disk}
 use Rattle.ice_check.specs.declared.fault.Summary.{Summary}
 use Rattle.tree_spec.specs.Trees.{Tree}
-use Rattle.tree_spec.specs.Costs.{Form, form_one, blocks, nodes}
+use Rattle.tree_spec.specs.Costs.{form_one, blocks, nodes}
 use Rattle.ice_reads.specs.Tables.{Map}
 use Rattle.ice_reads.specs.Recovers.{Holds, MapRecovers}
 use Rattle.ice_rules.specs.Rules.{Breaks, MayName, form_in}

@@ -23,7 +23,6 @@ mod walk;
 mod whole;
 
 pub use fault::{CheckFault, Summary};
-
 use ice_base::{Disk, Lot, View};
 use whole::{check_blank, read_sub_super};
 

@@ -142,9 +142,7 @@ pub fn check_inode<D: Disk, V: View<D>>(
     }
     match visit(view, disk, lot, number, blocks)? {
         None => Ok(()),
-        Some(count) => {
-            check_rows(view, disk, lot, number, depth, count, inodes, blocks, names)
-        }
+        Some(count) => { check_rows(view, disk, lot, number, depth, count, inodes, blocks, names) }
     }
 }
 

@@ -1,9 +1,5 @@
-use Rattle.std.proofs.Common.{◌≡◌, ◌∙◌, ◌≤◌, subst, ap, sym, arith, Result, Ok, Err}
-use Rattle.std.specs.Result.{IsErr, IsErrAnd}
-use Rattle.std.specs.Prelude.{IfErr}
+use Rattle.std.proofs.Common.{arith}
 use Rattle.ice_base.proofs.LotLaws.{sited-few}
-use Rattle.ice_check.specs.declared.fault.CheckFault.{CheckFault}
-use Rattle.ice_check.specs.Shown.{Named}
 use Rattle.ice_check.proofs.ShownLaws.{handed, still_shows, shows_itself}
 use Rattle.ice_check.proofs.WholeLaws.{blocks-counted, nodes-counted, broke_named, sums_here, named_none}
 use Rattle.ice_check.proofs.check.Goals as goal

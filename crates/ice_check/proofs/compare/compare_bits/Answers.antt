@@ -1,4 +1,4 @@
-use Rattle.std.proofs.Common.{◌≡◌, List, ℕ, ◌*◌, subst, arith, below_more}
+use Rattle.std.proofs.Common.{List, ℕ, subst, arith, below_more}
 use Rattle.ice_check.specs.Marks.{GroupAgrees, GroupDisagrees}
 use Rattle.ice_check.proofs.ShownLaws.{still_shows, looked_then}
 use Rattle.ice_check.proofs.compare.compare_bits.Goals as goal

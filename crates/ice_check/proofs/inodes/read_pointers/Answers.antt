@@ -1,4 +1,3 @@
-use Rattle.std.proofs.Common.{arith}
 use Rattle.ice_base.proofs.LotLaws.{is_address_at}
 use Rattle.ice_base.proofs.UsedLaws.{data_below}
 use Rattle.ice_check.proofs.ShownLaws.{ok-then}

@@ -1,4 +1,4 @@
-use Rattle.std.proofs.Common.{◌<◌, ◌∙◌, arith, refl, length}
+use Rattle.std.proofs.Common.{◌∙◌, arith, refl}
 use Rattle.ice_map.specs.Maps.{nth_block}
 use Rattle.ice_map.proofs.ListLaws.{has-range}
 use Rattle.ice_check.proofs.MarkLaws.{marked_none, each_more, each_twice}

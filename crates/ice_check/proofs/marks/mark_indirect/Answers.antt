@@ -1,8 +1,8 @@
-use Rattle.std.proofs.Common.{◌≡◌, true, List, ℕ, [], ◌∷◌, sym, subst}
+use Rattle.std.proofs.Common.{◌≡◌, true, [], sym, subst}
 use Rattle.ice_base.specs.Spare.{has}
 use Rattle.ice_map.proofs.ListLaws.{has-head}
 use Rattle.ice_check.specs.Marks.{Marked, MarkedTwice}
-use Rattle.ice_check.proofs.MarkLaws.{indirect_one, indirect_none, marked_none, one_twice}
+use Rattle.ice_check.proofs.MarkLaws.{indirect_one, one_twice}
 use Rattle.ice_check.proofs.marks.mark_indirect.Goals as goal
 
 pub mark-requires : goal.mark-requires

@@ -1,5 +1,4 @@
 use Rattle.std.proofs.Common.{◌≡◌, ℕ, ◌+◌, ◌<◌, [], get_or}
-use Rattle.std.specs.Prelude.{IsPermutation, IsSortedBy}
 use Rattle.ice_check.specs.Names.{names_of}
 use Rattle.ice_check.proofs.names.names_differ.Given as goal
 

@@ -1,4 +1,4 @@
-use Rattle.std.proofs.Common.{ℕ, ◌/◌, ◌%◌, ◌+◌, ◌*◌, List, ◌∙◌, ap, sym, arith}
+use Rattle.std.proofs.Common.{ℕ, ◌%◌, ◌+◌, List, ◌∙◌, ap, sym, arith}
 use Rattle.ice_base.specs.Bits.{bit_of}
 use Rattle.ice_base.proofs.LotLaws.{sited-few}
 use Rattle.ice_base.proofs.UsedLaws.{used-bit}

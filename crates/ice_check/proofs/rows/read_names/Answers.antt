@@ -1,8 +1,8 @@
-use Rattle.std.proofs.Common.{◌≡◌, ◌∙◌, refl, subst, arith, length-set}
+use Rattle.std.proofs.Common.{subst, arith, length-set}
 use Rattle.ice_check.specs.declared.names.Kept.{Kept}
 use Rattle.ice_check.specs.Marks.{AreRead}
 use Rattle.ice_check.specs.Names.{names_of}
-use Rattle.ice_check.proofs.NameLaws.{read_more, none_read}
+use Rattle.ice_check.proofs.NameLaws.{read_more}
 use Rattle.ice_check.proofs.ShownLaws.{still_shows, looked_then}
 use Rattle.ice_check.proofs.rows.read_names.Goals as goal
 

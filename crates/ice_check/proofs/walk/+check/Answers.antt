@@ -1,9 +1,7 @@
-use Rattle.std.proofs.Common.{◌≡◌, ◌+◌, ◌<◌, [], ◌∷◌, ◌++◌, length, refl, sym, ◌∙◌, subst, arith, Result, Ok, Err}
-use Rattle.std.specs.Result.{IsErr, IsErrAnd}
-use Rattle.std.specs.Prelude.{IfErr, IfNone, IfSome}
+use Rattle.std.proofs.Common.{◌≡◌, ◌+◌, [], ◌∷◌, ◌++◌, length, refl, sym, ◌∙◌, subst, arith}
+use Rattle.std.specs.Prelude.{IfNone, IfSome}
 use Rattle.tree_spec.specs.Costs.{form_one}
 use Rattle.ice_reads.specs.Tables.{own_in, rows_in}
-use Rattle.ice_check.specs.declared.fault.CheckFault.{CheckFault}
 use Rattle.ice_check.proofs.Checks.{file_checked, dir_checked, none_checked, more_checked}
 use Rattle.ice_check.proofs.ShownLaws.{handed, ok-then, still_shows, looked_then}
 use Rattle.ice_check.proofs.Walking.{bit_broken, deep_broken, twice_broken, looks, walks_to, seen_file, seen_dir, at_child, seen_next, seen_whole}

@@ -1,4 +1,3 @@
-use Rattle.ice_check.proofs.ShownLaws.{still_shows}
 use Rattle.ice_check.proofs.VisitLaws.{good_here, number_broken}
 use Rattle.ice_check.proofs.walk.next_inode.Goals as goal
 

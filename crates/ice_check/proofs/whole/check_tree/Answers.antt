@@ -1,9 +1,6 @@
-use Rattle.std.proofs.Common.{◌≡◌, [], subst, sym, arith, Result, Ok, Err}
-use Rattle.std.specs.Result.{IsErr, IsErrAnd}
-use Rattle.std.specs.Prelude.{IfErr}
+use Rattle.std.proofs.Common.{[], arith}
 use Rattle.ice_base.proofs.LotLaws.{sited-some, sited-few}
 use Rattle.tree_spec.specs.Costs.{form_one}
-use Rattle.ice_check.specs.declared.fault.CheckFault.{CheckFault}
 use Rattle.ice_check.proofs.AgreeLaws.{agreed, holds_some, bits_broke, counts_broke}
 use Rattle.ice_check.proofs.Ends.{seen_none, at_root}
 use Rattle.ice_check.proofs.ShownLaws.{handed, still_shows}
