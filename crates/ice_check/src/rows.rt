@@ -1,0 +1,122 @@
+//! The entries of a directory, and the names in them.
+ghost use Rattle.std.specs.Prelude.{◌≡◌, ◌≤◌, ◌<◌, ◌*◌, ℕ, true, List, Some, OnOk, OnErr, IfOk, IfErr, IsErrOf, length};
+ghost use Rattle.ice_base.specs.Disk.{Rose};
+ghost use Rattle.ice_base.specs.Lots.{is_sited};
+ghost use Rattle.ice_base.specs.Views.{Looked};
+ghost use Rattle.tree_spec.specs.Costs.{form_one};
+ghost use Rattle.ice_reads.specs.Tables.{Map, own_in, rows_in, IsNameOf};
+ghost use Rattle.ice_rules.specs.Walks.{entry_of, LooksInto};
+ghost use Rattle.ice_check.specs.Marks.{AreRead, AllNew};
+ghost use Rattle.ice_check.specs.Names.{names_of};
+ghost use Rattle.ice_check.specs.Shown.{Shows, IsCheckFault, Broke, told_as};
+ghost use Rattle.ice_check.specs.declared.fault.CheckFault.TheVariants.{Disk as FaultDisk};
+
+use crate::fault::CheckFault;
+use crate::names::{Kept, keep, names_differ};
+use ice_base::{Disk, FormOne, Lot, OpFault, Rule, View};
+use ice_dir::entry;
+use tree_spec::Name;
+
+/// A name to read others into.
+#[tactic(auto, unfolding(tree_spec::specs::Names::is_name))]
+pub fn blank_name() -> Name {
+    match Name::new(b"-") {
+        Some(name) => name,
+        None => unreachable!(),
+    }
+}
+
+fn told(fault: OpFault) -> CheckFault
+    ensures { result ≡ told_as fault }
+{
+    match fault {
+        OpFault::Damaged(rule) => CheckFault::Damaged(rule),
+        _ => CheckFault::Disk,
+    }
+}
+
+/// The inode that entry `k` of a directory names. The name goes into `name`.
+pub fn read_entry<D: Disk, V: View<D>>(
+    view: &mut V,
+    disk: &mut D,
+    lot: &Lot,
+    number: u32,
+    k: u32,
+    name: &mut Name,
+) -> Result<u32, CheckFault>
+    requires sited { is_sited lot.now (D.state disk.old).size ≡ true }
+    requires number { number < 64 * length lot.now.groups }
+    ensures row { (m : Map) → Shows V.View lot.now view.old disk.old m
+        → IfOk result (λ next. entry_of form_one m number k ≡ Some (name.new, next)) }
+    ensures fits { OnOk result (IsNameOf form_one name.new) }
+    ensures broken { (m : Map) (w : List ℕ) → Shows V.View lot.now view.old disk.old m → LooksInto form_one lot.now m w number
+        → k < length (rows_in form_one (own_in form_one m number)) → IfErr result (Broke lot.now m) }
+    ensures looked { Looked D.Disk V.View lot.now view.old disk.old view.new disk.new }
+    ensures faults { IfErr result IsCheckFault }
+    ensures failed { IsErrOf result FaultDisk → Rose (D.state disk.old).faults (D.state disk.new).faults }
+{
+    match entry::<D, V, FormOne>(view, disk, lot, number, k, name) {
+        Ok(next) => {
+            let _proper = name.bytes();
+            Ok(next)
+        }
+        Err(fault) => Err(told(fault)),
+    }
+}
+
+/// Reads the names of a directory of `count` entries.
+fn read_names<D: Disk, V: View<D>>(
+    view: &mut V,
+    disk: &mut D,
+    lot: &Lot,
+    number: u32,
+    count: u32,
+    names: &mut [Kept],
+) -> Result<(), CheckFault>
+    requires sited { is_sited lot.now (D.state disk.old).size ≡ true }
+    requires number { number < 64 * length lot.now.groups }
+    requires room { count ≤ length names.old }
+    ensures long { length names.new ≡ length names.old }
+    ensures names { (m : Map) → Shows V.View lot.now view.old disk.old m
+        → OnOk result (AreRead m number count (names_of names.new)) }
+    ensures broken { (m : Map) (w : List ℕ) → Shows V.View lot.now view.old disk.old m → LooksInto form_one lot.now m w number
+        → count ≡ length (rows_in form_one (own_in form_one m number)) → IfErr result (Broke lot.now m) }
+    ensures looked { Looked D.Disk V.View lot.now view.old disk.old view.new disk.new }
+    ensures faults { IfErr result IsCheckFault }
+    ensures failed { IsErrOf result FaultDisk → Rose (D.state disk.old).faults (D.state disk.new).faults }
+{
+    let mut name = blank_name();
+    for k in 0..count {
+        let _next = read_entry(view, disk, lot, number, k, &mut name)?;
+        names[k as usize] = keep(&name);
+    }
+    Ok(())
+}
+
+/// Reads the names of a directory of `count` entries, which may not have one name twice.
+pub fn check_names<D: Disk, V: View<D>>(
+    view: &mut V,
+    disk: &mut D,
+    lot: &Lot,
+    number: u32,
+    count: u32,
+    names: &mut [Kept],
+) -> Result<(), CheckFault>
+    requires sited { is_sited lot.now (D.state disk.old).size ≡ true }
+    requires number { number < 64 * length lot.now.groups }
+    requires room { count ≤ length names.old }
+    ensures long { length names.new ≡ length names.old }
+    ensures new { (m : Map) → Shows V.View lot.now view.old disk.old m
+        → count ≡ length (rows_in form_one (own_in form_one m number)) → OnOk result (AllNew m number) }
+    ensures broken { (m : Map) (w : List ℕ) → Shows V.View lot.now view.old disk.old m → LooksInto form_one lot.now m w number
+        → count ≡ length (rows_in form_one (own_in form_one m number)) → IfErr result (Broke lot.now m) }
+    ensures looked { Looked D.Disk V.View lot.now view.old disk.old view.new disk.new }
+    ensures faults { IfErr result IsCheckFault }
+    ensures failed { IsErrOf result FaultDisk → Rose (D.state disk.old).faults (D.state disk.new).faults }
+{
+    read_names(view, disk, lot, number, count, names)?;
+    if !names_differ(&mut names[..count as usize]) {
+        return Err(CheckFault::Damaged(Rule::NameTwice));
+    }
+    Ok(())
+}

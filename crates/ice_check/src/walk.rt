@@ -1,0 +1,193 @@
+//! The walk over the inodes of a lot: what it comes to gets marks.
+ghost use Rattle.std.specs.Prelude.{◌≡◌, ℕ, ◌+◌, ◌*◌, ◌<◌, ◌≤◌, Bool, true, false, List, [], ◌∷◌, ◌++◌, length, IfOk, IfErr, IfNone, IfSome, OnOk, IsErrOf};
+ghost use Rattle.ice_base.specs.Disk.{Rose};
+ghost use Rattle.ice_base.specs.Lots.{is_sited};
+ghost use Rattle.ice_base.specs.Used.{used_inode};
+ghost use Rattle.ice_base.specs.Views.{Looked};
+ghost use Rattle.tree_spec.specs.Costs.{form_one};
+ghost use Rattle.ice_reads.specs.Tables.{Map, own_in, rows_in};
+ghost use Rattle.ice_rules.specs.Walks.{WalksTo, LooksInto, IsSound, IsOpen, IsNamable};
+ghost use Rattle.ice_check.specs.Marks.{Marked, Checked, CheckedRows, AllNew, IsGood, IsAt, SeenBefore, SeenWithin};
+ghost use Rattle.ice_check.specs.Shown.{Shows, IsCheckFault, Broke};
+ghost use Rattle.ice_check.specs.declared.fault.CheckFault.TheVariants.{Disk as FaultDisk};
+
+use crate::bits::check_bits;
+use crate::fault::CheckFault;
+use crate::inodes::{look, map_blocks};
+use crate::marks::{mark, mark_blocks};
+use crate::names::Kept;
+use crate::reads::is_used;
+use crate::rows::{blank_name, check_names, read_entry};
+use ice_base::{Disk, Lot, Rule, View};
+
+/// Looks at an inode that is marked used, and marks its blocks. Some: it is a directory of so many entries.
+fn visit<D: Disk, V: View<D>>(
+    view: &mut V,
+    disk: &mut D,
+    lot: &Lot,
+    number: u32,
+    blocks: &mut [bool],
+) -> Result<Option<u32>, CheckFault>
+    requires sited { is_sited lot.now (D.state disk.old).size ≡ true }
+    requires number { number < 64 * length lot.now.groups }
+    requires blocks { 256 * length lot.now.groups ≤ length blocks.old }
+    ensures wide { length blocks.new ≡ length blocks.old }
+    ensures few { IfOk result (λ o. IfSome o (λ n. n < 64 * length lot.now.groups)) }
+    ensures sound { (m : Map) → Shows V.View lot.now view.old disk.old m → used_inode m number ≡ true
+        → OnOk result (IsSound form_one lot.now m number) }
+    ensures marks { (m : Map) → Shows V.View lot.now view.old disk.old m
+        → OnOk result (Marked blocks.old blocks.new (own_in form_one m number).uses) }
+    ensures file { (m : Map) → Shows V.View lot.now view.old disk.old m
+        → IfOk result (λ o. IfNone o ((own_in form_one m number).inode.kind ≡ 1)) }
+    ensures dir { (m : Map) → Shows V.View lot.now view.old disk.old m
+        → IfOk result (λ o. IfSome o (λ n. ((own_in form_one m number).inode.kind ≡ 2)
+        × (n ≡ length (rows_in form_one (own_in form_one m number))))) }
+    ensures broken { (m : Map) (w : List ℕ) (inodes : List Bool) → Shows V.View lot.now view.old disk.old m
+        → WalksTo form_one lot.now m w number → used_inode m number ≡ true
+        → SeenBefore form_one lot.now m w inodes blocks.old → IfErr result (Broke lot.now m) }
+    ensures looked { Looked D.Disk V.View lot.now view.old disk.old view.new disk.new }
+    ensures faults { IfErr result IsCheckFault }
+    ensures failed { IsErrOf result FaultDisk → Rose (D.state disk.old).faults (D.state disk.new).faults }
+{
+    let mut pointers = [0; 1024];
+    let inode = look(view, disk, lot, number, &mut pointers)?;
+    let count = map_blocks(&inode);
+    check_bits(view, disk, lot, &inode, &pointers, count)?;
+    if !mark_blocks(&inode, &pointers, count, blocks) {
+        return Err(CheckFault::Damaged(Rule::BlockTwice));
+    }
+    if inode.kind == 1 {
+        return Ok(None);
+    }
+    Ok(Some(inode.size))
+}
+
+/// Whether an entry can name this inode: any of the lot but the root.
+fn is_namable(lot: &Lot, number: u32) -> bool
+    ensures yes { result ≡ true → IsNamable lot.now number }
+    ensures no { result ≡ false → ¬ IsNamable lot.now number }
+{
+    number > 0 && number < 64 * lot.len() as u32
+}
+
+/// The inode that entry `k` of a directory names, which can be any of the lot's but the root.
+fn next_inode<D: Disk, V: View<D>>(
+    view: &mut V,
+    disk: &mut D,
+    lot: &Lot,
+    number: u32,
+    k: u32,
+) -> Result<u32, CheckFault>
+    requires sited { is_sited lot.now (D.state disk.old).size ≡ true }
+    requires number { number < 64 * length lot.now.groups }
+    ensures below { IfOk result (λ next. next < 64 * length lot.now.groups) }
+    ensures good { (m : Map) → Shows V.View lot.now view.old disk.old m → AllNew m number
+        → IfOk result (IsGood form_one lot.now m number k) }
+    ensures broken { (m : Map) (w : List ℕ) → Shows V.View lot.now view.old disk.old m → LooksInto form_one lot.now m w number
+        → k < length (rows_in form_one (own_in form_one m number)) → IfErr result (Broke lot.now m) }
+    ensures looked { Looked D.Disk V.View lot.now view.old disk.old view.new disk.new }
+    ensures faults { IfErr result IsCheckFault }
+    ensures failed { IsErrOf result FaultDisk → Rose (D.state disk.old).faults (D.state disk.new).faults }
+{
+    let mut name = blank_name();
+    let next = read_entry(view, disk, lot, number, k, &mut name)?;
+    if !is_namable(lot, next) {
+        return Err(CheckFault::Damaged(Rule::InodeTwice));
+    }
+    Ok(next)
+}
+
+/// Checks an inode to which a walk of `depth` entries comes, and all that it leads to.
+#[cycle(check)]
+pub fn check_inode<D: Disk, V: View<D>>(
+    view: &mut V,
+    disk: &mut D,
+    lot: &Lot,
+    number: u32,
+    depth: u32,
+    inodes: &mut [bool],
+    blocks: &mut [bool],
+    names: &mut [Kept],
+) -> Result<(), CheckFault>
+    requires sited { is_sited lot.now (D.state disk.old).size ≡ true }
+    requires number { number < 64 * length lot.now.groups }
+    requires depth { depth ≤ 25 }
+    requires inodes { 64 * length lot.now.groups ≤ length inodes.old }
+    requires blocks { 256 * length lot.now.groups ≤ length blocks.old }
+    requires names { 64 * length lot.now.groups ≤ length names.old }
+    ensures long { length inodes.new ≡ length inodes.old }
+    ensures wide { length blocks.new ≡ length blocks.old }
+    ensures room { length names.new ≡ length names.old }
+    ensures checked { (m : Map) → Shows V.View lot.now view.old disk.old m
+        → OnOk result (Checked form_one lot.now m number depth inodes.old inodes.new blocks.old blocks.new) }
+    ensures broken { (m : Map) (w : List ℕ) → Shows V.View lot.now view.old disk.old m → IsAt form_one lot.now m w number depth
+        → SeenBefore form_one lot.now m w inodes.old blocks.old
+        → IfErr result (Broke lot.now m) }
+    ensures seen { (m : Map) (w : List ℕ) → Shows V.View lot.now view.old disk.old m → IsAt form_one lot.now m w number depth
+        → SeenBefore form_one lot.now m w inodes.old blocks.old
+        → OnOk result (SeenWithin form_one lot.now m w inodes.new blocks.new) }
+    ensures looked { Looked D.Disk V.View lot.now view.old disk.old view.new disk.new }
+    ensures faults { IfErr result IsCheckFault }
+    ensures failed { IsErrOf result FaultDisk → Rose (D.state disk.old).faults (D.state disk.new).faults }
+{
+    let used = is_used(view, disk, lot, number)?;
+    if !used {
+        return Err(CheckFault::Damaged(Rule::Bitmap));
+    }
+    if depth > 24 {
+        return Err(CheckFault::Damaged(Rule::Depth));
+    }
+    if !mark(inodes, number as usize) {
+        return Err(CheckFault::Damaged(Rule::InodeTwice));
+    }
+    match visit(view, disk, lot, number, blocks)? {
+        None => Ok(()),
+        Some(count) => { check_rows(view, disk, lot, number, depth, count, inodes, blocks, names) }
+    }
+}
+
+/// Checks the entries of a directory, and what they lead to.
+#[cycle(check)]
+fn check_rows<D: Disk, V: View<D>>(
+    view: &mut V,
+    disk: &mut D,
+    lot: &Lot,
+    number: u32,
+    depth: u32,
+    count: u32,
+    inodes: &mut [bool],
+    blocks: &mut [bool],
+    names: &mut [Kept],
+) -> Result<(), CheckFault>
+    requires sited { is_sited lot.now (D.state disk.old).size ≡ true }
+    requires number { number < 64 * length lot.now.groups }
+    requires depth { depth ≤ 24 }
+    requires count { count < 64 * length lot.now.groups }
+    requires inodes { 64 * length lot.now.groups ≤ length inodes.old }
+    requires blocks { 256 * length lot.now.groups ≤ length blocks.old }
+    requires names { 64 * length lot.now.groups ≤ length names.old }
+    ensures long { length inodes.new ≡ length inodes.old }
+    ensures wide { length blocks.new ≡ length blocks.old }
+    ensures room { length names.new ≡ length names.old }
+    ensures checked { (m : Map) → Shows V.View lot.now view.old disk.old m → IsOpen form_one lot.now m number
+        → count ≡ length (rows_in form_one (own_in form_one m number))
+        → OnOk result (CheckedRows form_one lot.now m (rows_in form_one (own_in form_one m number)) (depth + 1) count inodes.old inodes.new blocks.old blocks.new) }
+    ensures broken { (m : Map) (w : List ℕ) → Shows V.View lot.now view.old disk.old m → IsOpen form_one lot.now m number
+        → count ≡ length (rows_in form_one (own_in form_one m number))
+        → IsAt form_one lot.now m w number depth → SeenBefore form_one lot.now m (w ++ 0 ∷ []) inodes.old blocks.old
+        → IfErr result (Broke lot.now m) }
+    ensures seen { (m : Map) (w : List ℕ) → Shows V.View lot.now view.old disk.old m → IsOpen form_one lot.now m number
+        → count ≡ length (rows_in form_one (own_in form_one m number))
+        → IsAt form_one lot.now m w number depth → SeenBefore form_one lot.now m (w ++ 0 ∷ []) inodes.old blocks.old
+        → OnOk result (SeenWithin form_one lot.now m w inodes.new blocks.new) }
+    ensures looked { Looked D.Disk V.View lot.now view.old disk.old view.new disk.new }
+    ensures faults { IfErr result IsCheckFault }
+    ensures failed { IsErrOf result FaultDisk → Rose (D.state disk.old).faults (D.state disk.new).faults }
+{
+    check_names(view, disk, lot, number, count, names)?;
+    for k in 0..count {
+        let next = next_inode(view, disk, lot, number, k)?;
+        check_inode(view, disk, lot, next, depth + 1, inodes, blocks, names)?;
+    }
+    Ok(())
+}
