@@ -1,5 +1,5 @@
 -- What a checker says of the blocks that a view shows.
-use Rattle.std.specs.Prelude.{◌≡◌, ℕ}
+use Rattle.std.specs.Prelude.{◌≡◌, ℕ, Option}
 use Rattle.ice_base.specs.Lots.{LotView}
 use Rattle.ice_base.specs.declared.view.View as view
 use Rattle.ice_base.specs.declared.fault.OpFault.{OpFault}
@@ -12,7 +12,7 @@ use Rattle.tree_spec.specs.Trees.{Tree}
 use Rattle.tree_spec.specs.Costs.{form_one, blocks, nodes}
 use Rattle.ice_reads.specs.Tables.{Map}
 use Rattle.ice_reads.specs.Recovers.{Holds, MapRecovers}
-use Rattle.ice_rules.specs.Rules.{Breaks, MayName, form_in}
+use Rattle.ice_rules.specs.Rules.{Breaks, MayName, LotMayName, form_in}
 
 -- the view shows what the lot holds, which is this map
 pub record Shows {V D : Type 0} (k : view.Ghosts V D) (lot : LotView) (v : V) (e : D) (m : Map) : Type 0 where
@@ -38,6 +38,11 @@ Broke lot m (Damaged r) = Breaks form_one lot m r
 abbrev pub Named : LotView → Map → CheckFault → Type 0
 Named lot m Disk = Unit {0}
 Named lot m (Damaged r) = MayName (form_in m) lot m r
+
+-- where the fault is damage, the rule that it names may be named of a lot whose effective blocks are these
+abbrev pub LotNamed : LotView → Option Map → CheckFault → Type 0
+LotNamed lot blocks Disk = Unit {0}
+LotNamed lot blocks (Damaged r) = LotMayName lot blocks r
 
 -- the blocks recover a tree, of which this is the cost in blocks, the number of its nodes and its count
 pub record Sums (lot : LotView) (m : Map) (s : Summary) : Type 0 where

@@ -15,6 +15,7 @@ mod bits;
 mod compare;
 mod fault;
 mod inodes;
+mod lots;
 mod marks;
 mod names;
 mod reads;
@@ -24,6 +25,7 @@ mod whole;
 
 pub use fault::{CheckFault, Summary};
 use ice_base::{Disk, Lot, View};
+pub use lots::check_lot;
 use whole::{check_blank, read_sub_super};
 
 /// Checks the blocks of a lot as a view shows them. It writes nothing and takes no memory.
