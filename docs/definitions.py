@@ -12,6 +12,7 @@ ROOTS = [
     ("ice_run", "run"),
     ("ice_run", "image_of"),
     ("ice_tree", None),
+    ("ice_check", None),
     ("ice_rules", None),
     ("ice_tables", None),
     ("ice_images", None),
@@ -95,7 +96,7 @@ def main():
         cite(known[key], files[key[:2]], key[:2])
 
     out = ["# The definitions that a reader has to believe", ""]
-    out += ["What the contracts of `run`, of the commands of a tree and of the laws say is said in these words, lowest crate first."]
+    out += ["What the contracts of `run`, of the commands of a tree, of the checker and of the laws say is said in these words, lowest crate first."]
     out += ["Each stands as in its file; `docs/definitions.py` writes this page. docs/PROMISES.md has the theorems."]
     for crate in order:
         part = [key for key in known if key[0] == crate and key in reached]

@@ -14,6 +14,9 @@ pub(crate) const BLOCKS: u32 = 544;
 /// The sub-super block.
 pub(crate) const SUB: u32 = 32;
 
+/// The gate of the journal. Its header follows, and then the bodies.
+pub(crate) const GATE: u32 = 33;
+
 /// The bitmap block.
 pub(crate) const BITMAP: u32 = 288;
 

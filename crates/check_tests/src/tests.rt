@@ -1,8 +1,8 @@
 //! The answers of the checker.
-use crate::lots::{BITMAP, BLOCKS, Byte, FIRST, INODES, SUB, chain, change, one_group};
+use crate::lots::{BITMAP, BLOCKS, Byte, FIRST, GATE, INODES, SUB, chain, change, one_group};
 use disk_mem::{MemHost, MuteHost};
 use ice_base::{Disk, Rule};
-use ice_check::{CheckFault, Summary, check};
+use ice_check::{CheckFault, Summary, check, check_lot};
 use ice_keep::ThroughKeep;
 use std::process::Abort;
 use std::test::Fail;
@@ -102,6 +102,45 @@ fn the_first_broken_rule_of_the_sub_super_block_is_named(rt: HostRuntime) -> Res
         }
         let got = answer(&rt, &mut host);
         assert_eq!(rt; got, Err(CheckFault::Damaged(all[first].0)));
+    }
+    Ok(())
+}
+
+/// The header of one target, the root's inode block, whose body says that the root has no entry.
+const JOURNAL: [Byte; 9] = [
+    (GATE + 1, 0, b'I'),
+    (GATE + 1, 1, b'c'),
+    (GATE + 1, 2, b'e'),
+    (GATE + 1, 3, b'J'),
+    (GATE + 1, 8, 1),
+    (GATE + 1, 16, 1),
+    (GATE + 2, 0, 2),
+    // The homes of the bitmap and of the sub-super block are those of an empty root.
+    (BITMAP, 1, 1),
+    (BITMAP, 32, 1),
+];
+
+#[test]
+fn a_lot_is_checked_as_its_journal_leaves_it(rt: HostRuntime) -> Result<(), Fail> {
+    let damaged = |rule| Err(CheckFault::Damaged(rule));
+    let empty: [Byte; 2] = [(SUB, 24, 0), (SUB, 28, 1)];
+    // With the gate closed the homes are read: the root has an entry whose block isn't marked. With the gate open the body is.
+    // A header of no target is refused, and not looked at where the gate is closed.
+    for (gate, count, want) in [
+        (0, 1, damaged(Rule::Bitmap)),
+        (2, 1, damaged(Rule::Bitmap)),
+        (1, 1, sums(0, 1, 1)),
+        (1, 0, damaged(Rule::Header)),
+        (0, 0, damaged(Rule::Bitmap)),
+    ] {
+        let mut host = chain(&rt, rt.alloc(), 1)?;
+        change(&rt, &mut host, &JOURNAL);
+        change(&rt, &mut host, &empty);
+        change(&rt, &mut host, &[(GATE, 0, gate), (GATE + 1, 8, count)]);
+        assert!(rt; host.blocks() == BLOCKS);
+        let got = check_lot(&mut host, &one_group());
+        assert_eq!(rt; got, want, "{gate} {count}");
+        assert!(rt; host.writes() == 0 && host.barriers() == 0);
     }
     Ok(())
 }
