@@ -78,6 +78,7 @@ pub(crate) fn kind_fits(host: &MemHost, i: u32) -> bool
 /// The blocks of an inode's map, at most 268 where kind and size fit.
 pub(crate) fn map_blocks(host: &MemHost, i: u32) -> u32
     requires { i < 128 }
+    ensures { result ≤ 268 }
 {
     let unit = if is_dir(host, i) { 16 } else { 1024 };
     size(host, i).div_ceil(unit).min(268)
@@ -105,26 +106,37 @@ pub(crate) fn is_data(address: u32) -> bool {
     (address as usize) < ADDRESSES && address % 256 >= 9
 }
 
+/// Whether the pointers that the map uses are data places.
+fn used_fit(host: &MemHost, i: u32) -> bool
+    requires { i < 128 }
+{
+    let blocks = map_blocks(host, i);
+    for k in 0..blocks {
+        if !is_data(pointer(host, i, k)) {
+            return false;
+        }
+    }
+    blocks <= 12 || is_data(single(host, i))
+}
+
+/// Whether the inode's pointers that the map doesn't use are 0.
+fn rest_is_zero(host: &MemHost, i: u32) -> bool
+    requires { i < 128 }
+{
+    let blocks = map_blocks(host, i);
+    for k in 0..12u32 {
+        if k >= blocks && pointer(host, i, k) != 0 {
+            return false;
+        }
+    }
+    (blocks > 12 || single(host, i) == 0) && inode_word(host, i, 60) == 0
+}
+
 /// Whether the pointers that the map uses are data places, and the others of the inode 0.
 pub(crate) fn pointers_fit(host: &MemHost, i: u32) -> bool
     requires { i < 128 }
 {
-    let blocks = map_blocks(host, i);
-    for k in 0..268u32 {
-        if k < blocks && !is_data(pointer(host, i, k)) {
-            return false;
-        }
-        if k >= blocks && k < 12 && pointer(host, i, k) != 0 {
-            return false;
-        }
-    }
-    let single = single(host, i);
-    let single_fits = if blocks > 12 {
-        is_data(single)
-    } else {
-        single == 0
-    };
-    single_fits && inode_word(host, i, 60) == 0
+    used_fit(host, i) && rest_is_zero(host, i)
 }
 
 /// An inode that is marked used and breaks neither the rule on kinds nor the one on pointers.

@@ -119,10 +119,8 @@ fn add_uses(host: &MemHost, i: u32, walks: u32, uses: &mut [u32; 512])
     if blocks > 12 {
         use_block(single(host, i), walks, uses);
     }
-    for k in 0..268u32 {
-        if k < blocks {
-            use_block(pointer(host, i, k), walks, uses);
-        }
+    for k in 0..blocks {
+        use_block(pointer(host, i, k), walks, uses);
     }
 }
 

@@ -96,15 +96,12 @@ fn values(byte: u8) -> [u8; 6] {
     [0, 1, byte.wrapping_add(1), byte ^ 1, byte ^ 0x80, 0xff]
 }
 
-/// Whether a byte is changed: it or one of those shortly before it isn't 0. In the blocks of inodes these are all bytes of a pointer.
+/// Whether a byte is changed: it or one of those shortly before it isn't 0. In the block of the inodes 24 to 31, which has those
+/// of files and of directories with and without blocks, these are all bytes of their pointers.
 fn is_changed(at: u32, block: &Block, place: usize) -> bool
     requires { place < 1024 }
 {
-    let reach = if at > 288 && at % 256 > 32 && at % 256 < 41 {
-        60
-    } else {
-        8
-    };
+    let reach = if at == 548 { 60 } else { 8 };
     block[place.saturating_sub(reach)..place + 1]
         .iter()
         .any(|b| *b != 0)
