@@ -1,6 +1,7 @@
 //! Compares the checker with a plain slow reader of its rules, over a sound lot and each lot that one changed byte makes of it.
 //!
-//! It prints how often each rule was named, the number of sound and of damaged lots, and each lot on which the two don't agree.
+//! It prints whether each rule was named, the number of sound and of damaged lots, and each lot on which the two don't agree.
+//! How often each was named is left open: where several are broken, the checker may name any.
 #![tactic(auto)]
 
 mod bytes;
@@ -36,7 +37,12 @@ const RULES: [Rule; 15] = [
 
 fn print(rt: &HostRuntime, tally: &Tally) -> io::Result<()> {
     for rule in RULES {
-        println!(rt; "{} {rule:?}: {}", rule as u8, tally.named(rule))?;
+        let answer = if tally.named(rule) > 0 {
+            "named"
+        } else {
+            "never"
+        };
+        println!(rt; "{} {rule:?}: {answer}", rule as u8)?;
     }
     println!(rt; "sound: {}", tally.sound)?;
     println!(rt; "damaged: {}", tally.damaged)?;
