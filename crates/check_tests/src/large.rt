@@ -1,5 +1,5 @@
 //! The largest lot: 64 groups with all their inodes in one directory.
-ghost use Rattle.std.specs.Prelude.{◌≡◌, true, length};
+ghost use Rattle.std.specs.Prelude.{◌≡◌, ◌<◌, true, length};
 ghost use Rattle.ice_base.specs.Lots.{is_sited};
 
 use crate::lots::{SUB, put};
@@ -34,7 +34,9 @@ pub(crate) fn all_groups() -> Lot
 }
 
 /// The address of data place `n`, counted over all groups.
-fn data_place(n: u32) -> u32 {
+fn data_place(n: u32) -> u32
+    ensures { result < 16384 }
+{
     256 * (n / 247 % 64) + 9 + n % 247
 }
 
