@@ -92,8 +92,11 @@ pub record Agrees (lot : LotView) (m : Map) (ins bls : List Bool) : Type 0 where
 
 -- they disagree, in what the rule speaks of
 abbrev pub Disagrees : LotView → Map → List Bool → List Bool → Rule → Type 0
-Disagrees lot m ins bls rule.Bitmap = (¬ Reserved lot m) ⊎ ((b : ℕ) × (is_data lot b ≡ true) × (used_block m b ≢ marked bls b)) ⊎ ((i : ℕ) × (i < 64 * length lot.groups) × (used_inode m i ≢ marked ins i))
-Disagrees lot m ins bls rule.Counts = (counted false m ≢ count_below (marked bls) (256 * length lot.groups)) ⊎ (counted true m ≢ count_below (marked ins) (64 * length lot.groups))
+Disagrees lot m ins bls rule.Bitmap = (¬ Reserved lot m)
+    ⊎ ((b : ℕ) × (is_data lot b ≡ true) × (used_block m b ≢ marked bls b))
+    ⊎ ((i : ℕ) × (i < 64 * length lot.groups) × (used_inode m i ≢ marked ins i))
+Disagrees lot m ins bls rule.Counts = (counted false m ≢ count_below (marked bls) (256 * length lot.groups))
+    ⊎ (counted true m ≢ count_below (marked ins) (64 * length lot.groups))
 Disagrees lot m ins bls _ = ⊥
 
 -- some number of the list has a mark already, or stands twice in the list

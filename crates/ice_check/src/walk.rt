@@ -171,7 +171,8 @@ fn check_rows<D: Disk, V: View<D>>(
     ensures room { length names.new ≡ length names.old }
     ensures checked { (m : Map) → Shows V.View lot.now view.old disk.old m → IsOpen form_one lot.now m number
         → count ≡ length (rows_in form_one (own_in form_one m number))
-        → OnOk result (CheckedRows form_one lot.now m (rows_in form_one (own_in form_one m number)) (depth + 1) count inodes.old inodes.new blocks.old blocks.new) }
+        → OnOk result (CheckedRows form_one lot.now m (rows_in form_one (own_in form_one m number)) (depth + 1) count
+        inodes.old inodes.new blocks.old blocks.new) }
     ensures broken { (m : Map) (w : List ℕ) → Shows V.View lot.now view.old disk.old m → IsOpen form_one lot.now m number
         → count ≡ length (rows_in form_one (own_in form_one m number))
         → IsAt form_one lot.now m w number depth → SeenBefore form_one lot.now m (w ++ 0 ∷ []) inodes.old blocks.old
