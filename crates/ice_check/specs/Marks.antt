@@ -22,6 +22,10 @@ use Rattle.ice_rules.specs.Walks.{IsSound, IsNamable, GoesTo, WalksTo, WalkUses,
 abbrev pub marked : List Bool → ℕ → Bool
 marked marks k = slice_index_or marks k false
 
+-- how many entries a directory has
+abbrev pub entry_count : Map → ℕ → ℕ
+entry_count m i = length (rows_in form_one (own_in form_one m i))
+
 -- each number got a mark for each time that it stands in the list
 pub record Marked (old new : List Bool) (xs : List ℕ) : Type 0 where
   pub each : (k : ℕ) → mark (marked new k) ≡ mark (marked old k) + times xs k

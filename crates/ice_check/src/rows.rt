@@ -4,9 +4,9 @@ ghost use Rattle.ice_base.specs.Disk.{Rose};
 ghost use Rattle.ice_base.specs.Lots.{is_sited};
 ghost use Rattle.ice_base.specs.Views.{Looked};
 ghost use Rattle.tree_spec.specs.Costs.{form_one};
-ghost use Rattle.ice_reads.specs.Tables.{Map, own_in, rows_in, IsNameOf};
+ghost use Rattle.ice_reads.specs.Tables.{Map, IsNameOf};
 ghost use Rattle.ice_rules.specs.Walks.{entry_of, LooksInto};
-ghost use Rattle.ice_check.specs.Marks.{AreRead, AllNew};
+ghost use Rattle.ice_check.specs.Marks.{entry_count, AreRead, AllNew};
 ghost use Rattle.ice_check.specs.Names.{names_of};
 ghost use Rattle.ice_check.specs.Shown.{Shows, IsCheckFault, Broke, told_as};
 ghost use Rattle.ice_check.specs.declared.fault.CheckFault.TheVariants.{Disk as FaultDisk};
@@ -50,7 +50,7 @@ pub fn read_entry<D: Disk, V: View<D>>(
         → IfOk result (λ next. entry_of form_one m number k ≡ Some (name.new, next)) }
     ensures fits { OnOk result (IsNameOf form_one name.new) }
     ensures broken { (m : Map) (w : List ℕ) → Shows V.View lot.now view.old disk.old m → LooksInto form_one lot.now m w number
-        → k < length (rows_in form_one (own_in form_one m number)) → IfErr result (Broke lot.now m) }
+        → k < entry_count m number → IfErr result (Broke lot.now m) }
     ensures looked { Looked D.Disk V.View lot.now view.old disk.old view.new disk.new }
     ensures faults { IfErr result IsCheckFault }
     ensures failed { IsErrOf result FaultDisk → Rose (D.state disk.old).faults (D.state disk.new).faults }
@@ -80,7 +80,7 @@ fn read_names<D: Disk, V: View<D>>(
     ensures names { (m : Map) → Shows V.View lot.now view.old disk.old m
         → OnOk result (AreRead m number count (names_of names.new)) }
     ensures broken { (m : Map) (w : List ℕ) → Shows V.View lot.now view.old disk.old m → LooksInto form_one lot.now m w number
-        → count ≡ length (rows_in form_one (own_in form_one m number)) → IfErr result (Broke lot.now m) }
+        → count ≡ entry_count m number → IfErr result (Broke lot.now m) }
     ensures looked { Looked D.Disk V.View lot.now view.old disk.old view.new disk.new }
     ensures faults { IfErr result IsCheckFault }
     ensures failed { IsErrOf result FaultDisk → Rose (D.state disk.old).faults (D.state disk.new).faults }
@@ -107,9 +107,9 @@ pub fn check_names<D: Disk, V: View<D>>(
     requires room { count ≤ length names.old }
     ensures long { length names.new ≡ length names.old }
     ensures new { (m : Map) → Shows V.View lot.now view.old disk.old m
-        → count ≡ length (rows_in form_one (own_in form_one m number)) → OnOk result (AllNew m number) }
+        → count ≡ entry_count m number → OnOk result (AllNew m number) }
     ensures broken { (m : Map) (w : List ℕ) → Shows V.View lot.now view.old disk.old m → LooksInto form_one lot.now m w number
-        → count ≡ length (rows_in form_one (own_in form_one m number)) → IfErr result (Broke lot.now m) }
+        → count ≡ entry_count m number → IfErr result (Broke lot.now m) }
     ensures looked { Looked D.Disk V.View lot.now view.old disk.old view.new disk.new }
     ensures faults { IfErr result IsCheckFault }
     ensures failed { IsErrOf result FaultDisk → Rose (D.state disk.old).faults (D.state disk.new).faults }

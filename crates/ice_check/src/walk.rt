@@ -7,7 +7,7 @@ ghost use Rattle.ice_base.specs.Views.{Looked};
 ghost use Rattle.tree_spec.specs.Costs.{form_one};
 ghost use Rattle.ice_reads.specs.Tables.{Map, own_in, rows_in};
 ghost use Rattle.ice_rules.specs.Walks.{WalksTo, LooksInto, IsSound, IsOpen, IsNamable};
-ghost use Rattle.ice_check.specs.Marks.{Marked, Checked, CheckedRows, AllNew, IsGood, IsAt, SeenBefore, SeenWithin};
+ghost use Rattle.ice_check.specs.Marks.{entry_count, Marked, Checked, CheckedRows, AllNew, IsGood, IsAt, SeenBefore, SeenWithin};
 ghost use Rattle.ice_check.specs.Shown.{Shows, IsCheckFault, Broke};
 ghost use Rattle.ice_check.specs.declared.fault.CheckFault.TheVariants.{Disk as FaultDisk};
 
@@ -41,7 +41,7 @@ fn visit<D: Disk, V: View<D>>(
         → IfOk result (λ o. IfNone o ((own_in form_one m number).inode.kind ≡ 1)) }
     ensures dir { (m : Map) → Shows V.View lot.now view.old disk.old m
         → IfOk result (λ o. IfSome o (λ n. ((own_in form_one m number).inode.kind ≡ 2)
-        × (n ≡ length (rows_in form_one (own_in form_one m number))))) }
+        × (n ≡ entry_count m number))) }
     ensures broken { (m : Map) (w : List ℕ) (inodes : List Bool) → Shows V.View lot.now view.old disk.old m
         → WalksTo form_one lot.now m w number → used_inode m number ≡ true
         → SeenBefore form_one lot.now m w inodes blocks.old → IfErr result (Broke lot.now m) }
@@ -84,7 +84,7 @@ fn next_inode<D: Disk, V: View<D>>(
     ensures good { (m : Map) → Shows V.View lot.now view.old disk.old m → AllNew m number
         → IfOk result (IsGood form_one lot.now m number k) }
     ensures broken { (m : Map) (w : List ℕ) → Shows V.View lot.now view.old disk.old m → LooksInto form_one lot.now m w number
-        → k < length (rows_in form_one (own_in form_one m number)) → IfErr result (Broke lot.now m) }
+        → k < entry_count m number → IfErr result (Broke lot.now m) }
     ensures looked { Looked D.Disk V.View lot.now view.old disk.old view.new disk.new }
     ensures faults { IfErr result IsCheckFault }
     ensures failed { IsErrOf result FaultDisk → Rose (D.state disk.old).faults (D.state disk.new).faults }
@@ -170,15 +170,15 @@ fn check_rows<D: Disk, V: View<D>>(
     ensures wide { length blocks.new ≡ length blocks.old }
     ensures room { length names.new ≡ length names.old }
     ensures checked { (m : Map) → Shows V.View lot.now view.old disk.old m → IsOpen form_one lot.now m number
-        → count ≡ length (rows_in form_one (own_in form_one m number))
+        → count ≡ entry_count m number
         → OnOk result (CheckedRows form_one lot.now m (rows_in form_one (own_in form_one m number)) (depth + 1) count
         inodes.old inodes.new blocks.old blocks.new) }
     ensures broken { (m : Map) (w : List ℕ) → Shows V.View lot.now view.old disk.old m → IsOpen form_one lot.now m number
-        → count ≡ length (rows_in form_one (own_in form_one m number))
+        → count ≡ entry_count m number
         → IsAt form_one lot.now m w number depth → SeenBefore form_one lot.now m (w ++ 0 ∷ []) inodes.old blocks.old
         → IfErr result (Broke lot.now m) }
     ensures seen { (m : Map) (w : List ℕ) → Shows V.View lot.now view.old disk.old m → IsOpen form_one lot.now m number
-        → count ≡ length (rows_in form_one (own_in form_one m number))
+        → count ≡ entry_count m number
         → IsAt form_one lot.now m w number depth → SeenBefore form_one lot.now m (w ++ 0 ∷ []) inodes.old blocks.old
         → OnOk result (SeenWithin form_one lot.now m w inodes.new blocks.new) }
     ensures looked { Looked D.Disk V.View lot.now view.old disk.old view.new disk.new }
