@@ -66,10 +66,15 @@ fn check_file(rt: &HostRuntime, name: &str) -> io::Result<()> {
 
 fn main(rt: HostRuntime) -> io::Result<()> {
     let mut words = env::args(&rt)?.skip(1);
-    match (words.next(), words.next()) {
-        (None, _) => count(&rt),
-        (Some(word), Some(name)) if word.as_str() == "make" => make(&rt, name.as_str()),
-        (Some(word), Some(name)) if word.as_str() == "check" => check_file(&rt, name.as_str()),
+    let Some(word) = words.next() else {
+        return count(&rt);
+    };
+    let Some(name) = words.next() else {
+        return Err(ErrorKind::InvalidInput.into());
+    };
+    match word.as_str() {
+        "make" => make(&rt, name.as_str()),
+        "check" => check_file(&rt, name.as_str()),
         _ => Err(ErrorKind::InvalidInput.into()),
     }
 }
