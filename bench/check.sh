@@ -22,7 +22,8 @@ for directory in $(seq 63); do
     tee $(seq -f "tree/$directory/%g" 64) < three > /dev/null
 done
 [ "$(find tree | wc -l)" = 4096 ]
-mke2fs -q -F -t ext4 -b 1024 -N 4608 -d tree ext4 32M
+truncate -s 32M ext4
+mke2fs -q -F -t ext4 -b 1024 -N 4608 -d tree ext4
 python3 - "$program" <<'PY'
 import statistics, subprocess, sys, time
 
