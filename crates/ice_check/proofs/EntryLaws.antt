@@ -11,13 +11,13 @@ use Rattle.ice_base.specs.declared.fault.Rule.TheVariants as rule
 use Rattle.ice_map.specs.Inodes.{inode_of}
 use Rattle.ice_map.specs.Maps.{nth_block, leads}
 use Rattle.ice_map.proofs.MapLaws.{nth-direct, leads-direct, leads-single}
-use Rattle.ice_file.specs.Own.{map_length}
+use Rattle.ice_map.specs.Own.{map_length, own}
 use Rattle.ice_dir.specs.Faults.{IsEntryFault}
 use Rattle.ice_dir.specs.Rows.{Row, rows_of, HasEntry}
 use Rattle.ice_dir.proofs.DirLaws.{row-below}
 use Rattle.tree_spec.specs.Costs.{form_one}
 use Rattle.tree_spec.specs.Names.{is_name}
-use Rattle.ice_reads.specs.Tables.{Map, own_in, rows_in}
+use Rattle.ice_reads.specs.Tables.{Map, rows_in}
 use Rattle.ice_reads.proofs.Losses.{length-rows_in}
 use Rattle.ice_rules.specs.Walks.{KindFits, LooksInto}
 use Rattle.ice_rules.specs.Rules.{Breaks}
@@ -47,9 +47,9 @@ few_entries : (lot : LotView) (i : ℕ) (k : ℕ) (m : Map) → KindFits form_on
 few_entries lot i k m (inl h) two = absurd (let one = h.0 in omega arith)
 few_entries lot i k m (inr h) two = h.1
 
-module _ (lot : LotView) (m : Map) (w : List ℕ) (dir k : ℕ) (looks : LooksInto form_one lot m w dir) (below : k < length (rows_in form_one (own_in form_one m dir))) where
+module _ (lot : LotView) (m : Map) (w : List ℕ) (dir k : ℕ) (looks : LooksInto form_one lot m w dir) (below : k < length (rows_in form_one (own form_one m dir))) where
   short : k < (inode_of m dir).size
-  short = omega (arith, below, length-rows_in form_one (own_in form_one m dir))
+  short = omega (arith, below, length-rows_in form_one (own form_one m dir))
 
   entry-there : HasEntry lot k (inode_of m dir)
   entry-there = record { is = record { kind = looks.dir.dir; few = few_entries lot dir k m looks.dir.sound.kind looks.dir.dir }; below = short }

@@ -12,9 +12,9 @@ use Rattle.ice_map.specs.Inodes.{inode_of}
 use Rattle.ice_map.specs.Maps.{nth_block, blocks_of, indirect_of, uses, longest}
 use Rattle.ice_map.proofs.ListLaws.{has-append, has-cons, has-none, has-left, has-right, has-head, has-range, map_range_same}
 use Rattle.ice_map.proofs.MapLaws.{nth-direct, nth-single}
-use Rattle.ice_file.specs.Own.{blocks_for, map_length, own_of}
+use Rattle.ice_map.specs.Own.{blocks_for, map_length, own_of, own, RestIsZero}
 use Rattle.tree_spec.specs.Costs.{form_one}
-use Rattle.ice_reads.specs.Tables.{Map, own_in, RestIsZero}
+use Rattle.ice_reads.specs.Tables.{Map}
 use Rattle.ice_rules.specs.Walks.{KindFits, PointersFit, WalksTo}
 use Rattle.ice_rules.specs.Rules.{Breaks}
 use Rattle.ice_check.proofs.MarkLaws.{indirect_none, indirect_one}
@@ -111,14 +111,14 @@ nth_used m inode count n h = has-right (indirect_of inode count) (blocks_of m in
 -- ---- pointers that fit, or don't
 
 module _ (lot : LotView) (m : Map) (i : ℕ) (inode : Inode) (is : inode ≡ inode_of m i) where
-  pub fits_here : (pointers : List ℕ) → (12 < map_length 64 inode → pointers ≡ m inode.single) → PointersFit form_one lot (own_of (λ _. pointers) inode (map_length 64 inode)) → PointersFit form_one lot (own_in form_one m i)
+  pub fits_here : (pointers : List ℕ) → (12 < map_length 64 inode → pointers ≡ m inode.single) → PointersFit form_one lot (own_of (λ _. pointers) inode (map_length 64 inode)) → PointersFit form_one lot (own form_one m i)
   fits_here pointers same p =
       subst (λ (x : Inode). PointersFit form_one lot (own_of m x (map_length 64 x))) is (record {
         places = λ b h. p.places b (subst (λ xs. has xs b ≡ true) (same_uses m inode pointers (map_length 64 inode) same) h);
         rest = p.rest;
       })
 
-  pub kind_here : KindFits form_one lot i inode → KindFits form_one lot i (own_in form_one m i).inode
+  pub kind_here : KindFits form_one lot i inode → KindFits form_one lot i (own form_one m i).inode
   kind_here k = subst (λ (x : Inode). KindFits form_one lot i x) is k
 
   -- the walk that comes to it

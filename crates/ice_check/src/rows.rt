@@ -4,7 +4,8 @@ ghost use Rattle.ice_base.specs.Disk.{Rose};
 ghost use Rattle.ice_base.specs.Lots.{is_sited};
 ghost use Rattle.ice_base.specs.Views.{Looked};
 ghost use Rattle.tree_spec.specs.Costs.{form_one};
-ghost use Rattle.ice_reads.specs.Tables.{Map, own_in, rows_in, IsNameOf};
+ghost use Rattle.ice_reads.specs.Tables.{Map, rows_in, IsNameOf};
+ghost use Rattle.ice_map.specs.Own.{own};
 ghost use Rattle.ice_rules.specs.Walks.{entry_of, LooksInto};
 ghost use Rattle.ice_check.specs.Marks.{AreRead, AllNew};
 ghost use Rattle.ice_check.specs.Names.{names_of};
@@ -50,7 +51,7 @@ pub fn read_entry<D: Disk, V: View<D>>(
         → IfOk result (λ next. entry_of form_one m number k ≡ Some (name.new, next)) }
     ensures fits { OnOk result (IsNameOf form_one name.new) }
     ensures broken { (m : Map) (w : List ℕ) → Shows V.View lot.now view.old disk.old m → LooksInto form_one lot.now m w number
-        → k < length (rows_in form_one (own_in form_one m number)) → IfErr result (Broke lot.now m) }
+        → k < length (rows_in form_one (own form_one m number)) → IfErr result (Broke lot.now m) }
     ensures looked { Looked D.Disk V.View lot.now view.old disk.old view.new disk.new }
     ensures faults { IfErr result IsCheckFault }
     ensures failed { IsErrOf result FaultDisk → Rose (D.state disk.old).faults (D.state disk.new).faults }
@@ -80,7 +81,7 @@ fn read_names<D: Disk, V: View<D>>(
     ensures names { (m : Map) → Shows V.View lot.now view.old disk.old m
         → OnOk result (AreRead m number count (names_of names.new)) }
     ensures broken { (m : Map) (w : List ℕ) → Shows V.View lot.now view.old disk.old m → LooksInto form_one lot.now m w number
-        → count ≡ length (rows_in form_one (own_in form_one m number)) → IfErr result (Broke lot.now m) }
+        → count ≡ length (rows_in form_one (own form_one m number)) → IfErr result (Broke lot.now m) }
     ensures looked { Looked D.Disk V.View lot.now view.old disk.old view.new disk.new }
     ensures faults { IfErr result IsCheckFault }
     ensures failed { IsErrOf result FaultDisk → Rose (D.state disk.old).faults (D.state disk.new).faults }
@@ -107,9 +108,9 @@ pub fn check_names<D: Disk, V: View<D>>(
     requires room { count ≤ length names.old }
     ensures long { length names.new ≡ length names.old }
     ensures new { (m : Map) → Shows V.View lot.now view.old disk.old m
-        → count ≡ length (rows_in form_one (own_in form_one m number)) → OnOk result (AllNew m number) }
+        → count ≡ length (rows_in form_one (own form_one m number)) → OnOk result (AllNew m number) }
     ensures broken { (m : Map) (w : List ℕ) → Shows V.View lot.now view.old disk.old m → LooksInto form_one lot.now m w number
-        → count ≡ length (rows_in form_one (own_in form_one m number)) → IfErr result (Broke lot.now m) }
+        → count ≡ length (rows_in form_one (own form_one m number)) → IfErr result (Broke lot.now m) }
     ensures looked { Looked D.Disk V.View lot.now view.old disk.old view.new disk.new }
     ensures faults { IfErr result IsCheckFault }
     ensures failed { IsErrOf result FaultDisk → Rose (D.state disk.old).faults (D.state disk.new).faults }

@@ -5,7 +5,8 @@ ghost use Rattle.ice_base.specs.Lots.{is_sited};
 ghost use Rattle.ice_base.specs.Used.{used_inode};
 ghost use Rattle.ice_base.specs.Views.{Looked};
 ghost use Rattle.tree_spec.specs.Costs.{form_one};
-ghost use Rattle.ice_reads.specs.Tables.{Map, own_in, rows_in};
+ghost use Rattle.ice_reads.specs.Tables.{Map, rows_in};
+ghost use Rattle.ice_map.specs.Own.{own};
 ghost use Rattle.ice_rules.specs.Walks.{WalksTo, LooksInto, IsSound, IsOpen, IsNamable};
 ghost use Rattle.ice_check.specs.Marks.{Marked, Checked, CheckedRows, AllNew, IsGood, IsAt, SeenBefore, SeenWithin};
 ghost use Rattle.ice_check.specs.Shown.{Shows, IsCheckFault, Broke};
@@ -36,12 +37,12 @@ fn visit<D: Disk, V: View<D>>(
     ensures sound { (m : Map) → Shows V.View lot.now view.old disk.old m → used_inode m number ≡ true
         → OnOk result (IsSound form_one lot.now m number) }
     ensures marks { (m : Map) → Shows V.View lot.now view.old disk.old m
-        → OnOk result (Marked blocks.old blocks.new (own_in form_one m number).uses) }
+        → OnOk result (Marked blocks.old blocks.new (own form_one m number).uses) }
     ensures file { (m : Map) → Shows V.View lot.now view.old disk.old m
-        → IfOk result (λ o. IfNone o ((own_in form_one m number).inode.kind ≡ 1)) }
+        → IfOk result (λ o. IfNone o ((own form_one m number).inode.kind ≡ 1)) }
     ensures dir { (m : Map) → Shows V.View lot.now view.old disk.old m
-        → IfOk result (λ o. IfSome o (λ n. ((own_in form_one m number).inode.kind ≡ 2)
-        × (n ≡ length (rows_in form_one (own_in form_one m number))))) }
+        → IfOk result (λ o. IfSome o (λ n. ((own form_one m number).inode.kind ≡ 2)
+        × (n ≡ length (rows_in form_one (own form_one m number))))) }
     ensures broken { (m : Map) (w : List ℕ) (inodes : List Bool) → Shows V.View lot.now view.old disk.old m
         → WalksTo form_one lot.now m w number → used_inode m number ≡ true
         → SeenBefore form_one lot.now m w inodes blocks.old → IfErr result (Broke lot.now m) }
@@ -84,7 +85,7 @@ fn next_inode<D: Disk, V: View<D>>(
     ensures good { (m : Map) → Shows V.View lot.now view.old disk.old m → AllNew m number
         → IfOk result (IsGood form_one lot.now m number k) }
     ensures broken { (m : Map) (w : List ℕ) → Shows V.View lot.now view.old disk.old m → LooksInto form_one lot.now m w number
-        → k < length (rows_in form_one (own_in form_one m number)) → IfErr result (Broke lot.now m) }
+        → k < length (rows_in form_one (own form_one m number)) → IfErr result (Broke lot.now m) }
     ensures looked { Looked D.Disk V.View lot.now view.old disk.old view.new disk.new }
     ensures faults { IfErr result IsCheckFault }
     ensures failed { IsErrOf result FaultDisk → Rose (D.state disk.old).faults (D.state disk.new).faults }
@@ -170,14 +171,14 @@ fn check_rows<D: Disk, V: View<D>>(
     ensures wide { length blocks.new ≡ length blocks.old }
     ensures room { length names.new ≡ length names.old }
     ensures checked { (m : Map) → Shows V.View lot.now view.old disk.old m → IsOpen form_one lot.now m number
-        → count ≡ length (rows_in form_one (own_in form_one m number))
-        → OnOk result (CheckedRows form_one lot.now m (rows_in form_one (own_in form_one m number)) (depth + 1) count inodes.old inodes.new blocks.old blocks.new) }
+        → count ≡ length (rows_in form_one (own form_one m number))
+        → OnOk result (CheckedRows form_one lot.now m (rows_in form_one (own form_one m number)) (depth + 1) count inodes.old inodes.new blocks.old blocks.new) }
     ensures broken { (m : Map) (w : List ℕ) → Shows V.View lot.now view.old disk.old m → IsOpen form_one lot.now m number
-        → count ≡ length (rows_in form_one (own_in form_one m number))
+        → count ≡ length (rows_in form_one (own form_one m number))
         → IsAt form_one lot.now m w number depth → SeenBefore form_one lot.now m (w ++ 0 ∷ []) inodes.old blocks.old
         → IfErr result (Broke lot.now m) }
     ensures seen { (m : Map) (w : List ℕ) → Shows V.View lot.now view.old disk.old m → IsOpen form_one lot.now m number
-        → count ≡ length (rows_in form_one (own_in form_one m number))
+        → count ≡ length (rows_in form_one (own form_one m number))
         → IsAt form_one lot.now m w number depth → SeenBefore form_one lot.now m (w ++ 0 ∷ []) inodes.old blocks.old
         → OnOk result (SeenWithin form_one lot.now m w inodes.new blocks.new) }
     ensures looked { Looked D.Disk V.View lot.now view.old disk.old view.new disk.new }

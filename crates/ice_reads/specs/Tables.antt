@@ -10,7 +10,7 @@ use Rattle.ice_base.specs.Used.{is_data}
 use Rattle.ice_map.specs.declared.codec.Inode.{Inode}
 use Rattle.ice_map.specs.Inodes.{inode_of}
 use Rattle.ice_map.specs.Maps.{nth_block, indirect_of, longest}
-use Rattle.ice_file.specs.Own.{Own, own, map_length, file_bytes}
+use Rattle.ice_map.specs.Own.{Own, own, map_length, file_bytes}
 use Rattle.ice_dir.specs.Rows.{Row, dir_rows}
 use Rattle.tree_spec.specs.Trees.{Entries, rows, by_bytes}
 use Rattle.tree_spec.specs.Costs.{Form, rounded_up}

@@ -3,11 +3,11 @@ ghost use Rattle.std.specs.Prelude.{◌≡◌, ◌≤◌, ◌<◌, ◌*◌, ◌%
 ghost use Rattle.ice_base.specs.Lots.{LotView, sub_address};
 ghost use Rattle.ice_base.specs.Spare.{has};
 ghost use Rattle.ice_map.specs.Maps.{times};
-ghost use Rattle.ice_file.specs.Own.{mark};
+ghost use Rattle.ice_map.specs.Own.{mark, own};
 ghost use Rattle.tree_spec.specs.Trees.{Tree, Dir, Nil};
 ghost use Rattle.tree_spec.specs.Costs.{Form, form_one, form_of, blocks};
 ghost use Rattle.ice_reads.specs.Fresh.{IsFreshLot};
-ghost use Rattle.ice_reads.specs.Tables.{Map, own_in};
+ghost use Rattle.ice_reads.specs.Tables.{Map};
 ghost use Rattle.ice_reads.specs.Reads.{Reads, used_blocks};
 ghost use Rattle.ice_reads.specs.Recovers.{MapRecovers};
 
@@ -28,7 +28,7 @@ pub fn small_count()
 pub fn same_blocks()
     ensures { (f : Form) (mode : ℕ) (lot : LotView) (m n : Map) (t : Tree) (k : ℕ) → n sub_address ≡ m sub_address
         → ((a : ℕ) → a < 256 * length lot.groups → a % 256 < 9 → n a ≡ m a)
-        → ((a : ℕ) → 0 < times (used_blocks f (own_in f m) 0 t) a → n a ≡ m a)
+        → ((a : ℕ) → 0 < times (used_blocks f (own f m) 0 t) a → n a ≡ m a)
         → MapRecovers f mode lot m t k → MapRecovers f mode lot n t k }
 {}
 
@@ -47,5 +47,5 @@ pub fn fresh_lot()
 /// In the form of a version, a tree uses as many blocks of a lot of at most 64 groups as it costs.
 #[tactic(auto, using(crate::proofs::UsedCosts::cost_is_used))]
 pub fn cost_is_used()
-    ensures { (f : Form) (lot : LotView) (m : Map) (i h : ℕ) (t : Tree) → f ≡ form_of f.version → length lot.groups ≤ 64 → Reads f lot (own_in f m) i h t → length (used_blocks f (own_in f m) i t) ≡ blocks f t }
+    ensures { (f : Form) (lot : LotView) (m : Map) (i h : ℕ) (t : Tree) → f ≡ form_of f.version → length lot.groups ≤ 64 → Reads f lot (own f m) i h t → length (used_blocks f (own f m) i t) ≡ blocks f t }
 {}

@@ -7,14 +7,14 @@ use Rattle.ice_base.specs.Pools.{TookInode, GaveInode}
 use Rattle.ice_base.specs.Used.{bitmap_of}
 use Rattle.ice_map.specs.declared.codec.Inode.{Inode}
 use Rattle.ice_map.specs.Inodes.{inode_of, InodeSet}
-use Rattle.ice_file.specs.Own.{own}
+use Rattle.ice_map.specs.Own.{own}
 use Rattle.ice_file.specs.Files.{FileSet}
 use Rattle.ice_dir.specs.Rows.{rows_of, without}
 use Rattle.ice_dir.specs.Changes.{DirSet}
 use Rattle.tree_spec.specs.Trees.{Tree, File, Dir, Entries, Nil, rows, by_bytes, walk, Found, at, with_entry, without_entry, height}
 use Rattle.tree_spec.specs.Costs.{form_one}
 use Rattle.tree_spec.specs.Answers.{deepest}
-use Rattle.ice_reads.specs.Tables.{Map, own_in, IsNameOf, inode_named}
+use Rattle.ice_reads.specs.Tables.{Map, IsNameOf, inode_named}
 use Rattle.ice_reads.specs.Reads.{Reads, used_blocks, used_inodes, inode_on}
 use Rattle.ice_reads.specs.Recovers.{MapRecovers}
 use Rattle.ice_reads.proofs.Losses.{Reads-shift}
@@ -73,7 +73,7 @@ module _ (mode : ℕ) (lot : LotView) (m0 m1 : Map) (t : Tree) (k : ℕ) (q : Li
       let place = walk_left mode lot m0 m1 t k q c v es r found is set to (Dir fs) there in
       beside_recovers form_one mode lot m2 (at to (with_entry d v) (at q (without_entry c) t)) k
       (gains_row mode lot m1 m2 (at q (without_entry c) t) k to d gone v fs l.0 there free name
-      (Reads-shift form_one lot (own_in form_one m1) gone (length q + 1) (length to + 1) v fits l.1)
+      (Reads-shift form_one lot (own form_one m1) gone (length q + 1) (length to + 1) v fits l.1)
       (subst (λ p. DirSet lot 64 m1 m2 p (rows_of 64 m1 p ++ (d, gone) ∷ [])) (sym place) put))
 
   -- what it named stands loose

@@ -7,8 +7,9 @@ use Rattle.ice_base.specs.Lots.{LotView}
 use Rattle.ice_base.specs.Used.{used, counted, free_count, AllUsed}
 use Rattle.ice_map.specs.Inodes.{inode_of}
 use Rattle.ice_map.proofs.ListLaws.{count_none}
-use Rattle.ice_file.specs.Own.{own, blocks_for}
-use Rattle.ice_file.specs.Writes.{uses_of, blocks_with}
+use Rattle.ice_map.specs.Own.{own, blocks_for}
+use Rattle.ice_map.specs.Moves.{uses_of}
+use Rattle.ice_file.specs.Writes.{blocks_with}
 use Rattle.ice_dir.specs.Changes.{dir_blocks}
 use Rattle.ice_dir.proofs.PutLaws.{dir-sixteenth}
 use Rattle.tree_spec.specs.Trees.{Tree, File, Dir, Entries, rows, by_bytes, walk, Found, at, with_entry}

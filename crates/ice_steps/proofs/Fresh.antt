@@ -16,7 +16,7 @@ use Rattle.ice_map.specs.Maps.{times, uses}
 use Rattle.ice_map.proofs.ListLaws.{has-none}
 use Rattle.ice_map.proofs.MarkLaws.{used-same}
 use Rattle.ice_map.proofs.GrowLaws.{inode_not_bitmap, inode_not_sub}
-use Rattle.ice_file.specs.Own.{own, mark, map_length, blocks_for, WellMade}
+use Rattle.ice_map.specs.Own.{own, mark, map_length, blocks_for, WellMade}
 use Rattle.ice_file.specs.Files.{bytes_from}
 use Rattle.ice_file.proofs.ByteLaws.{all_bytes}
 use Rattle.ice_dir.specs.Rows.{Row}

@@ -10,8 +10,8 @@ use Rattle.ice_map.specs.Inodes.{inode_of, inode_at}
 use Rattle.ice_map.proofs.ListLaws.{has-cons, has-none, except_elim}
 use Rattle.ice_map.proofs.MarkLaws.{data_not_bitmap, data_not_sub}
 use Rattle.ice_map.proofs.GrowLaws.{inode_not_data, inode_not_bitmap, inode_not_sub}
-use Rattle.ice_file.specs.Own.{own, own_of, map_length}
-use Rattle.ice_file.proofs.SetLaws.{own-stays}
+use Rattle.ice_map.specs.Own.{own, own_of, map_length}
+use Rattle.ice_map.proofs.SetLaws.{own-stays}
 use Rattle.ice_reads.specs.Tables.{Map}
 use Rattle.ice_steps.specs.Beside.{OnlyAt}
 

@@ -4,8 +4,8 @@ use Rattle.std.proofs.lemmas.Bool.Decides.{nat_tests}
 use Rattle.std.proofs.lemmas.Nat.{div-add-mod'}
 use Rattle.ice_base.specs.Lots.{LotView}
 use Rattle.ice_map.specs.Inodes.{inode_of}
-use Rattle.ice_file.specs.Own.{own, map_length}
-use Rattle.ice_file.specs.Writes.{uses_of}
+use Rattle.ice_map.specs.Own.{own, map_length}
+use Rattle.ice_map.specs.Moves.{uses_of}
 use Rattle.ice_file.proofs.ByteLaws.{file_length, all_bytes}
 use Rattle.ice_dir.specs.Rows.{Row}
 use Rattle.ice_dir.proofs.DirLaws.{dir-length}
@@ -13,7 +13,7 @@ use Rattle.std.proofs.lemmas.List.FromFn.{length-map-range_with_len}
 use Rattle.ice_file.specs.Files.{byte_of}
 use Rattle.tree_spec.specs.Trees.{Tree, File, Dir, Entries, Nil, Entry, total_in}
 use Rattle.tree_spec.specs.Costs.{Form, form_one, map_cost, blocks, nodes}
-use Rattle.ice_reads.specs.Tables.{Map, Table, rows_in, own_in, inode_named, IsFileInode, IsDirInode}
+use Rattle.ice_reads.specs.Tables.{Map, Table, rows_in, inode_named, IsFileInode, IsDirInode}
 use Rattle.ice_reads.proofs.UsedCosts.{cost_is_used}
 use Rattle.ice_reads.specs.Reads.{Reads, entries_use, used_blocks, used_inodes}
 
@@ -58,5 +58,5 @@ dir-short lot m i es few r =
     omega arith
 
 module _ (lot : LotView) (few : length lot.groups ≤ 64) (m : Map) where
-  pub length-blocks : (i h : ℕ) (t : Tree) → Reads form_one lot (own_in form_one m) i h t → length (used_blocks form_one (own_in form_one m) i t) ≡ blocks form_one t
+  pub length-blocks : (i h : ℕ) (t : Tree) → Reads form_one lot (own form_one m) i h t → length (used_blocks form_one (own form_one m) i t) ≡ blocks form_one t
   length-blocks i h t r = cost_is_used form_one lot m i h t refl few r

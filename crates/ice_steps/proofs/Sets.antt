@@ -6,12 +6,12 @@ use Rattle.ice_base.specs.Used.{used_block, is_data, Reserved}
 use Rattle.ice_base.proofs.UsedLaws.{data_place}
 use Rattle.ice_map.specs.Maps.{times}
 use Rattle.ice_map.proofs.ListLaws.{times-append}
-use Rattle.ice_file.specs.Own.{own, mark, OwnSet}
-use Rattle.ice_file.proofs.OwnLaws.{times-none}
+use Rattle.ice_map.specs.Own.{own, mark, OwnSet}
+use Rattle.ice_map.proofs.OwnLaws.{times-none}
 use Rattle.tree_spec.specs.Trees.{Tree, File, Dir, Found, walk, at}
 use Rattle.tree_spec.specs.Costs.{form_one}
 use Rattle.tree_spec.specs.Answers.{is_dir}
-use Rattle.ice_reads.specs.Tables.{Map, own_in, IsInode}
+use Rattle.ice_reads.specs.Tables.{Map, IsInode}
 use Rattle.ice_reads.specs.Reads.{Reads, used_blocks, used_inodes}
 use Rattle.ice_reads.proofs.Focus.{same_Found}
 use Rattle.ice_steps.specs.Beside.{Beside}
@@ -54,9 +54,9 @@ module _ (mode : ℕ) (lot : LotView) (m m' : Map) (t t' : Tree) (k : ℕ) (xs y
         mark-same (used_block m' a) (used_block m a) (omega arith) ∙ b.reserved.set a h low;
   }
 
-  pub beside-set : is_dir t' ≡ true → Reads form_one lot (own_in form_one m') 0 0 t'
-      → ((measure : List ℕ → ℕ) → Adds measure → measure (used_blocks form_one (own_in form_one m') 0 t' ++ ys) + measure (own 64 m p).uses ≡ measure (used_blocks form_one (own_in form_one m) 0 t ++ xs) + measure (own 64 m' p).uses)
-      → ((measure : List ℕ → ℕ) → Adds measure → measure (used_inodes form_one (own_in form_one m') 0 t' ++ js) ≡ measure (used_inodes form_one (own_in form_one m) 0 t ++ is))
+  pub beside-set : is_dir t' ≡ true → Reads form_one lot (own form_one m') 0 0 t'
+      → ((measure : List ℕ → ℕ) → Adds measure → measure (used_blocks form_one (own form_one m') 0 t' ++ ys) + measure (own 64 m p).uses ≡ measure (used_blocks form_one (own form_one m) 0 t ++ xs) + measure (own 64 m' p).uses)
+      → ((measure : List ℕ → ℕ) → Adds measure → measure (used_inodes form_one (own form_one m') 0 t' ++ js) ≡ measure (used_inodes form_one (own form_one m) 0 t ++ is))
       → ((a : ℕ) → has ys a ≡ true → is_data lot a ≡ true) → ((i : ℕ) → has js i ≡ true → i < 64 * length lot.groups) → Beside form_one mode lot m' t' k ys js
   beside-set dir reads blocks inodes more others = record {
     sub = says-beside form_one mode lot m m' k set.marks.sub b.sub;

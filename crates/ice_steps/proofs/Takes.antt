@@ -7,10 +7,10 @@ use Rattle.ice_base.specs.Used.{used_inode, bitmap_of, counted}
 use Rattle.ice_map.specs.Maps.{times}
 use Rattle.ice_map.proofs.ListLaws.{has-none, has-one}
 use Rattle.ice_map.proofs.MarkLaws.{used-same}
-use Rattle.ice_file.specs.Own.{own, mark}
+use Rattle.ice_map.specs.Own.{own, mark}
 use Rattle.tree_spec.specs.Trees.{Tree}
 use Rattle.tree_spec.specs.Costs.{form_one}
-use Rattle.ice_reads.specs.Tables.{Map, own_in}
+use Rattle.ice_reads.specs.Tables.{Map}
 use Rattle.ice_reads.specs.Reads.{used_inodes}
 use Rattle.ice_reads.specs.Recovers.{MapRecovers}
 use Rattle.ice_reads.proofs.Frames.{SameAt}
@@ -93,7 +93,7 @@ gave_inode mode lot m m' t k j few b gave only =
       inode_count =
           let v = gave.counts.value in
           let c = b.inode_count in
-          let l = length-append (used_inodes form_one (own_in form_one m) 0 t) (j ∷ []) in
+          let l = length-append (used_inodes form_one (own form_one m) 0 t) (j ∷ []) in
           omega arith;
       more_data = b.more_data;
       others_small = λ i h. let n = has-none i in absurd cc;

@@ -4,11 +4,11 @@ use Rattle.ice_base.specs.Lots.{LotView}
 use Rattle.ice_base.specs.Used.{used_inode, counted, Reserved}
 use Rattle.ice_map.specs.Inodes.{inode_of}
 use Rattle.ice_map.proofs.ListLaws.{times-append, has-head}
-use Rattle.ice_file.specs.Own.{own, file_bytes, WellMade}
+use Rattle.ice_map.specs.Own.{own, file_bytes, WellMade}
 use Rattle.ice_dir.specs.Rows.{IsDirectory}
 use Rattle.tree_spec.specs.Trees.{Tree, File, Dir, Entries, rows, walk, Found}
 use Rattle.tree_spec.specs.Costs.{form_one}
-use Rattle.ice_reads.specs.Tables.{Map, own_in}
+use Rattle.ice_reads.specs.Tables.{Map}
 use Rattle.ice_reads.specs.Reads.{Reads, used_blocks, used_inodes, inode_on}
 use Rattle.ice_reads.specs.Recovers.{MapRecovers}
 use Rattle.ice_reads.proofs.Frames.{times-here}
@@ -74,8 +74,8 @@ module _ (mode : ℕ) (lot : LotView) (m : Map) (t : Tree) (k : ℕ) (is : List 
   pub loose_made : length lot.groups ≤ 64 → WellMade lot 64 m j
   loose_made few = made-reads lot few m j h v r (λ a d.
       let e = b.blocks a d in
-      let c = times-append (used_blocks form_one (own_in form_one m) 0 t) (used_blocks form_one (own_in form_one m) j v) a in
-      let f = own-first form_one (own_in form_one m) j v a in
+      let c = times-append (used_blocks form_one (own form_one m) 0 t) (used_blocks form_one (own form_one m) j v) a in
+      let f = own-first form_one (own form_one m) j v a in
       omega arith)
 
 -- a loose inode
@@ -83,12 +83,12 @@ module _ (mode : ℕ) (lot : LotView) (m : Map) (t : Tree) (k : ℕ) (xs : List 
   pub loose_used : used_inode m j ≡ true
   loose_used =
       let e = b.inodes j (b.others_small j (has-head j is)) in
-      let c = times-append (used_inodes form_one (own_in form_one m) 0 t) (j ∷ is) j in
+      let c = times-append (used_inodes form_one (own form_one m) 0 t) (j ∷ is) j in
       let n = times-here j is in
       mark-set (used_inode m j) (omega arith)
 
   pub loose_counted : 1 ≤ counted true m
   loose_counted =
       let e = b.inode_count in
-      let c = length-append (used_inodes form_one (own_in form_one m) 0 t) (j ∷ is) in
+      let c = length-append (used_inodes form_one (own form_one m) 0 t) (j ∷ is) in
       omega arith

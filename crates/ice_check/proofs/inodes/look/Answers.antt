@@ -1,8 +1,7 @@
 use Rattle.std.proofs.Common.{◌≡◌, ◌<◌, ◌≤◌, sym, subst, arith}
 use Rattle.ice_base.proofs.LotLaws.{sited-few}
 use Rattle.ice_map.specs.Maps.{longest}
-use Rattle.ice_reads.specs.Tables.{RestIsZero}
-use Rattle.ice_file.specs.Own.{map_length}
+use Rattle.ice_map.specs.Own.{RestIsZero, map_length}
 use Rattle.ice_check.proofs.ShownLaws.{still_shows}
 use Rattle.ice_check.proofs.LookLaws.{size_small, map_short, single_broken, nth_broken, rest_broken, uses_data}
 use Rattle.ice_check.proofs.inodes.look.Goals as goal

@@ -4,7 +4,7 @@ use Rattle.ice_base.specs.Lots.{LotView}
 use Rattle.ice_map.specs.declared.codec.Inode.{Inode}
 use Rattle.ice_map.specs.Maps.{uses, FreeOrTwice, HasTwice, Misleads}
 use Rattle.ice_map.proofs.UsesLaws.{misled-uses}
-use Rattle.ice_file.specs.Own.{MadeOf, Confuses}
+use Rattle.ice_map.specs.Own.{MadeOf, Confuses}
 
 pub misled-unmade : (lot : LotView) (m : ℕ → List ℕ) (x : Inode) (c : ℕ) → Misleads lot m x c → ¬ MadeOf lot m x c
 misled-unmade lot m x c l made =

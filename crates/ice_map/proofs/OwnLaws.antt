@@ -1,5 +1,5 @@
 -- Marks that follow what an inode uses, and well-made maps.
-use Rattle.std.proofs.Common.{◌≡◌, ◌≢◌, ◌≤◌, ◌<◌, ◌+◌, ◌-◌, ◌*◌, ◌==◌, ℕ, Bool, true, false, cond, List, [], ◌∷◌, ◌++◌, map, length, slice_index, length-append, ◌∙◌, sym, refl, ap, arith, ltb}
+use Rattle.std.proofs.Common.{◌≡◌, ◌≢◌, ◌≤◌, ◌<◌, ◌+◌, ◌-◌, ◌*◌, ◌==◌, ℕ, Bool, true, false, cond, List, [], ◌∷◌, ◌++◌, map, length, slice_index, length-append, ◌∙◌, sym, refl, ap, subst, arith, ltb}
 use Rattle.std.specs.List.{range_with_len}
 use Rattle.std.proofs.lemmas.Bool.Decides.{nat_tests}
 use Rattle.std.proofs.lemmas.List.FromFn.{length-map-range_with_len}
@@ -9,12 +9,29 @@ use Rattle.ice_base.specs.Lots.{LotView, sub_address}
 use Rattle.ice_base.specs.Spare.{has}
 use Rattle.ice_base.specs.Used.{used_block}
 use Rattle.ice_map.specs.declared.codec.Inode.{Inode}
+use Rattle.ice_map.specs.Inodes.{inode_of}
 use Rattle.ice_map.specs.Maps.{nth_block, blocks_of, indirect_of, uses, times, Marked, Stays}
 use Rattle.ice_map.proofs.ListLaws.{times-append, has-cons, has-head, has-left, has-right, has-range, has-times, range-append}
 use Rattle.ice_map.proofs.MapLaws.{nth-direct, nth-single}
 use Rattle.ice_map.proofs.MarkLaws.{used-same, free-same}
-use Rattle.ice_file.specs.Own.{mark, MarksFollow}
-use Rattle.ice_file.specs.Writes.{uses_of}
+use Rattle.ice_map.specs.Own.{Own, own, own_of, map_length, mark, MarksFollow, Made, MadeOf, WellMade}
+use Rattle.ice_map.specs.Moves.{uses_of}
+use Rattle.tree_spec.specs.Costs.{Form, form_one}
+
+-- in version 1 an inode says what its map of at most 268 blocks does
+pub own-short : (f : Form) → f ≡ form_one → (m : ℕ → List ℕ) (number : ℕ) → own f m number ≡ own_of m (inode_of m number) (map_length f (inode_of m number))
+own-short f one m number = rw one refl
+
+-- and uses what that map uses
+pub uses-short : (f : Form) → f ≡ form_one → (m : ℕ → List ℕ) (number : ℕ) → (own f m number).uses ≡ uses m (inode_of m number) (map_length f (inode_of m number))
+uses-short f one m number = ap (λ (o : Own). o.uses) (own-short f one m number)
+
+-- so it is well made where that map is
+pub made-short : (lot : LotView) (f : Form) → f ≡ form_one → (m : ℕ → List ℕ) (number : ℕ) → WellMade lot f m number → MadeOf lot m (inode_of m number) (map_length f (inode_of m number))
+made-short lot f one m number made = subst (λ us. Made lot m (inode_of m number) us (map_length f (inode_of m number))) (uses-short f one m number) made
+
+pub short-made : (lot : LotView) (f : Form) → f ≡ form_one → (m : ℕ → List ℕ) (number : ℕ) → MadeOf lot m (inode_of m number) (map_length f (inode_of m number)) → WellMade lot f m number
+short-made lot f one m number made = subst (λ us. Made lot m (inode_of m number) us (map_length f (inode_of m number))) (sym (uses-short f one m number)) made
 
 times-cons : (a b : ℕ) (xs : List ℕ) → times (a ∷ xs) b ≡ cond (a == b) 1 0 + times xs b
 times-cons a b xs = let e = times-append (a ∷ []) xs b in omega arith

@@ -1,7 +1,6 @@
 -- What a growth of a map does, whatever the map was.
 use Rattle.std.proofs.Common.{◌≡◌, ◌≢◌, ◌≤◌, ◌<◌, ◌⊎◌, ◌+◌, ◌-◌, ◌*◌, ◌%◌, ◌==◌, max, ℕ, true, false, cond, List, [], ◌∷◌, length, slice_index, ◌∙◌, sym, refl, ap, subst, inl, inr, ⊎_elim, arith, ltb}
 use Rattle.std.proofs.lemmas.Bool.Decides.{nat_tests}
-use Rattle.std.proofs.lemmas.Nat.{div-add-mod', mod_below}
 use Rattle.ice_base.specs.Fields.{word_at, SameBeside}
 use Rattle.ice_base.specs.Inodes.{inode_address}
 use Rattle.ice_base.specs.Lots.{LotView, sub_address}
@@ -15,12 +14,18 @@ use Rattle.ice_map.proofs.ListLaws.{has-one, has-cons, has-range, has-times, tim
 use Rattle.ice_map.proofs.MapLaws.{nth-direct, nth-single, leads-direct, leads-single, leads-lost}
 use Rattle.ice_map.proofs.MarkLaws.{data_not_bitmap, data_not_sub, used-same, free-same}
 use Rattle.ice_map.proofs.GrowLaws.{inode_not_data, inode_not_sub, growth-one, growth-two}
-use Rattle.ice_file.specs.Own.{MoreMarked, Confuses, blocks_for}
-use Rattle.ice_file.specs.Growth.{Grew, InodesStay, Strays}
-use Rattle.ice_file.specs.Writes.{blocks_with, uses_of}
-use Rattle.ice_file.proofs.MoveLaws.{widened-direct, widened-single}
-use Rattle.ice_file.proofs.OwnLaws.{times-one}
-use Rattle.ice_file.proofs.WriteLaws.{count-grows, uses-less, uses-needs}
+use Rattle.ice_map.specs.Own.{MoreMarked, Confuses}
+use Rattle.ice_map.specs.Growth.{Grew, InodesStay, Strays}
+use Rattle.ice_map.specs.Moves.{uses_of}
+use Rattle.ice_map.proofs.MoveLaws.{widened-direct, widened-single}
+use Rattle.ice_map.proofs.OwnLaws.{times-one}
+
+-- how many blocks are used
+pub uses-less : (c d : ℕ) → c ≤ d → uses_of c ≤ uses_of d
+uses-less c d h = grind (arith, nat_tests)
+
+pub uses-needs : (c : ℕ) → needs c + uses_of c ≡ uses_of (c + 1)
+uses-needs c = grind (arith, nat_tests)
 
 -- marks of more blocks
 more-refl : (lot : LotView) (m : ℕ → List ℕ) (n : ℕ) → n ≡ 0 → MoreMarked lot m m n
@@ -151,29 +156,6 @@ inodes-same m0 m1 e n = ap (λ (m : ℕ → List ℕ). inode_at (m (inode_addres
 pub inodes-then : (m0 m1 m2 : ℕ → List ℕ) → InodesStay m0 m1 → InodesStay m1 m2 → InodesStay m0 m2
 inodes-then m0 m1 m2 a b n = b n ∙ a n
 
--- too few blocks are free, or can be counted
-pub none-grew : (lot : LotView) (m0 m1 : ℕ → List ℕ) (x y : Inode) (size end k count : ℕ) → Grew lot m0 m1 x y (blocks_for size) count → blocks_for size ≤ count → k ≡ count → k < blocks_for end
-    → free_count false lot m1 < needs count → free_count false lot m0 + uses_of (blocks_for size) < uses_of (blocks_with size end)
-none-grew lot m0 m1 x y size end k count g o e l f =
-    let w = g.marked.free in
-    let n = uses-needs count in
-    let q = uses-less (blocks_for size) count o in
-    let grows = count-grows end size in
-    let same : blocks_with end size ≡ blocks_with size end = ap blocks_for (omega arith) in
-    let u = uses-less (count + 1) (blocks_with size end) (omega arith) in
-    omega arith
-
-pub full-grew : (lot : LotView) (m0 m1 : ℕ → List ℕ) (x y : Inode) (size end k count : ℕ) → Grew lot m0 m1 x y (blocks_for size) count → blocks_for size ≤ count → k ≡ count → k < blocks_for end
-    → 4294967296 ≤ counted false m1 + needs count → 4294967296 + uses_of (blocks_for size) ≤ counted false m0 + uses_of (blocks_with size end)
-full-grew lot m0 m1 x y size end k count g o e l f =
-    let w = g.marked.counts in
-    let n = uses-needs count in
-    let q = uses-less (blocks_for size) count o in
-    let grows = count-grows end size in
-    let same : blocks_with end size ≡ blocks_with size end = ap blocks_for (omega arith) in
-    let u = uses-less (count + 1) (blocks_with size end) (omega arith) in
-    omega arith
-
 -- what holds no data stays marked used
 pub reserved-more : (lot : LotView) (m0 m1 : ℕ → List ℕ) (n : ℕ) → MoreMarked lot m0 m1 n → Reserved lot m0 → Reserved lot m1
 reserved-more lot m0 m1 n k r = record {
@@ -262,15 +244,6 @@ misled-from lot m0 m1 x y c d k g old mixed s = ⊎_elim
       | false ↦ λ t. let q = g.place (grind (arith, nat_tests)) p.0 in let r = p.1 in absurd cc
     ] refl)
     s
-
--- a block that a file has before a piece of a write, it had before the write
-pub count-had : (size at k from count : ℕ) → at ≤ size → from ≡ max at (1024 * k) → count ≡ blocks_for (max size from) → k < count → k < blocks_for size
-count-had size at k from count r f e h =
-    let q = div-add-mod' (max size from + 1023) 1024 in
-    let d = mod_below (max size from + 1023) 1024 (omega arith) in
-    let q' = div-add-mod' (size + 1023) 1024 in
-    let d' = mod_below (size + 1023) 1024 (omega arith) in
-    omega arith
 
 -- the sub-super block, where the inode was put after more blocks were marked
 pub sub-put : (lot : LotView) (m m0 m1 m2 : ℕ → List ℕ) (n number : ℕ) → m0 ≡ m → MoreMarked lot m0 m1 n → ((b : ℕ) → b ≢ inode_address number → m2 b ≡ m1 b) → SameBeside (count_place false) 4 (m sub_address) (m2 sub_address)

@@ -12,9 +12,9 @@ use Rattle.ice_map.specs.declared.codec.Inode.{Inode}
 use Rattle.ice_map.specs.Maps.{nth_block, blocks_between, uses, cut_off, shortened, Stays, Cut}
 use Rattle.ice_map.proofs.GrowLaws.{inode_not_sub}
 use Rattle.ice_map.proofs.ListLaws.{has-none, has-times}
-use Rattle.ice_file.specs.Own.{MadeOf, NoneUnused, Holds}
-use Rattle.ice_file.specs.Writes.{Moved, content_of, uses_of}
-use Rattle.ice_file.proofs.OwnLaws.{times-has, times-zero, marks-cut, length-uses, uses-nth}
+use Rattle.ice_map.specs.Own.{MadeOf, RestIsZero, Holds}
+use Rattle.ice_map.specs.Moves.{Moved, content_of, uses_of}
+use Rattle.ice_map.proofs.OwnLaws.{times-has, times-zero, marks-cut, length-uses, uses-nth}
 
 pub length-cut_off : (m : ℕ → List ℕ) (x : Inode) (c r : ℕ) → r ≤ c → uses_of c ≡ uses_of r + length (cut_off m x c r)
 length-cut_off m x c r h =
@@ -65,11 +65,11 @@ module _ (lot : LotView) (m0 m1 : ℕ → List ℕ) (x y : Inode) (c r : ℕ) (m
       let z = times-zero (cut_off m0 x c r) b (omega arith) in
       (q.0, was.gave.used b ∙ ap (λ t. cond t false (used_block m0 b)) z ∙ q.1)
 
-  cut-unused : NoneUnused y r
+  cut-unused : RestIsZero y r
   cut-unused = record {
     direct = λ k h l. ap (λ (i : Inode). slice_index i.direct k) fields ∙ shortened-direct x.direct r k h;
     single = λ h. ap (λ (i : Inode). i.single) fields ∙ (let t : ltb 12 r ≡ false = grind (arith, nat_tests) in ap (λ t. cond t x.single 0) t);
-    double = ap (λ (i : Inode). i.double) fields;
+    double = λ few. ap (λ (i : Inode). i.double) fields;
   }
 
   cut-length : length (uses m0 x c) ≡ length (uses m1 y r) + length (cut_off m0 x c r)

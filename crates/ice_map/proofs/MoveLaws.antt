@@ -14,9 +14,9 @@ use Rattle.ice_map.proofs.ListLaws.{times-append, has-append, has-one, has-none,
 use Rattle.ice_map.proofs.MapLaws.{nth-direct, leads-direct, leads-single}
 use Rattle.ice_map.proofs.MarkLaws.{data_not_bitmap, data_not_sub, used-same}
 use Rattle.ice_map.proofs.GrowLaws.{inode_not_data}
-use Rattle.ice_file.specs.Own.{MarksFollow, MadeOf, NoneUnused, Holds}
-use Rattle.ice_file.specs.Writes.{Moved, Reached, content_of}
-use Rattle.ice_file.proofs.OwnLaws.{times-one, times-none, times-has, marks-refl, marks-then, marks-same, marks-grow, indirect-none, indirect-one, length-uses, uses-nth, uses-single, single-apart, nth-apart, nth-moves, stays-then}
+use Rattle.ice_map.specs.Own.{MarksFollow, MadeOf, RestIsZero, Holds}
+use Rattle.ice_map.specs.Moves.{Moved, Reached, content_of}
+use Rattle.ice_map.proofs.OwnLaws.{times-one, times-none, times-has, marks-refl, marks-then, marks-same, marks-grow, indirect-none, indirect-one, length-uses, uses-nth, uses-single, single-apart, nth-apart, nth-moves, stays-then}
 
 -- one move after another
 pub moved-then : (lot : LotView) (m0 m1 m2 : ℕ → List ℕ) (x y z : Inode) (c d e : ℕ) → Moved lot m0 m1 x y c d → Moved lot m1 m2 y z d e → Moved lot m0 m2 x z c e
@@ -180,11 +180,11 @@ module _ (lot : LotView) (m0 m1 : ℕ → List ℕ) (x y : Inode) (c a : ℕ) (m
             (q.0, w ∙ ap (λ t. cond t true (used_block m0 b)) t ∙ q.1)
       ] refl
 
-  grown-unused : NoneUnused y (c + 1)
+  grown-unused : RestIsZero y (c + 1)
   grown-unused = record {
     direct = λ k h l. widened-direct x y c a fields k (λ e. omega arith) ∙ made.unused.direct k (omega arith) l;
     single = λ h. widened-single x y c a fields (λ e. omega arith) ∙ made.unused.single (omega arith);
-    double = ap (λ (i : Inode). i.double) fields ∙ made.unused.double;
+    double = λ few. ap (λ (i : Inode). i.double) fields ∙ made.unused.double (omega arith);
   }
 
   grown-moved : Moved lot m0 m1 x y c (c + 1)

@@ -5,8 +5,8 @@ use Rattle.ice_base.specs.Used.{is_data}
 use Rattle.ice_map.specs.declared.codec.Inode.{Inode}
 use Rattle.ice_map.specs.Inodes.{inode_of}
 use Rattle.ice_map.specs.Maps.{leads}
-use Rattle.ice_file.specs.Own.{MoreMarked}
-use Rattle.ice_file.specs.Writes.{uses_of}
+use Rattle.ice_map.specs.Own.{MoreMarked}
+use Rattle.ice_map.specs.Moves.{uses_of}
 
 -- A map of c blocks became one of d: the blocks that it got are marked used and counted, and the inode's pointers that it had stay.
 -- An indirect block that it got is a data place.

@@ -8,7 +8,7 @@ use Rattle.ice_base.proofs.SpareLaws.{lacks-grows, lacks_few}
 use Rattle.ice_map.specs.Maps.{growth_puts}
 use Rattle.ice_map.proofs.ListLaws.{AllHas, where_elim}
 use Rattle.ice_map.proofs.GrowLaws.{puts-direct, puts-first, puts-single}
-use Rattle.ice_file.specs.Writes.{due}
+use Rattle.ice_map.specs.Moves.{due}
 
 three : (h : ℕ → Bool) (a b c : ℕ) → lacks h (a ∷ b ∷ c ∷ []) ≤ lacks h (a ∷ c ∷ []) + 1
 unfolding lacks

@@ -1,9 +1,9 @@
 use Rattle.std.proofs.Common.{◌≡◌, ◌+◌, max, ℕ, sym, ap, subst, arith}
-use Rattle.ice_file.specs.Writes.{due, Reached}
-use Rattle.ice_file.proofs.DueLaws.{due-grow, due-same}
-use Rattle.ice_file.proofs.GrowthLaws.{grew-one}
-use Rattle.ice_file.proofs.MoveLaws.{grown-reached, had-reached, widened-single}
-use Rattle.ice_file.proofs.pieces.reach.Goals as goal
+use Rattle.ice_map.specs.Moves.{due, Reached}
+use Rattle.ice_map.proofs.DueLaws.{due-grow, due-same}
+use Rattle.ice_map.proofs.GrowthLaws.{grew-one}
+use Rattle.ice_map.proofs.MoveLaws.{grown-reached, had-reached, widened-single}
+use Rattle.ice_map.proofs.reaches.reach.Goals as goal
 
 pub returns-then-k-count-clause-reached : goal.returns-then-k-count-clause-reached
 returns-then-k-count-clause-reached g c = λ s made.
