@@ -54,11 +54,11 @@ module _ (lot : LotView) (m : Map) (w : List ℕ) (dir k : ℕ) (looks : LooksIn
   entry-there : HasEntry lot k (inode_of m dir)
   entry-there = record { is = record { kind = looks.dir.dir; few = few_entries lot dir k m looks.dir.sound.kind looks.dir.dir }; below = short }
 
-  inside : k / 16 < map_length 64 (inode_of m dir)
-  inside = row-below 64 (inode_of m dir) k refl looks.dir.dir short
+  inside : k / 16 < map_length form_one (inode_of m dir)
+  inside = row-below form_one (inode_of m dir) k refl looks.dir.dir short
 
   place-there : is_data lot (nth_block m (inode_of m dir) (k / 16)) ≡ true
-  place-there = looks.dir.sound.pointers.places _ (nth_used m (inode_of m dir) (map_length 64 (inode_of m dir)) (k / 16) inside)
+  place-there = looks.dir.sound.pointers.places _ (nth_used m (inode_of m dir) (map_length form_one (inode_of m dir)) (k / 16) inside)
 
   leads-there : leads lot m (inode_of m dir) (k / 16) ≡ true
   leads-there =
@@ -69,18 +69,18 @@ module _ (lot : LotView) (m : Map) (w : List ℕ) (dir k : ℕ) (looks : LooksIn
         | false ↦ λ t.
             let high : 12 ≤ k / 16 = grind (arith, nat_tests) in
             let at = inside in
-            let single = looks.dir.sound.pointers.places _ (single_used m (inode_of m dir) (map_length 64 (inode_of m dir)) (omega arith)) in
+            let single = looks.dir.sound.pointers.places _ (single_used m (inode_of m dir) (map_length form_one (inode_of m dir)) (omega arith)) in
             leads-single lot m (inode_of m dir) (k / 16) high single ∙ place-there
       ] refl
 
-  name_broken : IfSome (slice_get (rows_of 64 m dir) k) (λ row. is_name row.0 ≡ false) → Breaks form_one lot m rule.Name
+  name_broken : IfSome (slice_get (rows_of form_one m dir) k) (λ row. is_name row.0 ≡ false) → Breaks form_one lot m rule.Name
   name_broken bad =
-      let at = slice_get-get_or (rows_of 64 m dir) k ([], 0) below in
-      let out : is_name (get_or (rows_of 64 m dir) k ([], 0)).0 ≡ false = subst (λ o. IfSome o (λ (row : Row). is_name row.0 ≡ false)) at bad in
-      record { walk = w; dir = dir; entry = k; row = get_or (rows_of 64 m dir) k ([], 0); looks = looks; is = at; bad = λ f. no (sym f.is ∙ out) }
+      let at = slice_get-get_or (rows_of form_one m dir) k ([], 0) below in
+      let out : is_name (get_or (rows_of form_one m dir) k ([], 0)).0 ≡ false = subst (λ o. IfSome o (λ (row : Row). is_name row.0 ≡ false)) at bad in
+      record { walk = w; dir = dir; entry = k; row = get_or (rows_of form_one m dir) k ([], 0); looks = looks; is = at; bad = λ f. no (sym f.is ∙ out) }
 
   pub entry_broken : (e : OpFault) → IsEntryFault e → (e ≡ op.Damaged rule.Kind → ¬ HasEntry lot k (inode_of m dir)) → (e ≡ op.Damaged rule.Pointer → leads lot m (inode_of m dir) (k / 16) ≡ false)
-      → (e ≡ op.Damaged rule.Name → IfSome (slice_get (rows_of 64 m dir) k) (λ row. is_name row.0 ≡ false)) → Broke lot m (told_as e)
+      → (e ≡ op.Damaged rule.Name → IfSome (slice_get (rows_of form_one m dir) k) (λ row. is_name row.0 ≡ false)) → Broke lot m (told_as e)
   entry_broken op.Disk h a b c = tt
   entry_broken (op.Damaged rule.Kind) h a b c = absurd (a refl entry-there)
   entry_broken (op.Damaged rule.Pointer) h a b c = absurd (no (sym leads-there ∙ b refl))

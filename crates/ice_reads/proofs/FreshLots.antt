@@ -44,7 +44,7 @@ module _ (lot : LotView) (m : Map) (fresh : IsFreshLot lot m) where
   size-is : root.size ≡ 0
   size-is = ap (λ x. x.size) root-is ∙ root-size
 
-  no-blocks : map_length 64 root ≡ 0
+  no-blocks : map_length form_one root ≡ 0
   no-blocks = ap (λ k. blocks_for (cond (k == 2) (64 * root.size) root.size)) kind-is ∙ ap (λ s. blocks_for (64 * s)) size-is
 
   no-uses : (own form_one m 0).uses ≡ []

@@ -111,9 +111,9 @@ pub own-rests : (f : Form) (m n : Map) (number : ℕ) → n (inode_address numbe
 own-rests f m n number bytes keep =
     let same : inode_of n number ≡ inode_of m number = ap (λ (block : List ℕ). inode_at block (inode_index number)) bytes in
     elim (nat_eq f.version 2) as (λ b. Keep m n (said b m (inode_of m number)).uses → said b n (inode_of n number) ≡ said b m (inode_of m number)) [
-      | true ↦ λ k. ap (said true n) same ∙ long-rest m n (inode_of m number) (map_length (entry_size f) (inode_of m number)) k
-      | false ↦ λ k. ap (said false n) same ∙ short-rest m n (inode_of m number) (map_length (entry_size f) (inode_of m number)) k
+      | true ↦ λ k. ap (said true n) same ∙ long-rest m n (inode_of m number) (map_length f (inode_of m number)) k
+      | false ↦ λ k. ap (said false n) same ∙ short-rest m n (inode_of m number) (map_length f (inode_of m number)) k
     ] keep
   where
     said : Bool → Map → Inode → Own
-    said b k x = if b then own_long_of k x (map_length (entry_size f) x) else own_of k x (map_length (entry_size f) x)
+    said b k x = if b then own_long_of k x (map_length f x) else own_of k x (map_length f x)

@@ -100,15 +100,15 @@ module _ (lot : LotView) (m : Map) where
   file-one : (i : ℕ) (bytes : List ℕ) → IsFileInode form_one (own form_one m i) bytes → length (own form_one m i).uses ≡ map_cost (file_blocks (length bytes))
   file-one i bytes r =
       let size = sym (length-bytes (own form_one m i)) ∙ ap length r.bytes_are in
-      let long = map-file 64 (inode_of m i) r.is_file in
-      let short : map_length 64 (inode_of m i) ≤ 268 = let d = div-add-mod' ((inode_of m i).size + 1024 - 1) 1024 in let w : (inode_of m i).size ≤ 274432 = r.within in omega arith in
-      length-uses m (inode_of m i) (map_length 64 (inode_of m i)) ∙ cost-short (map_length 64 (inode_of m i)) short ∙ ap map_cost (long ∙ ap file_blocks size)
+      let long = map-file form_one (inode_of m i) r.is_file in
+      let short : map_length form_one (inode_of m i) ≤ 268 = let d = div-add-mod' ((inode_of m i).size + 1024 - 1) 1024 in let w : (inode_of m i).size ≤ 274432 = r.within in omega arith in
+      length-uses m (inode_of m i) (map_length form_one (inode_of m i)) ∙ cost-short (map_length form_one (inode_of m i)) short ∙ ap map_cost (long ∙ ap file_blocks size)
 
   dir-one : length lot.groups ≤ 64 → (i : ℕ) (es : Entries) → IsDirInode form_one lot (own form_one m i) es → length (own form_one m i).uses ≡ map_cost (dir_blocks form_one (length (rows es)))
   dir-one few i es r =
-      let long = map-dir 64 (inode_of m i) r.is_dir in
-      let short : map_length 64 (inode_of m i) ≤ 268 = let d = div-add-mod' (64 * (inode_of m i).size + 1023) 1024 in let w : (inode_of m i).size < 64 * length lot.groups = r.within in omega arith in
-      length-uses m (inode_of m i) (map_length 64 (inode_of m i)) ∙ cost-short (map_length 64 (inode_of m i)) short ∙ ap map_cost (long ∙ sixteen (inode_of m i).size ∙ ap (dir_blocks form_one) (sym r.count))
+      let long = map-dir form_one (inode_of m i) r.is_dir in
+      let short : map_length form_one (inode_of m i) ≤ 268 = let d = div-add-mod' (64 * (inode_of m i).size + 1023) 1024 in let w : (inode_of m i).size < 64 * length lot.groups = r.within in omega arith in
+      length-uses m (inode_of m i) (map_length form_one (inode_of m i)) ∙ cost-short (map_length form_one (inode_of m i)) short ∙ ap map_cost (long ∙ sixteen (inode_of m i).size ∙ ap (dir_blocks form_one) (sym r.count))
 
   file-two : (i : ℕ) (bytes : List ℕ) → IsFileInode form_two (own form_two m i) bytes → length (own form_two m i).uses ≡ map_cost (file_blocks (length bytes))
   file-two i bytes r =

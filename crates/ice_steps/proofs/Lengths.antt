@@ -36,23 +36,23 @@ module _ (f : Form) (o : Table) where
 pub uses-cost : (c : ℕ) → c ≤ 268 → uses_of c ≡ map_cost c
 uses-cost c h = grind (arith, nat_tests)
 
-pub file-size : (m : Map) (i : ℕ) (bytes : List ℕ) → IsFileInode form_one (own 64 m i) bytes → (inode_of m i).size ≡ length bytes
+pub file-size : (m : Map) (i : ℕ) (bytes : List ℕ) → IsFileInode form_one (own form_one m i) bytes → (inode_of m i).size ≡ length bytes
 file-size m i bytes r =
-    let e = all_bytes 64 m i r.is_file in
+    let e = all_bytes form_one refl m i r.is_file in
     let l = length-map-range_with_len (byte_of m (inode_of m i)) 0 (inode_of m i).size in
     sym l ∙ ap (λ (xs : List ℕ). length xs) (sym e ∙ r.bytes_are)
 
 -- a file has at most 268 blocks, and so has a directory
-pub file-short : (lot : LotView) (m : Map) (i : ℕ) (bytes : List ℕ) → IsFileInode form_one (own 64 m i) bytes → map_length 64 (inode_of m i) ≤ 268
+pub file-short : (lot : LotView) (m : Map) (i : ℕ) (bytes : List ℕ) → IsFileInode form_one (own form_one m i) bytes → map_length form_one (inode_of m i) ≤ 268
 file-short lot m i bytes r =
-    let e = file_length 64 (inode_of m i) r.is_file in
+    let e = file_length form_one (inode_of m i) r.is_file in
     let w : (inode_of m i).size ≤ 274432 = r.within in
     let d = div-add-mod' ((inode_of m i).size + 1023) 1024 in
     omega arith
 
-pub dir-short : (lot : LotView) (m : Map) (i : ℕ) (es : Entries) → length lot.groups ≤ 64 → IsDirInode form_one lot (own 64 m i) es → map_length 64 (inode_of m i) ≤ 268
+pub dir-short : (lot : LotView) (m : Map) (i : ℕ) (es : Entries) → length lot.groups ≤ 64 → IsDirInode form_one lot (own form_one m i) es → map_length form_one (inode_of m i) ≤ 268
 dir-short lot m i es few r =
-    let e = dir-length 64 (inode_of m i) refl r.is_dir in
+    let e = dir-length form_one (inode_of m i) refl r.is_dir in
     let w : (inode_of m i).size < 64 * length lot.groups = r.within in
     let d = div-add-mod' ((inode_of m i).size + 15) 16 in
     omega arith

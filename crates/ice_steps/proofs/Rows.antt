@@ -21,22 +21,22 @@ use Rattle.ice_steps.proofs.Others.{Loose, loose-tree, all, all-apart, tree-once
 use Rattle.ice_steps.proofs.Sets.{Adds, set-inode, dir-after, beside-set}
 
 module _ (mode : ℕ) (lot : LotView) (m m' : Map) (t : Tree) (k : ℕ) (q : List (List ℕ)) (c : List ℕ) (j : ℕ) (v : Tree) (es : Entries)
-    (b : Beside form_one mode lot m t k (used_blocks form_one (own 64 m) j v) (used_inodes form_one (own 64 m) j v)) (found : walk q t ≡ Found (Dir es)) (free : find by_bytes c (rows es) ≡ None)
-    (name : IsNameOf form_one c) (r : Reads form_one lot (own 64 m) j (length q + 1) v)
-    (set : DirSet lot 64 m m' (inode_on form_one (own 64 m) 0 q) (rows_of 64 m (inode_on form_one (own 64 m) 0 q) ++ (c, j) ∷ [])) where
+    (b : Beside form_one mode lot m t k (used_blocks form_one (own form_one m) j v) (used_inodes form_one (own form_one m) j v)) (found : walk q t ≡ Found (Dir es)) (free : find by_bytes c (rows es) ≡ None)
+    (name : IsNameOf form_one c) (r : Reads form_one lot (own form_one m) j (length q + 1) v)
+    (set : DirSet lot form_one m m' (inode_on form_one (own form_one m) 0 q) (rows_of form_one m (inode_on form_one (own form_one m) 0 q) ++ (c, j) ∷ [])) where
   abbrev here : ℕ
-  here = inode_on form_one (own 64 m) 0 q
+  here = inode_on form_one (own form_one m) 0 q
 
   abbrev blocks : List ℕ
-  blocks = used_blocks form_one (own 64 m) j v
+  blocks = used_blocks form_one (own form_one m) j v
 
   abbrev inodes : List ℕ
-  inodes = used_inodes form_one (own 64 m) j v
+  inodes = used_inodes form_one (own form_one m) j v
 
   loose : Loose lot m blocks inodes
   loose = loose-tree lot m j (length q + 1) v r
 
-  in-tree : 0 < times (used_inodes form_one (own 64 m) 0 t) here
+  in-tree : 0 < times (used_inodes form_one (own form_one m) 0 t) here
   in-tree =
       let e = uses-part form_one (own form_one m) (λ i. i ∷ []) here q 0 t (Dir es) found in
       let f = inode-first form_one (own form_one m) here (Dir es) in
@@ -58,10 +58,10 @@ module _ (mode : ℕ) (lot : LotView) (m m' : Map) (t : Tree) (k : ℕ) (q : Lis
         (let e = times-append (used_inodes form_one (own form_one m) 0 t) inodes x in omega arith);
   }
 
-  adds : AddsRow form_one lot (own 64 m here) (own 64 m' here) here (length q) c j
-  adds = adds_row form_one lot (own 64 m here) (own 64 m' here) here (length q) (set-inode lot m m' here (length q) set.set) set.is.kind set.is.few c j set.rows
+  adds : AddsRow form_one lot (own form_one m here) (own form_one m' here) here (length q) c j
+  adds = adds_row form_one lot (own form_one m here) (own form_one m' here) here (length q) (set-inode lot m m' here (length q) set.set) set.is.kind set.is.few c j set.rows
 
-  moves : (mine yours : ℕ → List ℕ) → ((x : ℕ) → own 64 m' x ≡ own 64 m x → yours x ≡ mine x) → (measure : List ℕ → ℕ) → Adds measure
+  moves : (mine yours : ℕ → List ℕ) → ((x : ℕ) → own form_one m' x ≡ own form_one m x → yours x ≡ mine x) → (measure : List ℕ → ℕ) → Adds measure
       → measure (tree_uses form_one (own form_one m') yours 0 (at q (with_entry c v) t) ++ []) + measure (mine here) ≡ measure (tree_uses form_one (own form_one m) mine 0 t ++ tree_uses form_one (own form_one m) mine j v) + measure (yours here)
   moves mine yours alike measure sums =
       let e = uses-with_entry form_one lot (own form_one m) (own form_one m') q c j v t es mine yours alike measure sums b.reads found free (tree-once mode lot m t k blocks inodes b) tree-but adds in
@@ -76,7 +76,7 @@ module _ (mode : ℕ) (lot : LotView) (m m' : Map) (t : Tree) (k : ℕ) (q : Lis
       (dir-after q (with_entry c v) t (Dir es) found b.dir (λ e. refl))
       (Reads-with_entry form_one lot (own form_one m) (own form_one m') q c j v t es b.reads found free name (tree-once mode lot m t k blocks inodes b) tree-but adds
       (Reads-frame form_one lot (own form_one m) (own form_one m') j (length q + 1) v loose-same r))
-      (λ measure sums. moves (λ i. (own 64 m i).uses) (λ i. (own 64 m' i).uses) (λ x e. ap (λ o. o.uses) e) measure sums)
+      (λ measure sums. moves (λ i. (own form_one m i).uses) (λ i. (own form_one m' i).uses) (λ x e. ap (λ o. o.uses) e) measure sums)
       (λ measure sums. let e = moves (λ i. i ∷ []) (λ i. i ∷ []) (λ x e. refl) measure sums in omega arith)
       (λ a h. let n = has-none a in absurd cc)
       (λ i h. let n = has-none i in absurd cc)

@@ -25,15 +25,15 @@ module _ (f : Form) (o p : Table) where
             (let g = uses-entry f o (λ i. i ∷ []) x (rows_in f (o i)) c es u e in let n = times-there x i (entries_use f o (λ i. i ∷ []) (rows_in f (o i)) es) in omega arith))
       ] refl found
 
-module _ (m m' : Map) (t : Tree) (same : SameAt (own 64 m) (own 64 m') (used_inodes form_one (own 64 m) 0 t)) (q : List (List ℕ)) (s : Tree) (found : walk q t ≡ Found s) where
-  pub stays_walk : inode_on form_one (own 64 m') 0 q ≡ inode_on form_one (own 64 m) 0 q
+module _ (m m' : Map) (t : Tree) (same : SameAt (own form_one m) (own form_one m') (used_inodes form_one (own form_one m) 0 t)) (q : List (List ℕ)) (s : Tree) (found : walk q t ≡ Found s) where
+  pub stays_walk : inode_on form_one (own form_one m') 0 q ≡ inode_on form_one (own form_one m) 0 q
   stays_walk = same_walk form_one (own form_one m) (own form_one m') q 0 t s found same.at
 
-  pub stays_own : own 64 m' (inode_on form_one (own 64 m) 0 q) ≡ own 64 m (inode_on form_one (own 64 m) 0 q)
-  stays_own = same.at (inode_on form_one (own 64 m) 0 q)
-      (let g = uses-part form_one (own form_one m) (λ i. i ∷ []) (inode_on form_one (own 64 m) 0 q) q 0 t s found in
-      let n = inode-first form_one (own form_one m) (inode_on form_one (own 64 m) 0 q) s in
+  pub stays_own : own form_one m' (inode_on form_one (own form_one m) 0 q) ≡ own form_one m (inode_on form_one (own form_one m) 0 q)
+  stays_own = same.at (inode_on form_one (own form_one m) 0 q)
+      (let g = uses-part form_one (own form_one m) (λ i. i ∷ []) (inode_on form_one (own form_one m) 0 q) q 0 t s found in
+      let n = inode-first form_one (own form_one m) (inode_on form_one (own form_one m) 0 q) s in
       omega arith)
 
-  pub stays_rows : rows_of 64 m' (inode_on form_one (own 64 m) 0 q) ≡ rows_of 64 m (inode_on form_one (own 64 m) 0 q)
+  pub stays_rows : rows_of form_one m' (inode_on form_one (own form_one m) 0 q) ≡ rows_of form_one m (inode_on form_one (own form_one m) 0 q)
   stays_rows = ap (λ o. rows_in form_one o) stays_own

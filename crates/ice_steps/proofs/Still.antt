@@ -70,5 +70,5 @@ module _ (mode : ℕ) (lot : LotView) (m m' : Map) (t : Tree) (k k' : ℕ) (xs y
       }
 
 -- the blocks that an inode of a tree uses are data places
-pub used-places : (lot : LotView) (m : Map) (i h : ℕ) (t : Tree) → Reads form_one lot (own form_one m) i h t → (x : ℕ) → 0 < times (used_inodes form_one (own form_one m) i t) x → (b : ℕ) → has (own 64 m x).uses b ≡ true → is_data lot b ≡ true
+pub used-places : (lot : LotView) (m : Map) (i h : ℕ) (t : Tree) → Reads form_one lot (own form_one m) i h t → (x : ℕ) → 0 < times (used_inodes form_one (own form_one m) i t) x → (b : ℕ) → has (own form_one m x).uses b ≡ true → is_data lot b ≡ true
 used-places lot m i h t r x c = (Reads-inode form_one lot (own form_one m) x i h t r c).1.places

@@ -29,10 +29,10 @@ mark-absent : (j i : ℕ) → i ≢ j → times (j ∷ []) i ≡ 0
 mark-absent j i e = times-other j i [] (λ q. e (sym q))
 
 -- the inodes of the tree say what they said
-pub took_stays : (mode : ℕ) (lot : LotView) (m m' : Map) (t : Tree) (k : ℕ) (xs is : List ℕ) (j : ℕ) → length lot.groups ≤ 64 → Beside form_one mode lot m t k xs is → OnlyAt (sub_address ∷ bitmap_of true j ∷ []) m m' → SameAt (own 64 m) (own 64 m') (used_inodes form_one (own 64 m) 0 t)
+pub took_stays : (mode : ℕ) (lot : LotView) (m m' : Map) (t : Tree) (k : ℕ) (xs is : List ℕ) (j : ℕ) → length lot.groups ≤ 64 → Beside form_one mode lot m t k xs is → OnlyAt (sub_address ∷ bitmap_of true j ∷ []) m m' → SameAt (own form_one m) (own form_one m') (used_inodes form_one (own form_one m) 0 t)
 took_stays mode lot m m' t k xs is j few b only = record { at = λ x h. marks-own lot few m m' (j / 64) (only-two sub_address (bitmap_of true j) m m' only) x (used-places lot m 0 0 t b.reads x h) }
 
-pub done_stays : (mode : ℕ) (lot : LotView) (m m' : Map) (t : Tree) (k done : ℕ) (xs is : List ℕ) → length lot.groups ≤ 64 → Beside form_one mode lot m t k xs is → DoneSet m m' done → SameAt (own 64 m) (own 64 m') (used_inodes form_one (own 64 m) 0 t)
+pub done_stays : (mode : ℕ) (lot : LotView) (m m' : Map) (t : Tree) (k done : ℕ) (xs is : List ℕ) → length lot.groups ≤ 64 → Beside form_one mode lot m t k xs is → DoneSet m m' done → SameAt (own form_one m) (own form_one m') (used_inodes form_one (own form_one m) 0 t)
 done_stays mode lot m m' t k done xs is few b set = record { at = λ x h. sub-own lot few m m' (only-one sub_address m m' set.others) x (used-places lot m 0 0 t b.reads x h) }
 
 pub took_inode : (mode : ℕ) (lot : LotView) (m m' : Map) (t : Tree) (k : ℕ) (xs : List ℕ) (j : ℕ) → length lot.groups ≤ 64 → Beside form_one mode lot m t k xs [] → TookInode m m' j → j < 64 * length lot.groups
