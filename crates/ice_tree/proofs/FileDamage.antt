@@ -1,24 +1,25 @@
 -- Which rule a lot breaks where a file can't be written or cut after all.
-use Rattle.std.proofs.Common.{◌≡◌, ◌≤◌, ◌<◌, ◌+◌, ◌*◌, ◌^◌, ℕ, true, false, length, refl, arith, inl, inr}
+use Rattle.std.proofs.Common.{◌≡◌, ◌≤◌, ◌<◌, ◌+◌, ◌^◌, ℕ, true, false, length, refl, arith, inl, inr}
 use Rattle.std.specs.Prelude.{max}
-use Rattle.std.proofs.lemmas.Nat.{div-add-mod', mod_below}
 use Rattle.ice_base.specs.Lots.{LotView}
 use Rattle.ice_base.specs.Used.{is_data, counted, free_count, Reserved}
 use Rattle.ice_base.specs.declared.fault.OpFault.{OpFault}
 use Rattle.ice_base.specs.declared.fault.OpFault.TheVariants.{Disk, Damaged, NoSpace}
 use Rattle.ice_base.specs.declared.fault.Rule.TheVariants.{Counts, Kind, Pointer, Bitmap}
 use Rattle.ice_map.specs.Inodes.{inode_of}
-use Rattle.ice_map.specs.Maps.{leads, cut_off, FreeOrTwice, Misleads}
+use Rattle.ice_map.specs.Maps.{cut_off, FreeOrTwice, Misleads}
 use Rattle.ice_map.proofs.UsesLaws.{free-or, off-free}
 use Rattle.ice_file.proofs.WriteLaws.{count-less}
-use Rattle.ice_file.specs.Files.{longest_file, ReachesTo, IsReadFault, IsWriteFault, IsCutToFault}
+use Rattle.ice_file.specs.Files.{longest_file, ReachesTo, IsWriteFault, IsCutToFault}
 use Rattle.ice_file.specs.Own.{blocks_for, Confuses}
 use Rattle.ice_file.specs.Writes.{uses_of, blocks_with}
 use Rattle.ice_reads.specs.Tables.{Map}
-use Rattle.ice_tree.specs.Broken.{IsBrokenBy, IsFaultBy}
-use Rattle.ice_tree.specs.Grounds.{BytesFit, LooseBroken}
-use Rattle.ice_tree.specs.Places.{IsReached}
-use Rattle.ice_tree.proofs.MapDamage.{map-file, file-few, few-counted, bad-pointer, bad-bitmap, bad-map}
+use Rattle.ice_look.specs.Broken.{IsBrokenBy, IsFaultBy}
+use Rattle.ice_tree.specs.Writes.{BytesFit}
+use Rattle.ice_tree.specs.Removes.{LooseBroken}
+use Rattle.ice_look.specs.Places.{IsReached}
+use Rattle.ice_look.proofs.MapDamage.{map-file, few-counted, bad-pointer, bad-bitmap, bad-map}
+use Rattle.ice_tree.proofs.MapDamage.{file-few}
 
 -- bytes can't be put
 pub write-blamed : (entry : ℕ) (lot : LotView) (m : Map) (at end number : ℕ) → length lot.groups ≤ 64 → end ≤ longest_file → BytesFit entry lot m at end number → (e : OpFault) → IsWriteFault e
@@ -38,19 +39,6 @@ write-blamed entry lot m at end number few short fits (Damaged Pointer) h none f
     bad-map entry lot m number (blocks_for (inode_of m number).size) fits.file_is.reached (inl (is.kind, is.small)) (map-file entry (inode_of m number) is.kind) (pointer refl)
 write-blamed entry lot m at end number few short fits (Damaged Bitmap) h none full kind bitmap pointer = inl (bitmap refl)
 write-blamed entry lot m at end number few short fits _ h none full kind bitmap pointer = absurd h
-
--- bytes can't be read
-pub read-blamed : (entry : ℕ) (lot : LotView) (m : Map) (at number : ℕ) → IsReached entry lot m number → ReachesTo at (inode_of m number) → (e : OpFault) → IsReadFault e → (e ≡ Damaged Kind → ¬ ReachesTo at (inode_of m number))
-    → (e ≡ Damaged Pointer → (k : ℕ) × (1024 * k < (inode_of m number).size) × (leads lot m (inode_of m number) k ≡ false)) → IsBrokenBy entry lot m e
-read-blamed entry lot m at number reached file Disk h kind pointer = tt
-read-blamed entry lot m at number reached file (Damaged Kind) h kind pointer = absurd (kind refl file)
-read-blamed entry lot m at number reached file (Damaged Pointer) h kind pointer =
-    let x = inode_of m number in
-    let p = pointer refl in
-    let q = div-add-mod' (x.size + 1023) 1024 in
-    let d = mod_below (x.size + 1023) 1024 (omega arith) in
-    inl (bad-pointer entry lot m number (blocks_for x.size) reached (inl (file.kind, file.small)) (map-file entry x file.kind) (record { block = p.0; below = omega (arith, p.1, q, d); bad = p.2 }))
-read-blamed entry lot m at number reached file _ h kind pointer = absurd h
 
 -- a file can't be cut: what is damaged of it, whether or not a directory names it
 pub cut-loose : (lot : LotView) (m : Map) (len number : ℕ) → ReachesTo len (inode_of m number) → (e : OpFault) → IsCutToFault e

@@ -35,12 +35,13 @@ use Rattle.ice_steps.proofs.Needs.{reaches_to, beside_counted, file_uses}
 use Rattle.ice_steps.proofs.Recovers.{recovers_beside}
 use Rattle.ice_steps.proofs.Walks.{FileAt, walk_file, walk_made}
 use Rattle.ice_tree.specs.declared.quota.Need.{Need}
-use Rattle.ice_tree.specs.Changes.{Needs, TakesAt, reach_refusal}
-use Rattle.ice_tree.specs.Outcomes.{RefusedAs}
-use Rattle.ice_tree.specs.Stages.{or_else, paths_refusal, file_refusal, quota_refusal}
+use Rattle.ice_tree.specs.Quotas.{Needs, quota_refusal}
+use Rattle.ice_tree.specs.Writes.{TakesAt, reach_refusal}
+use Rattle.ice_look.specs.Outcomes.{RefusedAs}
+use Rattle.ice_look.specs.Stages.{or_else, paths_refusal, file_refusal}
 use Rattle.ice_tree.proofs.Chains.{refusal_write, refusal_trunc}
 use Rattle.ice_tree.proofs.SpotLaws.{chained}
-use Rattle.ice_tree.proofs.LookLaws.{later_stage}
+use Rattle.ice_look.proofs.LookLaws.{later_stage}
 use Rattle.ice_tree.proofs.StageLaws.{refused-now, refused-later}
 
 abbrev Names : Type 0

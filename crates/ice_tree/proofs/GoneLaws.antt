@@ -19,17 +19,18 @@ use Rattle.ice_reads.specs.Tables.{Map, Table, own_in}
 use Rattle.ice_reads.specs.Reads.{inode_on}
 use Rattle.ice_reads.specs.Recovers.{MapRecovers}
 use Rattle.ice_reads.proofs.Sorted.{Reads-ordered}
-use Rattle.ice_tree.specs.declared.place.Place.{Place}
-use Rattle.ice_tree.specs.declared.place.Place.TheVariants.{File, Dir, Missing, Blocked}
-use Rattle.ice_tree.specs.declared.ends.Ends.{Ends}
-use Rattle.ice_tree.specs.declared.ends.Spot.{Spot}
+use Rattle.ice_look.specs.declared.place.Place.{Place}
+use Rattle.ice_look.specs.declared.place.Place.TheVariants.{File, Dir, Missing, Blocked}
+use Rattle.ice_look.specs.declared.ends.Ends.{Ends}
+use Rattle.ice_look.specs.declared.ends.Spot.{Spot}
 use Rattle.ice_tree.specs.declared.quota.Need.{Need}
 use Rattle.ice_tree.specs.declared.removes.Gone.{Gone}
-use Rattle.ice_tree.specs.Changes.{Needs, IsEnds, IsSpot}
-use Rattle.ice_tree.specs.Moves.{gone_refusal, IsGone}
-use Rattle.ice_tree.specs.Outcomes.{RefusedAs}
-use Rattle.ice_tree.specs.Places.{place_by, place_at}
-use Rattle.ice_tree.specs.Stages.{or_else, walk_refusal}
+use Rattle.ice_tree.specs.Quotas.{Needs}
+use Rattle.ice_look.specs.Ends.{IsEnds, IsSpot}
+use Rattle.ice_tree.specs.Removes.{gone_refusal, IsGone}
+use Rattle.ice_look.specs.Outcomes.{RefusedAs}
+use Rattle.ice_look.specs.Places.{place_by, place_at}
+use Rattle.ice_look.specs.Stages.{or_else, walk_refusal}
 
 abbrev Names : Type 0
 Names = List (List ℕ)

@@ -19,11 +19,12 @@ use Rattle.ice_file.proofs.OwnLaws.{length-uses, uses-single}
 use Rattle.ice_map.proofs.CutLaws.{same-run}
 use Rattle.ice_dir.specs.Changes.{dir_blocks, dir_uses, EntryGone}
 use Rattle.ice_dir.specs.Rows.{IsDirectory}
-use Rattle.ice_tree.specs.Broken.{IsBrokenBy, IsFaultBy, BadPointer, FreeBlock, TwiceUsed, FewCounted, node_uses}
-use Rattle.ice_tree.specs.Grounds.{LooseBroken}
-use Rattle.ice_tree.specs.Places.{IsNode, IsReached}
+use Rattle.ice_look.specs.Broken.{IsBrokenBy, IsFaultBy, BadPointer, FreeBlock, TwiceUsed, FewCounted, node_uses}
+use Rattle.ice_tree.specs.Removes.{LooseBroken}
+use Rattle.ice_look.specs.Places.{IsNode, IsReached}
 use Rattle.ice_tree.proofs.FaultLaws.{count-beside}
-use Rattle.ice_tree.proofs.MapDamage.{map-dir, map-file, leads-same, free-block, bad-pointer, twice-used}
+use Rattle.ice_look.proofs.MapDamage.{map-dir, map-file, free-block, bad-pointer, twice-used}
+use Rattle.ice_tree.proofs.MapDamage.{leads-same}
 
 -- what a map uses hangs on its indirect block alone
 uses-same : (m m' : ℕ → List ℕ) (x : Inode) (c : ℕ) → (12 < c → m' x.single ≡ m x.single) → uses m' x c ≡ uses m x c

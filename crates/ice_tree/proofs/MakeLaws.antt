@@ -3,7 +3,7 @@ use Rattle.std.proofs.Common.{◌≡◌, ◌≢◌, ◌≤◌, ◌<◌, ◌+◌,
 use Rattle.ice_base.specs.Inodes.{inode_address}
 use Rattle.ice_base.specs.Lots.{LotView, sub_address}
 use Rattle.ice_base.specs.Pools.{TookInode}
-use Rattle.ice_base.specs.Faults.{IsDiskFault, IsTakeInodeFault}
+use Rattle.ice_base.specs.Faults.{IsTakeInodeFault}
 use Rattle.ice_base.specs.Used.{AllUsed, bitmap_of, used_inode, counted, free_count, Reserved}
 use Rattle.ice_base.specs.declared.fault.OpFault.{OpFault}
 use Rattle.ice_base.specs.declared.fault.OpFault.TheVariants.{Disk, Damaged, NoSpace, NoNodes}
@@ -35,9 +35,9 @@ use Rattle.ice_steps.proofs.Needs.{beside_room, beside_reserved}
 use Rattle.ice_steps.proofs.Recovers.{recovers_beside}
 use Rattle.ice_steps.proofs.Stays.{stays_walk}
 use Rattle.ice_steps.proofs.Takes.{took_inode, took_stays}
-use Rattle.ice_tree.specs.declared.ends.Spot.{Spot}
-use Rattle.ice_tree.specs.Changes.{new_operation, new_inode, Takes}
-use Rattle.ice_tree.proofs.PlaceLaws.{true_false}
+use Rattle.ice_look.specs.declared.ends.Spot.{Spot}
+use Rattle.ice_tree.specs.Makes.{new_operation, new_inode, Takes}
+use Rattle.ice_look.proofs.PlaceLaws.{true_false}
 
 -- ---- which faults there are
 
@@ -46,10 +46,6 @@ take-fails Disk h n c = refl
 take-fails NoNodes h n c = absurd (n refl)
 take-fails (Damaged Counts) h n c = absurd (c refl)
 take-fails _ h n c = absurd h
-
-pub disk-fails : (e : OpFault) → IsDiskFault e → e ≡ Disk
-disk-fails Disk h = refl
-disk-fails _ h = absurd h
 
 pub add-fails : (e : OpFault) → IsAddFault e → (e ≡ NoSpace → ⊥) → (e ≡ Damaged Counts → ⊥) → (e ≡ Damaged Kind → ⊥) → (e ≡ Damaged Pointer → ⊥) → (e ≡ Damaged Bitmap → ⊥) → e ≡ Disk
 add-fails Disk h n c k p b = refl

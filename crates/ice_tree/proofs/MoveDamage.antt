@@ -13,10 +13,11 @@ use Rattle.ice_file.specs.Writes.{uses_of}
 use Rattle.ice_dir.specs.Changes.{dir_blocks, dir_uses, HasRoom, EntryGone}
 use Rattle.ice_dir.specs.Faults.{IsAddFault}
 use Rattle.ice_dir.specs.Rows.{IsDirectory}
-use Rattle.ice_tree.specs.Broken.{BadPointer, TwiceUsed, IsBrokenBy}
-use Rattle.ice_tree.specs.Grounds.{MoveIs, RowFits}
+use Rattle.ice_look.specs.Broken.{BadPointer, TwiceUsed, IsBrokenBy}
+use Rattle.ice_tree.specs.Renames.{MoveIs, RowFits}
 use Rattle.ice_tree.specs.declared.renames.Move.{Move}
-use Rattle.ice_tree.proofs.MapDamage.{map-dir, dir-few, bad-pointer, bad-map}
+use Rattle.ice_look.proofs.MapDamage.{map-dir, bad-pointer, bad-map}
+use Rattle.ice_tree.proofs.MapDamage.{dir-few}
 use Rattle.ice_tree.proofs.LooseDamage.{other-misled, shared}
 
 -- two numbers are one, or differ

@@ -20,11 +20,12 @@ use Rattle.ice_dir.specs.Faults.{IsAddFault}
 use Rattle.ice_reads.specs.Tables.{Map}
 use Rattle.ice_steps.proofs.Keeps.{only-one, only-two}
 use Rattle.ice_steps.proofs.SubLaws.{counted-other}
-use Rattle.ice_tree.specs.declared.ends.Spot.{Spot}
-use Rattle.ice_tree.specs.Broken.{IsBrokenBy}
-use Rattle.ice_tree.specs.Grounds.{NewFits}
+use Rattle.ice_look.specs.declared.ends.Spot.{Spot}
+use Rattle.ice_look.specs.Broken.{IsBrokenBy}
+use Rattle.ice_tree.specs.Makes.{NewFits}
 use Rattle.ice_tree.proofs.MakeLaws.{NodePut}
-use Rattle.ice_tree.proofs.MapDamage.{map-dir, dir-few, misleads-same, bad-pointer}
+use Rattle.ice_look.proofs.MapDamage.{map-dir, bad-pointer}
+use Rattle.ice_tree.proofs.MapDamage.{dir-few, misleads-same}
 
 module _ (entry : ℕ) (e64 : entry ≡ 64) (lot : LotView) (few : length lot.groups ≤ 64) (m0 : Map) (spot : Spot) (fits : NewFits entry lot m0 spot) where
   -- no inode can be taken

@@ -1,12 +1,11 @@
 -- What a removal that fails says of the lot.
 use Rattle.std.proofs.Common.{false, ◌≡◌, ◌<◌, ℕ, List, ◌≢◌, sym, ap, ◌∙◌, subst, arith, inl, true, [], ◌∷◌, refl, inr, ◌*◌}
-use Rattle.ice_base.specs.Fields.{long_at}
+use Rattle.ice_base.specs.Fields.{long_at, word_at}
 use Rattle.ice_base.specs.Inodes.{inode_address, inode_index}
 use Rattle.ice_base.specs.Lots.{LotView, sub_address}
 use Rattle.ice_base.specs.Pools.{GaveInode}
 use Rattle.ice_base.proofs.FieldLaws.{long-beside}
 use Rattle.ice_map.specs.Inodes.{inode_of, inode_at, InodeSet, Blank}
-use Rattle.ice_base.specs.Fields.{word_at}
 use Rattle.ice_base.specs.Used.{used, used_inode, bitmap_of, count_place, counted}
 use Rattle.ice_base.specs.Faults.{IsGiveFault}
 use Rattle.ice_base.specs.declared.fault.OpFault.{OpFault}
@@ -17,11 +16,10 @@ use Rattle.ice_map.proofs.GrowLaws.{inode_not_sub, inode_not_bitmap}
 use Rattle.ice_map.proofs.MarkLaws.{used-same}
 use Rattle.ice_steps.specs.Beside.{OnlyAt, DoneSet}
 use Rattle.ice_steps.proofs.Keeps.{only-one, only-two}
-use Rattle.ice_tree.specs.Broken.{IsFaultBy}
-use Rattle.ice_tree.specs.Moves.{free_inode, Freed}
+use Rattle.ice_look.specs.Broken.{IsFaultBy}
+use Rattle.ice_tree.specs.Removes.{free_inode, Freed, GoneIs, LooseBroken}
 use Rattle.ice_file.specs.Files.{ReachesTo}
 use Rattle.ice_dir.specs.Changes.{EntryGone}
-use Rattle.ice_tree.specs.Grounds.{GoneIs, LooseBroken}
 use Rattle.ice_tree.specs.declared.removes.Gone.{Gone}
 
 -- what was found holds after a look too

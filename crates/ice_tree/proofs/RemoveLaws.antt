@@ -41,10 +41,11 @@ use Rattle.ice_steps.proofs.Recovers.{beside_recovers, recovers_beside}
 use Rattle.ice_steps.proofs.Takes.{gave_inode}
 use Rattle.ice_steps.proofs.Walks.{file_at, loose_made, loose_used, loose_counted, walk_made, walk_dir, walk_part}
 use Rattle.ice_tree.specs.declared.removes.Gone.{Gone}
-use Rattle.ice_tree.specs.Moves.{gone_refusal, IsGone, Loses, StandsLoose}
-use Rattle.ice_tree.specs.Stages.{or_else, paths_refusal, walk_refusal, quota_refusal}
+use Rattle.ice_tree.specs.Removes.{gone_refusal, IsGone, Loses, StandsLoose}
+use Rattle.ice_look.specs.Stages.{or_else, paths_refusal, walk_refusal}
+use Rattle.ice_tree.specs.Quotas.{quota_refusal}
 use Rattle.ice_tree.proofs.Chains.{refusal_remove}
-use Rattle.ice_tree.proofs.PlaceLaws.{inode_on-more}
+use Rattle.ice_look.proofs.PlaceLaws.{inode_on-more}
 
 abbrev Names : Type 0
 Names = List (List ℕ)

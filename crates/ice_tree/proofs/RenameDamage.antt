@@ -7,14 +7,15 @@ use Rattle.ice_base.specs.declared.fault.Rule.TheVariants.{InodeTwice}
 use Rattle.ice_dir.specs.Rows.{look_up, rows_of}
 use Rattle.tree_spec.specs.Costs.{Form, form_one, map_cost}
 use Rattle.tree_spec.specs.Costs as tree
-use Rattle.ice_tree.specs.Broken.{IsBrokenBy, Overfull, spread_at}
-use Rattle.ice_tree.specs.Changes.{EndsFit}
-use Rattle.ice_tree.specs.Grounds.{EndsAre, MoveIs, SpotIs, RowFits, HasFree}
-use Rattle.ice_tree.specs.Places.{PlaceFits, PlaceIs, PlaceReached, PlaceNamed, is_place, is_dir_place}
-use Rattle.ice_tree.specs.declared.ends.Ends.{Ends}
-use Rattle.ice_tree.specs.declared.ends.Spot.{Spot}
-use Rattle.ice_tree.specs.declared.place.Place.{Place}
-use Rattle.ice_tree.specs.declared.place.Place.TheVariants.{File, Dir, Missing, Blocked}
+use Rattle.ice_look.specs.Broken.{IsBrokenBy, Overfull, spread_at}
+use Rattle.ice_look.specs.Ends.{EndsFit, EndsAre, SpotIs}
+use Rattle.ice_tree.specs.Renames.{MoveIs, RowFits, is_place, is_dir_place}
+use Rattle.ice_tree.specs.Quotas.{HasFree}
+use Rattle.ice_look.specs.Places.{PlaceFits, PlaceIs, PlaceReached, PlaceNamed}
+use Rattle.ice_look.specs.declared.ends.Ends.{Ends}
+use Rattle.ice_look.specs.declared.ends.Spot.{Spot}
+use Rattle.ice_look.specs.declared.place.Place.{Place}
+use Rattle.ice_look.specs.declared.place.Place.TheVariants.{File, Dir, Missing, Blocked}
 use Rattle.ice_tree.specs.declared.quota.Need.{Need}
 use Rattle.ice_tree.specs.declared.renames.Move.{Move}
 use Rattle.ice_tree.proofs.CostLaws.{dir-cost}

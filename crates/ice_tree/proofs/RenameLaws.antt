@@ -10,7 +10,7 @@ use Rattle.tree_spec.specs.Why.{Why}
 use Rattle.tree_spec.specs.Why as why
 use Rattle.tree_spec.specs.Trees.{Tree, File, Dir, Walk, Found, NotFound, NotDir, walk, parent, parent_walk, last_name, rows, height, at}
 use Rattle.tree_spec.specs.Costs.{Form, form_one, nodes}
-use Rattle.tree_spec.specs.Operations.{Rename}
+use Rattle.tree_spec.specs.Operations.{Rename, Operation}
 use Rattle.tree_spec.specs.Routes.{is_prefix, is_same_name}
 use Rattle.tree_spec.specs.Answers.{refusal, answer, answer_by, next, deepest, is_found, is_not_found, is_not_dir, is_root, is_taken, tree_found, moves_into_itself}
 use Rattle.tree_spec.proofs.Sums.{total-at}
@@ -21,21 +21,20 @@ use Rattle.ice_reads.proofs.Focus.{Reads-part}
 use Rattle.ice_reads.proofs.Numbers.{Reads-depth}
 use Rattle.tree_spec.proofs.Accepted.{first_false, second_false, has_entry, tree_walk, dir_walk, IsDirWalk}
 use Rattle.ice_steps.proofs.Quotas.{free_nodes_are}
-use Rattle.tree_spec.specs.Operations.{Operation}
 use Rattle.tree_spec.specs.Replies.{refused_of}
 use Rattle.tree_spec.specs.declared.reply.Refusal.{Refusal}
-use Rattle.ice_tree.specs.declared.ends.Spot.{Spot}
-use Rattle.ice_tree.specs.declared.place.Place.{Place}
-use Rattle.ice_tree.specs.declared.place.Place.TheVariants as at_place
+use Rattle.ice_look.specs.declared.ends.Spot.{Spot}
+use Rattle.ice_look.specs.declared.place.Place.{Place}
+use Rattle.ice_look.specs.declared.place.Place.TheVariants as at_place
 use Rattle.ice_tree.specs.declared.renames.Move.{Move}
-use Rattle.ice_tree.specs.Changes.{IsSpot}
-use Rattle.ice_tree.specs.Outcomes.{RefusedAs}
-use Rattle.ice_tree.specs.Places.{place_at, place_by}
-use Rattle.ice_tree.proofs.LookLaws.{ends_dir}
-use Rattle.ice_tree.proofs.LookLaws.{later_stage}
+use Rattle.ice_look.specs.Ends.{IsSpot}
+use Rattle.ice_look.specs.Outcomes.{RefusedAs}
+use Rattle.ice_look.specs.Places.{place_at, place_by}
+use Rattle.ice_look.proofs.LookLaws.{ends_dir, later_stage}
 use Rattle.ice_tree.specs.Renames.{height_refusal, ends_refusal, move_refusal, IsMove, Renames}
-use Rattle.ice_tree.proofs.EndLaws.{names-last}
-use Rattle.ice_tree.specs.Stages.{or_else, paths_refusal, quota_refusal}
+use Rattle.ice_look.proofs.EndLaws.{names-last}
+use Rattle.ice_look.specs.Stages.{or_else, paths_refusal}
+use Rattle.ice_tree.specs.Quotas.{quota_refusal}
 use Rattle.ice_tree.proofs.Chains.{refusal_rename}
 
 abbrev Names : Type 0

@@ -28,9 +28,9 @@ use Rattle.ice_reads.proofs.Walks.{two_walks}
 use Rattle.ice_steps.proofs.Counts.{mark-small}
 use Rattle.ice_tree.specs.declared.quota.Need.{Need}
 use Rattle.ice_tree.specs.declared.renames.Move.{Move}
-use Rattle.ice_tree.specs.Changes.{Needs}
+use Rattle.ice_tree.specs.Quotas.{Needs, done_refusal}
 use Rattle.ice_tree.specs.Renames.{move_refusal, IsMove}
-use Rattle.ice_tree.specs.Stages.{paths_refusal, done_refusal}
+use Rattle.ice_look.specs.Stages.{paths_refusal}
 use Rattle.ice_tree.proofs.StageLaws.{none-both}
 use Rattle.ice_tree.proofs.RenameLaws.{rename-stages}
 

@@ -36,7 +36,7 @@ use Rattle.ice_steps.proofs.Walks.{walk_dir}
 use Rattle.ice_tree.specs.declared.renames.Move.{Move}
 use Rattle.ice_tree.specs.Renames.{Renames}
 use Rattle.ice_tree.proofs.MakeLaws.{add-fails}
-use Rattle.ice_tree.proofs.PlaceLaws.{Reads-number}
+use Rattle.ice_look.proofs.PlaceLaws.{Reads-number}
 
 take-fails : (e : OpFault) → IsTakeFault e → (e ≡ Damaged Counts → ⊥) → (e ≡ Damaged Kind → ⊥) → (e ≡ Damaged Pointer → ⊥) → (e ≡ Damaged Bitmap → ⊥) → e ≡ Disk
 take-fails Disk h c k p b = refl

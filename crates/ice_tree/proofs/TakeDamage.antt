@@ -13,9 +13,9 @@ use Rattle.ice_file.specs.Writes.{uses_of}
 use Rattle.ice_dir.specs.Changes.{dir_blocks, dir_uses}
 use Rattle.ice_dir.specs.Faults.{IsTakeFault}
 use Rattle.ice_dir.specs.Rows.{IsDirectory}
-use Rattle.ice_tree.specs.Broken.{IsBrokenBy}
-use Rattle.ice_tree.proofs.MapDamage.{map-dir, few-counted, bad-bitmap, bad-map}
-use Rattle.ice_tree.specs.Places.{IsReached}
+use Rattle.ice_look.specs.Broken.{IsBrokenBy}
+use Rattle.ice_look.proofs.MapDamage.{map-dir, few-counted, bad-bitmap, bad-map}
+use Rattle.ice_look.specs.Places.{IsReached}
 
 -- an entry was to be taken from a directory
 pub take-blamed : (entry : ℕ) (lot : LotView) (m : ℕ → List ℕ) (number : ℕ) → IsReached entry lot m number → IsDirectory lot (inode_of m number) → (e : OpFault) → IsTakeFault e

@@ -11,7 +11,7 @@ use Rattle.ice_file.proofs.DamageLaws.{misled-unmade, confused-unmade, free-unma
 use Rattle.ice_file.proofs.WriteLaws.{count-less}
 use Rattle.ice_dir.specs.Changes.{dir_blocks, dir_uses}
 use Rattle.ice_dir.specs.Rows.{IsDirectory}
-use Rattle.ice_tree.proofs.MapDamage.{map-dir, map-file}
+use Rattle.ice_look.proofs.MapDamage.{map-dir, map-file}
 
 -- what a failed call says of its fault
 pub err-at : {T E : Type 0} (P : E → Type 0) (r : Result T E) (e : E) → r ≡ Err e → IfErr r P → P e

@@ -16,20 +16,18 @@ ghost use Rattle.tree_spec.specs.declared.reply.Refusal.TheVariants.{Fault, Dama
 ghost use Rattle.ice_reads.specs.Recovers.{MapRecovers};
 ghost use Rattle.ice_reads.specs.Tables.{Table, own_in};
 ghost use Rattle.ice_rules.specs.Rules.{rule_number};
-ghost use Rattle.ice_tree.specs.Broken.{IsBroken, IsBrokenBy};
-ghost use Rattle.ice_tree.specs.Changes.{IsEnds, EndsFit, IsSpot, SpotFits, new_operation, new_refusal, new_inode, Takes};
-ghost use Rattle.ice_tree.specs.Grounds.{EndsAre, SpotIs, NewFits};
-ghost use Rattle.ice_tree.specs.Outcomes.{AsModel, RefusedAs, meant_plain, ShownBy, IsOneOf, IsNamedIn, make_refusals, change_rules};
-ghost use Rattle.ice_tree.specs.Stages.{paths_refusal};
+ghost use Rattle.ice_look.specs.Broken.{IsBroken, IsBrokenBy};
+ghost use Rattle.ice_look.specs.Ends.{IsEnds, EndsFit, IsSpot, SpotFits, EndsAre, SpotIs};
+ghost use Rattle.ice_tree.specs.Makes.{new_operation, new_refusal, new_inode, Takes, NewFits};
+ghost use Rattle.ice_look.specs.Outcomes.{AsModel, RefusedAs, meant_plain, ShownBy, IsOneOf};
+ghost use Rattle.ice_tree.specs.Outcomes.{IsNamedIn, make_refusals, change_rules};
+ghost use Rattle.ice_look.specs.Stages.{paths_refusal};
 
 use crate::counts::count_up;
-use crate::ends::{Ends, Spot, find_ends, last_of};
-use crate::fault::refusal_of;
-use crate::paths::check_path;
-use crate::place::Place;
 use crate::quota::{Need, check_quota, dir_cost};
 use ice_base::{Disk, Form, Keep, Lot, OpFault, Pool, Rule};
 use ice_dir::add;
+use ice_look::{Ends, Place, Spot, check_path, find_ends, last_of, refusal_of};
 use ice_map::{Inode, put_inode};
 use tree_spec::{Name, Path, Refusal};
 

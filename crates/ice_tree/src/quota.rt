@@ -12,15 +12,14 @@ ghost use Rattle.tree_spec.specs.declared.reply.Refusal.TheVariants.{NoNodes, No
 ghost use Rattle.ice_file.specs.Files.{longest_file};
 ghost use Rattle.ice_reads.specs.Recovers.{MapRecovers};
 ghost use Rattle.ice_rules.specs.Rules.{rule_number};
-ghost use Rattle.ice_tree.specs.Broken.{IsBroken};
-ghost use Rattle.ice_tree.specs.Changes.{Needs};
-ghost use Rattle.ice_tree.specs.Grounds.{CanCount, HasFree};
-ghost use Rattle.ice_tree.specs.Outcomes.{RefusedAs, IsOneOf, sub_rules};
-ghost use Rattle.ice_tree.specs.Stages.{quota_refusal, nodes_refusal, blocks_refusal, done_refusal};
+ghost use Rattle.ice_look.specs.Broken.{IsBroken};
+ghost use Rattle.ice_tree.specs.Quotas.{Needs, CanCount, HasFree, quota_refusal, nodes_refusal, blocks_refusal, done_refusal};
+ghost use Rattle.ice_look.specs.Outcomes.{RefusedAs, IsOneOf};
+ghost use Rattle.ice_tree.specs.Outcomes.{sub_rules};
 
 use crate::counts::{MOST_DONE, done_of};
-use crate::fault::refusal_of;
 use ice_base::{Disk, Form, Keep, Lot, Pool};
+use ice_look::refusal_of;
 use tree_spec::Refusal;
 
 /// What a change adds to what a tree has, and what it takes from it.

@@ -17,24 +17,21 @@ ghost use Rattle.tree_spec.specs.declared.reply.Refusal.TheVariants.{Fault, Dama
 ghost use Rattle.ice_reads.specs.Tables.{Map, Table, own_in};
 ghost use Rattle.ice_reads.specs.Recovers.{MapRecovers};
 ghost use Rattle.ice_rules.specs.Rules.{rule_number};
-ghost use Rattle.ice_tree.specs.Broken.{IsBroken, IsBrokenBy};
-ghost use Rattle.ice_tree.specs.Changes.{IsEnds, EndsFit, Needs};
-ghost use Rattle.ice_tree.specs.Grounds.{EndsAre, MoveIs, RowFits};
-ghost use Rattle.ice_tree.specs.Outcomes.{AsModel, RefusedAs, meant_plain, ShownBy, IsOneOf, IsNamedIn, rename_refusals, look_rules, change_rules, list_rules, rename_rules};
-ghost use Rattle.ice_tree.specs.Places.{PlaceFits, PlaceIs, PlaceReached, PlaceNamed, is_place, is_dir_place, place_at, place_by};
-ghost use Rattle.ice_tree.specs.Renames.{height_refusal, ends_refusal, move_refusal, IsMove, MoveFits, Renames};
-ghost use Rattle.ice_tree.specs.Stages.{or_else, paths_refusal, quota_refusal};
-ghost use Rattle.ice_tree.specs.declared.place.Place.TheVariants.{File, Dir, Missing, Blocked};
+ghost use Rattle.ice_look.specs.Broken.{IsBroken, IsBrokenBy};
+ghost use Rattle.ice_look.specs.Ends.{IsEnds, EndsFit, EndsAre};
+ghost use Rattle.ice_tree.specs.Quotas.{Needs, quota_refusal};
+ghost use Rattle.ice_tree.specs.Renames.{MoveIs, RowFits, is_place, is_dir_place, height_refusal, ends_refusal, move_refusal, IsMove, MoveFits, Renames};
+ghost use Rattle.ice_look.specs.Outcomes.{AsModel, RefusedAs, meant_plain, ShownBy, IsOneOf, look_rules, list_rules};
+ghost use Rattle.ice_tree.specs.Outcomes.{IsNamedIn, rename_refusals, change_rules, rename_rules};
+ghost use Rattle.ice_look.specs.Places.{PlaceFits, PlaceIs, PlaceReached, PlaceNamed, place_at, place_by};
+ghost use Rattle.ice_look.specs.Stages.{or_else, paths_refusal};
+ghost use Rattle.ice_look.specs.declared.place.Place.TheVariants.{File, Dir, Missing, Blocked};
 
 use crate::counts::count_up;
-use crate::ends::{Ends, Spot, find_ends};
-use crate::fault::refusal_of;
-use crate::heights::is_higher;
-use crate::paths::{DEEPEST, check_paths};
-use crate::place::Place;
 use crate::quota::{Need, check_quota, dir_cost};
 use ice_base::{Disk, Form, Keep, Lot, OpFault, Pool, Rule, View};
 use ice_dir::{add, take};
+use ice_look::{DEEPEST, Ends, Place, Spot, check_paths, find_ends, is_higher, refusal_of};
 use tree_spec::{Name, Path, Refusal};
 
 /// A rename: the directory that loses an entry, the one that gains it, and whether both paths are one, so that nothing moves.

@@ -18,20 +18,18 @@ ghost use Rattle.ice_reads.specs.Reads.{inode_on};
 ghost use Rattle.ice_reads.specs.Recovers.{MapRecovers};
 ghost use Rattle.ice_reads.specs.Tables.{own_in};
 ghost use Rattle.ice_rules.specs.Rules.{rule_number};
-ghost use Rattle.ice_tree.specs.Broken.{IsBroken, IsBrokenBy};
-ghost use Rattle.ice_tree.specs.Changes.{IsFile, FileFits, TakesAt, reach_refusal};
-ghost use Rattle.ice_tree.specs.Grounds.{CanCount, FileIs, BytesFit};
-ghost use Rattle.ice_tree.specs.Outcomes.{AsModel, RefusedAs, meant_plain, ShownBy, IsOneOf, IsNamedIn, write_refusals, trunc_refusals, read_refusals, look_rules, change_rules};
-ghost use Rattle.ice_tree.specs.Stages.{paths_refusal};
+ghost use Rattle.ice_look.specs.Broken.{IsBroken, IsBrokenBy};
+ghost use Rattle.ice_tree.specs.Writes.{IsFile, FileFits, TakesAt, reach_refusal, FileIs, BytesFit};
+ghost use Rattle.ice_tree.specs.Quotas.{CanCount};
+ghost use Rattle.ice_look.specs.Outcomes.{AsModel, RefusedAs, meant_plain, ShownBy, IsOneOf, read_refusals, look_rules};
+ghost use Rattle.ice_tree.specs.Outcomes.{IsNamedIn, write_refusals, trunc_refusals, change_rules};
+ghost use Rattle.ice_look.specs.Stages.{paths_refusal};
 
 use crate::counts::count_up;
-use crate::fault::refusal_of;
-use crate::looks::{FileAt, file_at};
-use crate::paths::check_path;
-use crate::place::LONGEST_FILE;
 use crate::quota::{Need, check_quota, file_cost};
 use ice_base::{Disk, Form, Keep, Lot, OpFault, Pool, View};
 use ice_file::{cut_to, write_at};
+use ice_look::{LONGEST_FILE, FileAt, check_path, file_at, refusal_of};
 use tree_spec::{Path, Refusal};
 
 /// What a file of another size costs: `new` in place of `old` bytes.

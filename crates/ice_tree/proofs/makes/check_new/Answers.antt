@@ -1,26 +1,22 @@
 use Rattle.std.proofs.Common.{◌+◌, ◌∙◌, length, drop, sym, refl, ap, subst, [], ◌∷◌, arith}
 use Rattle.ice_base.proofs.LotLaws.{sited-few}
-use Rattle.ice_reads.specs.Tables.{Map}
-use Rattle.ice_tree.specs.Broken.{IsBroken}
-use Rattle.ice_tree.specs.Grounds.{HasFree}
+use Rattle.ice_reads.specs.Tables.{Map, own_in}
+use Rattle.ice_look.specs.Broken.{IsBroken}
+use Rattle.ice_tree.specs.Quotas.{HasFree, quota_refusal, nodes_refusal, blocks_refusal, done_refusal}
 use Rattle.ice_tree.proofs.CostLaws.{dir-cost}
 use Rattle.ice_tree.proofs.FaultLaws.{broke-too}
-use Rattle.tree_spec.specs.Costs.{form_of}
+use Rattle.tree_spec.specs.Costs.{form_of, nodes}
 use Rattle.tree_spec.specs.Answers.{next}
-use Rattle.tree_spec.specs.Replies.{refused_of}
-use Rattle.ice_reads.specs.Tables.{own_in}
-use Rattle.ice_tree.specs.Changes.{new_operation, new_refusal}
-use Rattle.ice_tree.specs.Outcomes.{RefusedAs}
-use Rattle.ice_tree.specs.Stages.{or_else, paths_refusal, quota_refusal}
+use Rattle.tree_spec.specs.Replies.{refused_of, Because}
+use Rattle.ice_tree.specs.Makes.{new_operation, new_refusal}
+use Rattle.ice_look.specs.Outcomes.{RefusedAs}
+use Rattle.ice_look.specs.Stages.{or_else, paths_refusal}
 use Rattle.ice_tree.proofs.SpotLaws.{new-stages, new-needs, root-is}
 use Rattle.ice_tree.proofs.StageLaws.{refused-now, refused-later, none-both, recovers-same}
-use Rattle.ice_tree.proofs.LookLaws.{fault_as}
+use Rattle.ice_look.proofs.LookLaws.{fault_as}
 use Rattle.tree_spec.specs.Why as why
-use Rattle.tree_spec.specs.Replies.{Because}
-use Rattle.ice_tree.specs.Stages.{nodes_refusal, blocks_refusal, done_refusal}
 use Rattle.ice_tree.proofs.QuotaLaws.{many_nodes}
-use Rattle.ice_tree.proofs.SoundLaws.{spot-nodes}
-use Rattle.tree_spec.specs.Costs.{nodes}
+use Rattle.ice_look.proofs.SoundLaws.{spot-nodes}
 use Rattle.tree_spec.specs.Trees.{parent}
 use Rattle.ice_tree.proofs.makes.check_new.Goals as goal
 

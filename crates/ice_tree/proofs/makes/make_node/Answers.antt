@@ -2,15 +2,14 @@ use Rattle.std.proofs.Common.{drop, length, refl, sym, subst}
 use Rattle.tree_spec.specs.Costs.{form_of}
 use Rattle.tree_spec.specs.Answers.{answer}
 use Rattle.tree_spec.specs.Replies.{refused_of}
-use Rattle.ice_tree.specs.Changes.{new_operation}
-use Rattle.ice_tree.proofs.LookLaws.{fault_model}
+use Rattle.ice_tree.specs.Makes.{new_operation, NewFits}
+use Rattle.ice_look.proofs.LookLaws.{fault_model}
 use Rattle.ice_tree.proofs.MakeLaws.{new-changes}
 use Rattle.ice_tree.proofs.ReplyLaws.{refused-model, accepted-model, accepted-recovers}
 use Rattle.ice_tree.proofs.SpotLaws.{takes-after}
 use Rattle.ice_reads.specs.Tables.{Map}
-use Rattle.ice_tree.specs.Broken.{IsBroken, IsBrokenBy}
-use Rattle.ice_tree.specs.Grounds.{NewFits}
-use Rattle.ice_tree.proofs.FaultLaws.{fault-names}
+use Rattle.ice_look.specs.Broken.{IsBroken, IsBrokenBy}
+use Rattle.ice_look.proofs.FaultLaws.{fault-names}
 use Rattle.ice_tree.specs.Outcomes.{make_refusals, change_rules}
 use Rattle.ice_tree.proofs.Sets.{fault-set}
 use Rattle.ice_tree.proofs.makes.make_node.Goals as goal

@@ -1,6 +1,7 @@
 use Rattle.std.proofs.Common.{Err, ap}
-use Rattle.ice_tree.specs.Broken.{IsBroken}
-use Rattle.ice_tree.proofs.FaultLaws.{fault-names, sub-fault}
+use Rattle.ice_look.specs.Broken.{IsBroken}
+use Rattle.ice_look.proofs.FaultLaws.{fault-names}
+use Rattle.ice_tree.proofs.FaultLaws.{sub-fault}
 use Rattle.ice_tree.proofs.quota.check_done.Goals as goal
 
 pub returns-in-Err-clause-damaged : goal.returns-in-Err-clause-damaged

@@ -9,8 +9,8 @@ use Rattle.ice_tree.proofs.RemoveLaws.{err-is, inode-given, can-give-inode}
 use Rattle.ice_tree.proofs.RemoveDamage.{done-given, give-loose, freed-given}
 use Rattle.ice_tree.proofs.FaultLaws.{err-by}
 use Rattle.ice_tree.proofs.Sets.{disk-in, give-in}
-use Rattle.ice_tree.specs.Broken.{IsFaultBy}
-use Rattle.ice_tree.specs.Grounds.{LooseBroken}
+use Rattle.ice_look.specs.Broken.{IsFaultBy}
+use Rattle.ice_tree.specs.Removes.{LooseBroken}
 use Rattle.ice_tree.specs.Outcomes.{IsNamedIn, change_rules}
 use Rattle.ice_tree.proofs.removes.clear.Goals as goal
 

@@ -11,8 +11,8 @@ use Rattle.ice_tree.proofs.FaultLaws.{err-by, done-beside, count-beside}
 use Rattle.ice_tree.proofs.FileDamage.{cut-loose}
 use Rattle.ice_tree.proofs.Sets.{cut-in}
 use Rattle.ice_tree.proofs.WellLaws.{err-at, file-free, file-misled}
-use Rattle.ice_tree.specs.Broken.{IsFaultBy}
-use Rattle.ice_tree.specs.Grounds.{LooseBroken}
+use Rattle.ice_look.specs.Broken.{IsFaultBy}
+use Rattle.ice_tree.specs.Removes.{LooseBroken}
 use Rattle.ice_tree.specs.Outcomes.{IsNamedIn, change_rules}
 use Rattle.ice_base.specs.declared.fault.Rule.TheVariants.{Pointer, Bitmap}
 use Rattle.ice_tree.proofs.removes.drop_bytes.Goals as goal

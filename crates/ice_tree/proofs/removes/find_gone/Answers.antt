@@ -2,7 +2,7 @@ use Rattle.std.proofs.Common.{◌∙◌, drop}
 use Rattle.tree_spec.specs.Costs.{form_of}
 use Rattle.ice_reads.specs.Tables.{own_in}
 use Rattle.ice_tree.proofs.GoneLaws.{not-root}
-use Rattle.ice_tree.proofs.LookLaws.{fault_as}
+use Rattle.ice_look.proofs.LookLaws.{fault_as}
 use Rattle.ice_tree.proofs.removes.find_gone.Goals as goal
 
 pub returns-in-Ok-clause-found : goal.returns-in-Ok-clause-found

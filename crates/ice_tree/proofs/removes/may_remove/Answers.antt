@@ -4,9 +4,9 @@ use Rattle.tree_spec.specs.Answers.{next}
 use Rattle.tree_spec.specs.Operations.{Remove}
 use Rattle.tree_spec.specs.Replies.{refused_of}
 use Rattle.ice_reads.specs.Tables.{Map, own_in}
-use Rattle.ice_tree.specs.Moves.{gone_refusal, IsGone}
-use Rattle.ice_tree.specs.Stages.{quota_refusal}
-use Rattle.ice_tree.specs.Broken.{IsBroken}
+use Rattle.ice_tree.specs.Removes.{gone_refusal, IsGone}
+use Rattle.ice_tree.specs.Quotas.{quota_refusal}
+use Rattle.ice_look.specs.Broken.{IsBroken}
 use Rattle.ice_tree.proofs.FaultLaws.{broke-too}
 use Rattle.ice_tree.proofs.StageLaws.{refused-now, refused-later, none-both, recovers-same}
 use Rattle.ice_tree.proofs.removes.may_remove.Goals as goal

@@ -4,13 +4,13 @@ use Rattle.tree_spec.specs.Answers.{answer}
 use Rattle.tree_spec.specs.Operations.{Remove}
 use Rattle.tree_spec.specs.Replies.{refused_of}
 use Rattle.tree_spec.specs.Trees.{last_name}
-use Rattle.ice_tree.specs.Broken.{IsBroken, IsBrokenBy}
-use Rattle.ice_tree.specs.Moves.{Freed}
-use Rattle.ice_tree.specs.Grounds.{CanCount}
-use Rattle.ice_tree.specs.Outcomes.{RefusedAs}
-use Rattle.ice_tree.specs.Stages.{paths_refusal}
-use Rattle.ice_tree.proofs.FaultLaws.{fault-names}
-use Rattle.ice_tree.proofs.LookLaws.{fault_model}
+use Rattle.ice_look.specs.Broken.{IsBroken, IsBrokenBy}
+use Rattle.ice_tree.specs.Removes.{Freed}
+use Rattle.ice_tree.specs.Quotas.{CanCount}
+use Rattle.ice_look.specs.Outcomes.{RefusedAs}
+use Rattle.ice_look.specs.Stages.{paths_refusal}
+use Rattle.ice_look.proofs.FaultLaws.{fault-names}
+use Rattle.ice_look.proofs.LookLaws.{fault_model}
 use Rattle.ice_tree.proofs.RemoveDamage.{gone-after}
 use Rattle.ice_tree.proofs.RemoveLaws.{loses-after, later_refusal, remove-stages}
 use Rattle.ice_tree.proofs.ReplyLaws.{refused-model, accepted-model, accepted-recovers}

@@ -14,8 +14,8 @@ use Rattle.ice_tree.proofs.LooseDamage.{loose-before}
 use Rattle.ice_tree.proofs.Sets.{take-in}
 use Rattle.ice_tree.proofs.WellLaws.{dir-confused, dir-free}
 use Rattle.ice_base.specs.declared.fault.Rule.TheVariants.{Pointer, Bitmap}
-use Rattle.ice_tree.specs.Broken.{IsBrokenBy, IsFaultBy}
-use Rattle.ice_tree.specs.Grounds.{LooseBroken}
+use Rattle.ice_look.specs.Broken.{IsBrokenBy, IsFaultBy}
+use Rattle.ice_tree.specs.Removes.{LooseBroken}
 use Rattle.ice_tree.proofs.removes.take_away.Goals as goal
 
 pub returns-in_err-take-clause-sound : goal.returns-in_err-take-clause-sound

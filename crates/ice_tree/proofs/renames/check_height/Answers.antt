@@ -4,11 +4,11 @@ use Rattle.tree_spec.specs.Trees.{walk, Dir}
 use Rattle.ice_reads.specs.Tables.{own_in}
 use Rattle.ice_reads.specs.Reads.{inode_on}
 use Rattle.ice_reads.proofs.Focus.{Reads-part}
-use Rattle.ice_tree.specs.Places.{place_by}
-use Rattle.ice_tree.proofs.LookLaws.{ends_dir, fault_as}
+use Rattle.ice_look.specs.Places.{place_by}
+use Rattle.ice_look.proofs.LookLaws.{ends_dir, fault_as}
 use Rattle.ice_tree.proofs.RenameLaws.{fits-higher, high-more, low-more, nodes-few}
-use Rattle.ice_tree.specs.Broken.{IsBroken}
-use Rattle.ice_tree.proofs.FaultLaws.{fault-names}
+use Rattle.ice_look.specs.Broken.{IsBroken}
+use Rattle.ice_look.proofs.FaultLaws.{fault-names}
 use Rattle.ice_tree.proofs.RenameDamage.{height-broken}
 use Rattle.ice_tree.proofs.renames.check_height.Goals as goal
 

@@ -7,13 +7,12 @@ use Rattle.tree_spec.specs.Costs.{form_of}
 use Rattle.tree_spec.specs.Replies.{refused_of}
 use Rattle.tree_spec.specs.declared.reply.Refusal.TheVariants.{Damaged}
 use Rattle.ice_reads.specs.Tables.{Map, own_in}
-use Rattle.ice_tree.specs.Broken.{IsBroken}
-use Rattle.ice_tree.specs.Changes.{IsEnds}
-use Rattle.ice_tree.specs.Grounds.{EndsAre, MoveIs}
+use Rattle.ice_look.specs.Broken.{IsBroken}
+use Rattle.ice_look.specs.Ends.{IsEnds, EndsAre}
+use Rattle.ice_tree.specs.Renames.{MoveIs, height_refusal, ends_refusal, IsMove}
 use Rattle.ice_rules.specs.Rules.{rule_number}
-use Rattle.ice_tree.specs.Places.{place_at, PlaceIs, PlaceReached}
-use Rattle.ice_tree.specs.Renames.{height_refusal, ends_refusal, IsMove}
-use Rattle.ice_tree.proofs.LookLaws.{fault_as}
+use Rattle.ice_look.specs.Places.{place_at, PlaceIs, PlaceReached}
+use Rattle.ice_look.proofs.LookLaws.{fault_as}
 use Rattle.ice_tree.proofs.StageLaws.{refused-now, refused-later, none-both, recovers-same}
 use Rattle.ice_tree.proofs.RenameLaws.{found-move}
 use Rattle.ice_tree.proofs.renames.find_move.Goals as goal

@@ -7,18 +7,16 @@ use Rattle.tree_spec.specs.declared.reply.Refusal.TheVariants.{Damaged}
 use Rattle.tree_spec.specs.Operations.{Rename}
 use Rattle.tree_spec.specs.Answers.{next}
 use Rattle.ice_rules.specs.Rules.{rule_number}
-use Rattle.ice_tree.specs.Outcomes.{RefusedAs}
+use Rattle.ice_look.specs.Outcomes.{RefusedAs}
 use Rattle.ice_tree.specs.Renames.{move_refusal}
-use Rattle.ice_tree.specs.Stages.{quota_refusal}
+use Rattle.ice_tree.specs.Quotas.{quota_refusal, HasFree}
 use Rattle.ice_tree.proofs.StageLaws.{refused-now, refused-later, none-both, recovers-same}
 use Rattle.ice_tree.proofs.RenameLaws.{move-stages}
 use Rattle.ice_reads.specs.Tables.{Map}
-use Rattle.ice_tree.specs.Broken.{IsBroken}
-use Rattle.ice_tree.specs.Grounds.{HasFree}
+use Rattle.ice_look.specs.Broken.{IsBroken, Overfull}
 use Rattle.ice_tree.proofs.RenameDamage.{row-fits, overfull-of}
-use Rattle.ice_tree.proofs.SoundLaws.{recovers_unbroken}
+use Rattle.ice_look.proofs.SoundLaws.{recovers_unbroken}
 use Rattle.ice_base.specs.declared.fault.Rule.TheVariants.{InodeTwice}
-use Rattle.ice_tree.specs.Broken.{Overfull}
 use Rattle.ice_reads.specs.Recovers.{MapRecovers}
 use Rattle.tree_spec.specs.Trees.{last_name}
 use Rattle.ice_tree.specs.Outcomes.{rename_refusals, rename_rules, sub_rules}

@@ -7,16 +7,15 @@ use Rattle.tree_spec.specs.Trees.{Tree}
 use Rattle.tree_spec.specs.declared.reply.Refusal.TheVariants.{Damaged}
 use Rattle.ice_reads.specs.Tables.{Map}
 use Rattle.ice_reads.specs.Recovers.{MapRecovers}
-use Rattle.ice_tree.specs.Renames.{move_refusal}
-use Rattle.ice_tree.specs.Stages.{or_else, paths_refusal, quota_refusal}
-use Rattle.ice_tree.proofs.EndLaws.{names-last}
-use Rattle.ice_tree.proofs.LookLaws.{as_model, as_accepted, fault_model, first_stage}
-use Rattle.ice_tree.proofs.Names.{name-of}
+use Rattle.ice_tree.specs.Renames.{move_refusal, MoveIs, RowFits}
+use Rattle.ice_look.specs.Stages.{or_else, paths_refusal}
+use Rattle.ice_tree.specs.Quotas.{quota_refusal}
+use Rattle.ice_look.proofs.EndLaws.{names-last, last-is}
+use Rattle.ice_look.proofs.LookLaws.{as_model, as_accepted, fault_model, first_stage}
+use Rattle.ice_look.proofs.Names.{name-of}
 use Rattle.ice_tree.proofs.RenameLaws.{rename-stages, names-short, renames-are, answer-next}
-use Rattle.ice_tree.specs.Broken.{IsBroken, IsBrokenBy}
-use Rattle.ice_tree.specs.Grounds.{MoveIs, RowFits}
-use Rattle.ice_tree.proofs.FaultLaws.{fault-names}
-use Rattle.ice_tree.proofs.SpotLaws.{last-is}
+use Rattle.ice_look.specs.Broken.{IsBroken, IsBrokenBy}
+use Rattle.ice_look.proofs.FaultLaws.{fault-names}
 use Rattle.ice_tree.specs.Outcomes.{rename_refusals, change_rules, rename_rules}
 use Rattle.ice_tree.proofs.Sets.{fault-set}
 use Rattle.ice_tree.proofs.renames.rename.Goals as goal

@@ -3,13 +3,14 @@ use Rattle.tree_spec.specs.Costs.{form_of}
 use Rattle.tree_spec.specs.Answers.{next}
 use Rattle.tree_spec.specs.Operations.{Write}
 use Rattle.tree_spec.specs.Replies.{refused_of}
-use Rattle.ice_tree.specs.Changes.{reach_refusal}
-use Rattle.ice_tree.specs.Outcomes.{RefusedAs}
-use Rattle.ice_tree.specs.Stages.{or_else, quota_refusal}
+use Rattle.ice_tree.specs.Writes.{reach_refusal}
+use Rattle.ice_look.specs.Outcomes.{RefusedAs}
+use Rattle.ice_look.specs.Stages.{or_else}
+use Rattle.ice_tree.specs.Quotas.{quota_refusal}
 use Rattle.ice_tree.proofs.FileLaws.{big, is-big, not-big, write-stages, reach-none, write-needs}
 use Rattle.ice_tree.proofs.StageLaws.{refused-now, refused-later, none-both, recovers-same}
 use Rattle.ice_reads.specs.Tables.{Map}
-use Rattle.ice_tree.specs.Broken.{IsBroken}
+use Rattle.ice_look.specs.Broken.{IsBroken}
 use Rattle.ice_tree.proofs.FaultLaws.{broke-too}
 use Rattle.ice_tree.proofs.writes.check_write.Goals as goal
 

@@ -4,12 +4,14 @@ use Rattle.tree_spec.specs.Answers.{answer}
 use Rattle.tree_spec.specs.Operations.{Trunc}
 use Rattle.tree_spec.specs.Replies.{refused_of}
 use Rattle.ice_tree.proofs.FileLaws.{takes_at-after}
-use Rattle.ice_tree.proofs.LookLaws.{fault_model}
+use Rattle.ice_look.proofs.LookLaws.{fault_model}
 use Rattle.ice_tree.proofs.ReplyLaws.{refused-model, accepted-model, accepted-recovers}
 use Rattle.ice_reads.specs.Tables.{Map}
-use Rattle.ice_tree.specs.Broken.{IsBroken, IsBrokenBy}
-use Rattle.ice_tree.specs.Grounds.{FileIs, CanCount}
-use Rattle.ice_tree.proofs.FaultLaws.{broke-too, fault-names}
+use Rattle.ice_look.specs.Broken.{IsBroken, IsBrokenBy}
+use Rattle.ice_tree.specs.Writes.{FileIs}
+use Rattle.ice_tree.specs.Quotas.{CanCount}
+use Rattle.ice_tree.proofs.FaultLaws.{broke-too}
+use Rattle.ice_look.proofs.FaultLaws.{fault-names}
 use Rattle.ice_tree.specs.Outcomes.{trunc_refusals, change_rules}
 use Rattle.ice_tree.proofs.Sets.{fault-set}
 use Rattle.ice_tree.proofs.writes.trunc.Goals as goal
