@@ -10,7 +10,8 @@ use Rattle.ice_dir.specs.Rows.{HasEntry, rows_of, per_block, Row}
 use Rattle.ice_dir.proofs.DirLaws.{per-sixteen}
 use Rattle.tree_spec.specs.Names.{is_name}
 use Rattle.tree_spec.specs.Costs.{form_one, Form, nodes}
-use Rattle.ice_reads.specs.Tables.{Map, own_in, IsNameOf, Table, rows_in}
+use Rattle.ice_reads.specs.Tables.{Map, IsNameOf, Table, rows_in}
+use Rattle.ice_map.specs.Own.{own}
 use Rattle.ice_reads.proofs.Losses.{length-rows_in}
 use Rattle.ice_look.specs.declared.place.Place.{Place}
 use Rattle.ice_look.specs.Heights.{IsChild}
@@ -173,9 +174,9 @@ module _ (f : Form) (lot : LotView) (o : Table) (i h : ℕ) (es : Entries) (r : 
       record { there = s.0; entry = some-found (find by_bytes c (rows es)) s.0 s.1; reads = s.2 }
 
 -- what a read of an entry says where the directory stands for entries
-module _ (f : Form) (one : f ≡ form_one) (lot : LotView) (m : Map) (i h : ℕ) (es : Entries) (r : Reads f lot (own_in f m) i h (tree.Dir es)) (entry : ℕ) (is : entry ≡ 64) (k : ℕ) (below : k < length (rows es)) where
-  inode-own : (own_in f m i).inode ≡ inode_of m i
-  inode-own = ap (λ g. (own_in g m i).inode) one
+module _ (f : Form) (one : f ≡ form_one) (lot : LotView) (m : Map) (i h : ℕ) (es : Entries) (r : Reads f lot (own f m) i h (tree.Dir es)) (form : Form) (is : form ≡ form_one) (k : ℕ) (below : k < length (rows es)) where
+  inode-own : (own f m i).inode ≡ inode_of m i
+  inode-own = ap (λ g. (own g m i).inode) one
 
   dir-size : (inode_of m i).size ≡ length (rows es)
   dir-size = ap (λ (x : Inode). x.size) (sym inode-own) ∙ sym r.1.count
@@ -190,26 +191,26 @@ module _ (f : Form) (one : f ≡ form_one) (lot : LotView) (m : Map) (i h : ℕ)
       let s = ap (λ (x : Inode). x.size) inode-own in
       record { is = record { kind = dir-kind; few = omega arith }; below = omega arith }
 
-  dir-lead : leads lot m (inode_of m i) (k / per_block entry) ≡ true
-  dir-lead = dir-leads f one lot m i h (tree.Dir es) r entry (k / per_block entry) is dir-kind (
+  dir-lead : leads lot m (inode_of m i) (k / per_block form) ≡ true
+  dir-lead = dir-leads f one lot m i h (tree.Dir es) r form (k / per_block form) is dir-kind (
       let e = dir-size in
       let low : k / 16 * 16 < (inode_of m i).size = omega (arith, div-add-mod' k 16) in
-      rw (per-sixteen entry is) low)
+      rw (per-sixteen form is) low)
 
-  row-here : rows_in f (own_in f m i) ≡ rows_of entry m i
-  row-here = ap (λ g. rows_in g (own_in g m i)) one ∙ ap (λ x. rows_of x m i) (sym is)
+  row-here : rows_in f (own f m i) ≡ rows_of form m i
+  row-here = ap (λ g. rows_in g (own g m i)) one ∙ ap (λ x. rows_of x m i) (sym is)
 
-  dir-named : IfSome (slice_get (rows_of entry m i) k) (λ row. is_name row.0 ≡ false) → ⊥
+  dir-named : IfSome (slice_get (rows_of form m i) k) (λ row. is_name row.0 ≡ false) → ⊥
   dir-named wrong =
-      let inside : k < length (rows_in f (own_in f m i)) = (let c = r.1.count in let l = length-rows_in f (own_in f m i) in omega arith) in
-      let good : is_name (get_or (rows_in f (own_in f m i)) k ([], 0)).0 ≡ true = (All-get_or (λ (row : Row). IsNameOf f row.0) (rows_in f (own_in f m i)) k ([], 0) inside r.1.fit).is in
-      let bad : is_name (get_or (rows_in f (own_in f m i)) k ([], 0)).0 ≡ false =
-      subst (λ o. IfSome o (λ (row : Row). is_name row.0 ≡ false)) (ap (λ rs. slice_get rs k) (sym row-here) ∙ slice_get-get_or (rows_in f (own_in f m i)) k ([], 0) inside) wrong in
+      let inside : k < length (rows_in f (own f m i)) = (let c = r.1.count in let l = length-rows_in f (own f m i) in omega arith) in
+      let good : is_name (get_or (rows_in f (own f m i)) k ([], 0)).0 ≡ true = (All-get_or (λ (row : Row). IsNameOf f row.0) (rows_in f (own f m i)) k ([], 0) inside r.1.fit).is in
+      let bad : is_name (get_or (rows_in f (own f m i)) k ([], 0)).0 ≡ false =
+      subst (λ o. IfSome o (λ (row : Row). is_name row.0 ≡ false)) (ap (λ rs. slice_get rs k) (sym row-here) ∙ slice_get-get_or (rows_in f (own f m i)) k ([], 0) inside) wrong in
       absurd (subst T (sym good ∙ bad) tt)
 
   -- it fails by the disk alone
-  pub entry-fails : (e : OpFault) → IsEntryFault e → (e ≡ Damaged Kind → ¬ HasEntry lot k (inode_of m i)) → (e ≡ Damaged Pointer → leads lot m (inode_of m i) (k / per_block entry) ≡ false)
-      → (e ≡ Damaged Name → IfSome (slice_get (rows_of entry m i) k) (λ row. is_name row.0 ≡ false)) → e ≡ Disk
+  pub entry-fails : (e : OpFault) → IsEntryFault e → (e ≡ Damaged Kind → ¬ HasEntry lot k (inode_of m i)) → (e ≡ Damaged Pointer → leads lot m (inode_of m i) (k / per_block form) ≡ false)
+      → (e ≡ Damaged Name → IfSome (slice_get (rows_of form m i) k) (λ row. is_name row.0 ≡ false)) → e ≡ Disk
   entry-fails Disk h kind pointer name = refl
   entry-fails (Damaged Kind) h kind pointer name = absurd (kind refl dir-has)
   entry-fails (Damaged Pointer) h kind pointer name = absurd (subst T (sym dir-lead ∙ pointer refl) tt)
@@ -217,10 +218,10 @@ module _ (f : Form) (one : f ≡ form_one) (lot : LotView) (m : Map) (i h : ℕ)
   entry-fails _ h kind pointer name = absurd h
 
   -- and gives a row that names a tree of the directory
-  pub entry-child : (c : List ℕ) (j : ℕ) → slice_get (rows_of entry m i) k ≡ Some (c, j) → RowChild f lot (own_in f m) i h es r c j
-  entry-child c j row = row-child f lot (own_in f m) i h es r k c j (ap (λ rs. slice_get rs k) row-here ∙ row)
+  pub entry-child : (c : List ℕ) (j : ℕ) → slice_get (rows_of form m i) k ≡ Some (c, j) → RowChild f lot (own f m) i h es r c j
+  entry-child c j row = row-child f lot (own f m) i h es r k c j (ap (λ rs. slice_get rs k) row-here ∙ row)
 
-  pub entry-row : (c : List ℕ) (j : ℕ) → slice_get (rows_of entry m i) k ≡ Some (c, j) → slice_get (rows_in f (own_in f m i)) k ≡ Some (c, j)
+  pub entry-row : (c : List ℕ) (j : ℕ) → slice_get (rows_of form m i) k ≡ Some (c, j) → slice_get (rows_in f (own f m i)) k ≡ Some (c, j)
   entry-row c j row = ap (λ rs. slice_get rs k) row-here ∙ row
 
 -- ---- one row more

@@ -36,7 +36,8 @@ use Rattle.tree_spec.specs.Trees as tree
 use Rattle.tree_spec.specs.Names.{is_name}
 use Rattle.tree_spec.specs.declared.reply.Entry.{Entry}
 use Rattle.tree_spec.proofs.Trees.{same_name, is_same_name-sym}
-use Rattle.ice_reads.specs.Tables.{Table, Map, own_in, rows_in, IsNameOf}
+use Rattle.ice_reads.specs.Tables.{Table, Map, rows_in, IsNameOf}
+use Rattle.ice_map.specs.Own.{own}
 use Rattle.ice_reads.specs.Reads.{Reads}
 use Rattle.ice_reads.proofs.Focus.{same_Some, None≢Some}
 use Rattle.ice_reads.proofs.LookUps.{look_up-find, child-found}
@@ -241,7 +242,7 @@ entry-faults (Damaged Pointer) h k p n = absurd (p refl)
 entry-faults (Damaged BadName) h k p n = absurd (n refl)
 entry-faults _ h k p n = absurd h
 
-module _ (f : Form) (one : f ≡ form_one) (lot : LotView) (m : Map) (i h : ℕ) (es : Entries) (r : Reads f lot (own_in f m) i h (Dir es)) where
+module _ (f : Form) (one : f ≡ form_one) (lot : LotView) (m : Map) (i h : ℕ) (es : Entries) (r : Reads f lot (own f m) i h (Dir es)) where
   entry-is : (k : ℕ) → k < length (rows es) → HasEntry lot k (inode_of m i)
   entry-is k below =
       let own = inode-own f one lot m i h in
@@ -250,31 +251,31 @@ module _ (f : Form) (one : f ≡ form_one) (lot : LotView) (m : Map) (i h : ℕ)
         below = omega (arith, below, r.1.count, ap (λ (x : Inode). x.size) own);
       }
 
-  block-below : (k entry : ℕ) → entry ≡ 64 → k < (inode_of m i).size → k / per_block entry * per_block entry < (inode_of m i).size
-  block-below k entry e h =
+  block-below : (k : ℕ) (form : Form) → form ≡ form_one → k < (inode_of m i).size → k / per_block form * per_block form < (inode_of m i).size
+  block-below k form e h =
       let q = div-add-mod' k 16 in
       let small : k / 16 * 16 < (inode_of m i).size = omega (arith, q) in
-      rw (per-sixteen entry e) small
+      rw (per-sixteen form e) small
 
   -- an entry of a directory that stands for a tree fails by the disk alone
-  pub entry-fails : (k entry : ℕ) → k < length (rows es) → entry ≡ 64 → (e : OpFault) → IsEntryFault e → (e ≡ Damaged Kind → HasEntry lot k (inode_of m i) → ⊥)
-      → (e ≡ Damaged Pointer → leads lot m (inode_of m i) (k / per_block entry) ≡ false) → (e ≡ Damaged BadName → IfSome (slice_get (rows_of entry m i) k) (λ row. is_name row.0 ≡ false)) → e ≡ Disk
-  entry-fails k entry below en e faults kind pointer name =
+  pub entry-fails : (k : ℕ) (form : Form) → k < length (rows es) → form ≡ form_one → (e : OpFault) → IsEntryFault e → (e ≡ Damaged Kind → HasEntry lot k (inode_of m i) → ⊥)
+      → (e ≡ Damaged Pointer → leads lot m (inode_of m i) (k / per_block form) ≡ false) → (e ≡ Damaged BadName → IfSome (slice_get (rows_of form m i) k) (λ row. is_name row.0 ≡ false)) → e ≡ Disk
+  entry-fails k form below en e faults kind pointer name =
       let has = entry-is k below in
       entry-faults e faults (λ q. kind q has)
-      (λ q. true_false (leads lot m (inode_of m i) (k / per_block entry)) (dir-leads f one lot m i h (Dir es) r entry (k / per_block entry) en has.is.kind (block-below k entry en has.below)) (pointer q))
+      (λ q. true_false (leads lot m (inode_of m i) (k / per_block form)) (dir-leads f one lot m i h (Dir es) r form (k / per_block form) en has.is.kind (block-below k form en has.below)) (pointer q))
       (λ q.
-      let row = get-row entry m i k en has.is.kind has.below in
-      let same = ap (λ (xs : List Row). slice_get xs k) (rows-own f one lot m i h entry en) ∙ row in
-      let long = ap length (rows-own f one lot m i h entry en) ∙ length-rows entry m i in
+      let row = get-row form m i k en has.is.kind has.below in
+      let same = ap (λ (xs : List Row). slice_get xs k) (rows-own f one lot m i h form en) ∙ row in
+      let long = ap length (rows-own f one lot m i h form en) ∙ length-rows form m i in
       let has_below = has.below in
-      let fits : IsNameOf f (row_of entry m (inode_of m i) k).0 =
-      subst (λ (x : Row). IsNameOf f x.0) (get_or_from_slice_get (rows_in f (own_in f m i)) k (row_of entry m (inode_of m i) k) ([], 0) same) (r.1.fit k ([], 0) (omega arith)) in
-      true_false (is_name (row_of entry m (inode_of m i) k).0) fits.is (subst (λ o. IfSome o (λ row. is_name row.0 ≡ false)) row (name q)))
+      let fits : IsNameOf f (row_of form m (inode_of m i) k).0 =
+      subst (λ (x : Row). IsNameOf f x.0) (get_or_from_slice_get (rows_in f (own f m i)) k (row_of form m (inode_of m i) k) ([], 0) same) (r.1.fit k ([], 0) (omega arith)) in
+      true_false (is_name (row_of form m (inode_of m i) k).0) fits.is (subst (λ o. IfSome o (λ row. is_name row.0 ≡ false)) row (name q)))
 
   -- as many rows as entries
-  pub rows-long : (entry : ℕ) → entry ≡ 64 → length (rows_in f (own_in f m i)) ≡ length (rows es)
-  rows-long entry e = ap length (rows-own f one lot m i h entry e) ∙ length-rows entry m i ∙ ap (λ (x : Inode). x.size) (sym (inode-own f one lot m i h)) ∙ sym r.1.count
+  pub rows-long : (form : Form) → form ≡ form_one → length (rows_in f (own f m i)) ≡ length (rows es)
+  rows-long form e = ap length (rows-own f one lot m i h form e) ∙ length-rows form m i ∙ ap (λ (x : Inode). x.size) (sym (inode-own f one lot m i h)) ∙ sym r.1.count
 
 -- one entry more in the room
 pub listed-more : (es : Entries) (rs : List Row) (k : ℕ) (old new : List Entry) → k < length rs → old ≡ map (listed_as es) (take k rs) → ((row : Row) → slice_get rs k ≡ Some row → new ≡ old ++ listed_as es row ∷ [])

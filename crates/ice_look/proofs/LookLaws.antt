@@ -8,7 +8,7 @@ use Rattle.ice_base.specs.Lots.{LotView}
 use Rattle.ice_map.specs.declared.codec.Inode.{Inode}
 use Rattle.ice_map.specs.Inodes.{inode_of}
 use Rattle.ice_map.specs.Maps.{leads}
-use Rattle.ice_file.specs.Own.{own, file_bytes, map_length, blocks_for}
+use Rattle.ice_map.specs.Own.{own, file_bytes, map_length, blocks_for}
 use Rattle.ice_file.specs.Files.{ReachesTo, IsReadFault}
 use Rattle.std.proofs.lemmas.Bool.Decides.{nat_tests}
 use Rattle.std.proofs.lemmas.Nat.{div-add-mod', mod_below}
@@ -24,7 +24,7 @@ use Rattle.tree_spec.specs.Trees.{Tree, Entries, rows, Walk, Found, NotFound, No
 use Rattle.tree_spec.specs.Trees as tree
 use Rattle.tree_spec.specs.Answers.{refusal, answer, answer_by, accepted_value, bytes_found, tree_found, stat_value, listed, list_value}
 use Rattle.ice_look.specs.Outcomes.{AsModel, RefusedAs, refusal_by}
-use Rattle.ice_reads.specs.Tables.{Table, Map, own_in}
+use Rattle.ice_reads.specs.Tables.{Table, Map}
 use Rattle.ice_reads.specs.Reads.{Reads}
 use Rattle.ice_look.specs.Places.{place_by, place_at}
 use Rattle.ice_look.proofs.Names.{names-all}
@@ -153,16 +153,16 @@ reading-fails (Damaged Kind) h k p = absurd (k refl)
 reading-fails (Damaged Pointer) h k p = absurd (p refl)
 reading-fails _ h k p = absurd h
 
-blocks-of-file : (x : Inode) (k : ℕ) → x.kind ≡ 1 → 1024 * k < x.size → k < map_length 64 x
+blocks-of-file : (x : Inode) (k : ℕ) → x.kind ≡ 1 → 1024 * k < x.size → k < map_length form_one x
 blocks-of-file x k kind h =
     let q = div-add-mod' (x.size + 1023) 1024 in
     let d = mod_below (x.size + 1023) 1024 (omega arith) in
     let small : k < blocks_for x.size = omega (arith, q, d) in
     rw kind small
 
-module _ (f : Form) (one : f ≡ form_one) (lot : LotView) (m : Map) (i h : ℕ) (bytes : List ℕ) (r : Reads f lot (own_in f m) i h (tree.File bytes)) where
-  pub file-bytes : (entry : ℕ) → entry ≡ 64 → file_bytes (own entry m i) ≡ bytes
-  file-bytes entry e = ap (λ x. file_bytes (own x m i)) e ∙ ap (λ g. file_bytes (own_in g m i)) (sym one) ∙ r.1.bytes_are
+module _ (f : Form) (one : f ≡ form_one) (lot : LotView) (m : Map) (i h : ℕ) (bytes : List ℕ) (r : Reads f lot (own f m) i h (tree.File bytes)) where
+  pub file-bytes : (form : Form) → form ≡ form_one → file_bytes (own form m i) ≡ bytes
+  file-bytes form e = ap (λ x. file_bytes (own x m i)) e ∙ ap (λ g. file_bytes (own g m i)) (sym one) ∙ r.1.bytes_are
 
   file-reaches : (at : ℕ) → at ≤ length bytes → ReachesTo at (inode_of m i)
   file-reaches at below =
@@ -170,7 +170,7 @@ module _ (f : Form) (one : f ≡ form_one) (lot : LotView) (m : Map) (i h : ℕ)
       record {
         kind = ap (λ (x : Inode). x.kind) (sym size) ∙ r.1.is_file;
         small = omega (arith, r.1.within, ap (λ g. g.longest_file) one, ap (λ (x : Inode). x.size) size);
-        reaches = omega (arith, below, ap length r.1.bytes_are, length-file_bytes (own_in f m i), ap (λ (x : Inode). x.size) size);
+        reaches = omega (arith, below, ap length r.1.bytes_are, length-file_bytes (own f m i), ap (λ (x : Inode). x.size) size);
       }
 
   pub read-fails : (at : ℕ) → at ≤ length bytes → (e : OpFault) → IsReadFault e → (e ≡ Damaged Kind → ReachesTo at (inode_of m i) → ⊥)
@@ -179,7 +179,7 @@ module _ (f : Form) (one : f ≡ form_one) (lot : LotView) (m : Map) (i h : ℕ)
       reading-fails e faults (λ q. kind q (file-reaches at below))
       (λ q. let p = pointer q in
       true_false (leads lot m (inode_of m i) p.0)
-      (places-lead lot m (inode_of m i) (map_length 64 (inode_of m i)) p.0 (places-own f one lot m i h (tree.File bytes) r) (blocks-of-file (inode_of m i) p.0 (file-reaches at below).kind p.1)) p.2)
+      (places-lead lot m (inode_of m i) (map_length form_one (inode_of m i)) p.0 (places-own f one lot m i h (tree.File bytes) r) (blocks-of-file (inode_of m i) p.0 (file-reaches at below).kind p.1)) p.2)
 
 -- ---- reads
 

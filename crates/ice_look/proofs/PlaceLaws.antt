@@ -14,8 +14,8 @@ use Rattle.ice_map.specs.declared.codec.Inode.{Inode}
 use Rattle.ice_map.specs.Inodes.{inode_of}
 use Rattle.ice_map.specs.Maps.{leads, nth_block, uses}
 use Rattle.ice_map.proofs.MapLaws.{leads-direct, leads-single, nth-direct}
-use Rattle.ice_file.specs.Own.{Own, own, file_bytes, map_length}
-use Rattle.ice_file.proofs.OwnLaws.{uses-nth, uses-single}
+use Rattle.ice_map.specs.Own.{Own, own, file_bytes, map_length}
+use Rattle.ice_map.proofs.OwnLaws.{uses-nth, uses-single}
 use Rattle.ice_dir.specs.Faults.{IsFindFault}
 use Rattle.ice_dir.proofs.DirLaws.{dir-length, per-sixteen}
 use Rattle.ice_dir.specs.Rows.{IsDirectory, look_up, rows_of, per_block}
@@ -23,7 +23,7 @@ use Rattle.tree_spec.specs.Trees.{Tree, Entries, rows, Walk, Found, NotFound, No
 use Rattle.tree_spec.specs.Trees as tree
 use Rattle.tree_spec.proofs.Trees.{walk-append}
 use Rattle.tree_spec.specs.Costs.{Form, form_one}
-use Rattle.ice_reads.specs.Tables.{Map, Table, own_in, rows_in, inode_named, IsInode}
+use Rattle.ice_reads.specs.Tables.{Map, Table, rows_in, inode_named, IsInode}
 use Rattle.ice_reads.specs.Reads.{Reads, inode_on}
 use Rattle.ice_reads.proofs.Focus.{Reads-part}
 use Rattle.ice_reads.proofs.LookUps.{child-found, child-none}
@@ -59,50 +59,50 @@ true_false b h k = cc
 
 module _ (f : Form) (one : f ≡ form_one) (lot : LotView) (m : Map) (i h : ℕ) where
   -- what the inode of a number says, in version 1
-  pub inode-own : (own_in f m i).inode ≡ inode_of m i
-  inode-own = ap (λ g. (own_in g m i).inode) one
+  pub inode-own : (own f m i).inode ≡ inode_of m i
+  inode-own = ap (λ g. (own g m i).inode) one
 
-  pub Reads-number : (t : Tree) → Reads f lot (own_in f m) i h t → i < 64 * length lot.groups
+  pub Reads-number : (t : Tree) → Reads f lot (own f m) i h t → i < 64 * length lot.groups
   Reads-number (tree.File bytes) r = r.0.number
   Reads-number (tree.Dir es) r = r.0.number
 
-  pub Reads-node : (t : Tree) → Reads f lot (own_in f m) i h t → IsNode lot (inode_of m i)
+  pub Reads-node : (t : Tree) → Reads f lot (own f m) i h t → IsNode lot (inode_of m i)
   Reads-node (tree.File bytes) r =
       inl (ap (λ (x : Inode). x.kind) (sym inode-own) ∙ r.1.is_file, omega (arith, r.1.within, ap (λ g. g.longest_file) one, ap (λ (x : Inode). x.size) inode-own))
   Reads-node (tree.Dir es) r =
       inr (record { kind = ap (λ (x : Inode). x.kind) (sym inode-own) ∙ r.1.is_dir; few = omega (arith, r.1.within, ap (λ (x : Inode). x.size) inode-own) })
 
   -- one that stands for a directory is one
-  pub reads-directory : (es : tree.Entries) → Reads f lot (own_in f m) i h (tree.Dir es) → IsDirectory lot (inode_of m i)
+  pub reads-directory : (es : tree.Entries) → Reads f lot (own f m) i h (tree.Dir es) → IsDirectory lot (inode_of m i)
   reads-directory es r = record { kind = ap (λ (x : Inode). x.kind) (sym inode-own) ∙ r.1.is_dir; few = omega (arith, r.1.within, ap (λ (x : Inode). x.size) inode-own) }
 
-  pub Reads-file : (t : Tree) → Reads f lot (own_in f m) i h t → (x : Inode) → x ≡ inode_of m i → x.kind ≡ 1 → File i x.size ≡ place_by i (Found t)
-  Reads-file (tree.File bytes) r x is k = ap (λ n. File i n) (ap (λ (y : Inode). y.size) (is ∙ sym inode-own) ∙ sym (length-file_bytes (own_in f m i)) ∙ ap length r.1.bytes_are)
+  pub Reads-file : (t : Tree) → Reads f lot (own f m) i h t → (x : Inode) → x ≡ inode_of m i → x.kind ≡ 1 → File i x.size ≡ place_by i (Found t)
+  Reads-file (tree.File bytes) r x is k = ap (λ n. File i n) (ap (λ (y : Inode). y.size) (is ∙ sym inode-own) ∙ sym (length-file_bytes (own f m i)) ∙ ap length r.1.bytes_are)
   Reads-file (tree.Dir es) r x is k = absurd (one_not_two x.kind k (ap (λ (y : Inode). y.kind) (is ∙ sym inode-own) ∙ r.1.is_dir))
 
-  pub Reads-dir : (t : Tree) → Reads f lot (own_in f m) i h t → (x : Inode) → x ≡ inode_of m i → x.kind ≡ 2 → Dir i x.size ≡ place_by i (Found t)
+  pub Reads-dir : (t : Tree) → Reads f lot (own f m) i h t → (x : Inode) → x ≡ inode_of m i → x.kind ≡ 2 → Dir i x.size ≡ place_by i (Found t)
   Reads-dir (tree.File bytes) r x is k = absurd (one_not_two x.kind (ap (λ (y : Inode). y.kind) (is ∙ sym inode-own) ∙ r.1.is_file) k)
   Reads-dir (tree.Dir es) r x is k = ap (λ n. Dir i n) (ap (λ (y : Inode). y.size) (is ∙ sym inode-own) ∙ sym r.1.count)
 
   -- what is known of the inode itself
-  Reads-inode : (t : Tree) → Reads f lot (own_in f m) i h t → IsInode f lot (own_in f m i) i h
+  Reads-inode : (t : Tree) → Reads f lot (own f m) i h t → IsInode f lot (own f m i) i h
   Reads-inode (tree.File bytes) r = r.0
   Reads-inode (tree.Dir es) r = r.0
 
-  pub places-own : (t : Tree) → Reads f lot (own_in f m) i h t → (b : ℕ) → has (own 64 m i).uses b ≡ true → is_data lot b ≡ true
-  places-own t r = subst (λ g. (b : ℕ) → has (own_in g m i).uses b ≡ true → is_data lot b ≡ true) one (Reads-inode t r).places
+  pub places-own : (t : Tree) → Reads f lot (own f m) i h t → (b : ℕ) → has (own form_one m i).uses b ≡ true → is_data lot b ≡ true
+  places-own t r = subst (λ g. (b : ℕ) → has (own g m i).uses b ≡ true → is_data lot b ≡ true) one (Reads-inode t r).places
 
-  pub rows-own : (entry : ℕ) → entry ≡ 64 → rows_in f (own_in f m i) ≡ rows_of entry m i
-  rows-own entry e = ap (λ g. rows_in g (own_in g m i)) one ∙ ap (λ x. rows_of x m i) (sym e)
+  pub rows-own : (form : Form) → form ≡ form_one → rows_in f (own f m i) ≡ rows_of form m i
+  rows-own form e = ap (λ g. rows_in g (own g m i)) one ∙ ap (λ x. rows_of x m i) (sym e)
 
   -- the blocks of a directory that stands for a tree lead to data places
-  pub dir-leads : (t : Tree) → Reads f lot (own_in f m) i h t → (entry n : ℕ) → entry ≡ 64 → (inode_of m i).kind ≡ 2 → n * per_block entry < (inode_of m i).size → leads lot m (inode_of m i) n ≡ true
-  dir-leads t r entry n e k below =
-      let long = dir-length 64 (inode_of m i) refl k in
+  pub dir-leads : (t : Tree) → Reads f lot (own f m) i h t → (form : Form) (n : ℕ) → form ≡ form_one → (inode_of m i).kind ≡ 2 → n * per_block form < (inode_of m i).size → leads lot m (inode_of m i) n ≡ true
+  dir-leads t r form n e k below =
+      let long = dir-length form_one (inode_of m i) refl k in
       let b = div-add-mod' ((inode_of m i).size + 15) 16 in
       let s = mod_below ((inode_of m i).size + 15) 16 (omega arith) in
-      let small : n * 16 < (inode_of m i).size = rw (per-sixteen entry e) at below in
-      places-lead lot m (inode_of m i) (map_length 64 (inode_of m i)) n (places-own t r) (omega (arith, long, b, s, small))
+      let small : n * 16 < (inode_of m i).size = rw (per-sixteen form e) at below in
+      places-lead lot m (inode_of m i) (map_length form_one (inode_of m i)) n (places-own t r) (omega (arith, long, b, s, small))
 
   -- a directory's place
   pub dir-is : (t : Tree) (number size : ℕ) → Dir number size ≡ place_by i (Found t) → (es : Entries) × (t ≡ tree.Dir es) × (number ≡ i)
@@ -116,33 +116,33 @@ module _ (f : Form) (one : f ≡ form_one) (lot : LotView) (m : Map) (i h : ℕ)
       same is = cc
 
   -- a name that a directory doesn't have
-  pub step-none : (t : Tree) → Reads f lot (own_in f m) i h t → (number size entry : ℕ) (c : List ℕ) → Dir number size ≡ place_by i (Found t) → entry ≡ 64 → look_up c (rows_of entry m number) ≡ None
-      → Missing ≡ place_by (inode_named c (rows_in f (own_in f m i))) (child c t)
-  step-none (tree.File bytes) r number size entry c is e none = absurd (no is)
+  pub step-none : (t : Tree) → Reads f lot (own f m) i h t → (number size : ℕ) (form : Form) (c : List ℕ) → Dir number size ≡ place_by i (Found t) → form ≡ form_one → look_up c (rows_of form m number) ≡ None
+      → Missing ≡ place_by (inode_named c (rows_in f (own f m i))) (child c t)
+  step-none (tree.File bytes) r number size form c is e none = absurd (no is)
     where
       no : Dir number size ≡ File i (length bytes) → ⊥
       no is = cc
-  step-none (tree.Dir es) r number size entry c is e none =
+  step-none (tree.Dir es) r number size form c is e none =
       let d = dir-is (tree.Dir es) number size is in
-      ap (place_by (inode_named c (rows_in f (own_in f m i)))) (sym (child-none f lot (own_in f m) i h c es r (ap (look_up c) (rows-own entry e) ∙ ap (λ x. look_up c (rows_of entry m x)) (sym d.2) ∙ none)))
+      ap (place_by (inode_named c (rows_in f (own f m i)))) (sym (child-none f lot (own f m) i h c es r (ap (look_up c) (rows-own form e) ∙ ap (λ x. look_up c (rows_of form m x)) (sym d.2) ∙ none)))
 
   -- one that it has
   pub record Steps (t : Tree) (c : List ℕ) (j : ℕ) : Type 0 where
     pub there : Tree
-    pub reads : Reads f lot (own_in f m) j (h + 1) there
-    pub place : place_by j (Found there) ≡ place_by (inode_named c (rows_in f (own_in f m i))) (child c t)
+    pub reads : Reads f lot (own f m) j (h + 1) there
+    pub place : place_by j (Found there) ≡ place_by (inode_named c (rows_in f (own f m i))) (child c t)
 
-  pub step-some : (t : Tree) → Reads f lot (own_in f m) i h t → (number size entry j : ℕ) (c : List ℕ) → Dir number size ≡ place_by i (Found t) → entry ≡ 64 → look_up c (rows_of entry m number) ≡ Some j → Steps t c j
-  step-some (tree.File bytes) r number size entry j c is e some = absurd (no is)
+  pub step-some : (t : Tree) → Reads f lot (own f m) i h t → (number size : ℕ) (form : Form) (j : ℕ) (c : List ℕ) → Dir number size ≡ place_by i (Found t) → form ≡ form_one → look_up c (rows_of form m number) ≡ Some j → Steps t c j
+  step-some (tree.File bytes) r number size form j c is e some = absurd (no is)
     where
       no : Dir number size ≡ File i (length bytes) → ⊥
       no is = cc
-  step-some (tree.Dir es) r number size entry j c is e some =
+  step-some (tree.Dir es) r number size form j c is e some =
       let d = dir-is (tree.Dir es) number size is in
-      let s = child-found f lot (own_in f m) i h c es j r (ap (look_up c) (rows-own entry e) ∙ ap (λ x. look_up c (rows_of entry m x)) (sym d.2) ∙ some) in
-      record { there = s.0; reads = s.2; place = ap (λ x. place_by x (Found s.0)) (sym s.3) ∙ ap (place_by (inode_named c (rows_in f (own_in f m i)))) (sym s.1) }
+      let s = child-found f lot (own f m) i h c es j r (ap (look_up c) (rows-own form e) ∙ ap (λ x. look_up c (rows_of form m x)) (sym d.2) ∙ some) in
+      record { there = s.0; reads = s.2; place = ap (λ x. place_by x (Found s.0)) (sym s.3) ∙ ap (place_by (inode_named c (rows_in f (own f m i)))) (sym s.1) }
 
-  dir-directory : (t : Tree) → Reads f lot (own_in f m) i h t → (number size : ℕ) → Dir number size ≡ place_by i (Found t) → IsDirectory lot (inode_of m i)
+  dir-directory : (t : Tree) → Reads f lot (own f m) i h t → (number size : ℕ) → Dir number size ≡ place_by i (Found t) → IsDirectory lot (inode_of m i)
   dir-directory (tree.File bytes) r number size is = absurd (no is)
     where
       no : Dir number size ≡ File i (length bytes) → ⊥
@@ -151,16 +151,16 @@ module _ (f : Form) (one : f ≡ form_one) (lot : LotView) (m : Map) (i h : ℕ)
       record { kind = ap (λ (x : Inode). x.kind) (sym inode-own) ∙ r.1.is_dir; few = omega (arith, r.1.within, ap (λ (x : Inode). x.size) inode-own) }
 
   -- a search in a directory that stands for a tree fails by the disk alone
-  pub step-fails : (t : Tree) → Reads f lot (own_in f m) i h t → (number size entry : ℕ) → Dir number size ≡ place_by i (Found t) → entry ≡ 64 → (e : OpFault) → IsFindFault e
-      → (e ≡ Damaged Kind → IsDirectory lot (inode_of m number) → ⊥) → (e ≡ Damaged Pointer → (n : ℕ) × (n * per_block entry < (inode_of m number).size) × (leads lot m (inode_of m number) n ≡ false)) → e ≡ Disk
-  step-fails t r number size entry is en e faults kind pointer =
+  pub step-fails : (t : Tree) → Reads f lot (own f m) i h t → (number size : ℕ) (form : Form) → Dir number size ≡ place_by i (Found t) → form ≡ form_one → (e : OpFault) → IsFindFault e
+      → (e ≡ Damaged Kind → IsDirectory lot (inode_of m number) → ⊥) → (e ≡ Damaged Pointer → (n : ℕ) × (n * per_block form < (inode_of m number).size) × (leads lot m (inode_of m number) n ≡ false)) → e ≡ Disk
+  step-fails t r number size form is en e faults kind pointer =
       let d = dir-is t number size is in
       let at : i ≡ number = sym d.2 in
       let dir : IsDirectory lot (inode_of m number) = subst (λ x. IsDirectory lot (inode_of m x)) at (dir-directory t r number size is) in
       find-fails e faults (λ k. kind k dir)
       (λ p. let q = pointer p in
       true_false (leads lot m (inode_of m number) q.0)
-      (subst (λ x. (inode_of m x).kind ≡ 2 → q.0 * per_block entry < (inode_of m x).size → leads lot m (inode_of m x) q.0 ≡ true) at (dir-leads t r entry q.0 en) dir.kind q.1) q.2)
+      (subst (λ x. (inode_of m x).kind ≡ 2 → q.0 * per_block form < (inode_of m x).size → leads lot m (inode_of m x) q.0 ≡ true) at (dir-leads t r form q.0 en) dir.kind q.1) q.2)
 
 -- ---- from name to name
 

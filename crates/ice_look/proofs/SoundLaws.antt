@@ -25,7 +25,7 @@ use Rattle.ice_rules.proofs.Naming.{recovers_or_named}
 use Rattle.ice_map.specs.Inodes.{inode_of}
 use Rattle.ice_map.specs.Maps.{times}
 use Rattle.ice_map.proofs.ListLaws.{times-append, has-times}
-use Rattle.ice_file.specs.Own.{mark, map_length}
+use Rattle.ice_map.specs.Own.{mark, map_length, own}
 use Rattle.ice_dir.specs.Rows.{Row, rows_of}
 use Rattle.tree_spec.specs.Trees.{Tree, File, Dir, Entries, Nil, Entry, rows, by_bytes, walk, child, and_on, found_or_not, Found, total_in, at}
 use Rattle.tree_spec.specs.Costs.{Form, form_one, nodes}
@@ -34,7 +34,7 @@ use Rattle.tree_spec.proofs.Trees.{walk-on}
 use Rattle.tree_spec.proofs.Sums.{total-at}
 use Rattle.ice_reads.specs.Reads.{Reads, ReadsEach, tree_uses, entries_use, used_blocks, used_inodes, inode_on}
 use Rattle.ice_reads.specs.Recovers.{MapRecovers}
-use Rattle.ice_reads.specs.Tables.{Map, Table, own_in, rows_in, inode_named, IsInode}
+use Rattle.ice_reads.specs.Tables.{Map, Table, rows_in, inode_named, IsInode}
 use Rattle.ice_reads.proofs.Focus.{None≢Some, Found≢NotDir, Found≢NotFound, Reads-part, uses-part, uses-entry}
 use Rattle.ice_reads.proofs.Frames.{times-here, times-other}
 use Rattle.ice_reads.proofs.LookUps.{child-found, look_up-find}
@@ -158,7 +158,7 @@ spot-nodes f o names t spot is = omega (arith, is.count, rows-nodes is.inside, n
 
 module _ (mode : ℕ) (lot : LotView) (m : Map) (t : Tree) (k : ℕ) (r : MapRecovers form_one mode lot m t k) where
   abbrev o : Table
-  o = own_in form_one m
+  o = own form_one m
 
   -- an inode is what a walk of names comes to
   record Stands (i : ℕ) : Type 0 where
@@ -182,15 +182,15 @@ module _ (mode : ℕ) (lot : LotView) (m : Map) (t : Tree) (k : ℕ) (r : MapRec
   inode-part (Dir es) i h x = x.0
 
   -- what a row of a directory names
-  row-child : (u : Tree) (i h : ℕ) (name : List ℕ) (j : ℕ) → Reads form_one lot o i h u → (o i).inode.kind ≡ 2 → Contains (rows_of 64 m i) (name, j)
+  row-child : (u : Tree) (i h : ℕ) (name : List ℕ) (j : ℕ) → Reads form_one lot o i h u → (o i).inode.kind ≡ 2 → Contains (rows_of form_one m i) (name, j)
       → (s : Tree) × (child name u ≡ Found s) × Reads form_one lot o j (h + 1) s × (inode_named name (rows_in form_one (o i)) ≡ j)
   row-child (File bytes) i h name j x two c = absurd (no_file (o i).inode.kind x.1.is_file two)
   row-child (Dir es) i h name j x two c =
       child-found form_one lot o i h name es j x (
-      look_up-find name (rows_of 64 m i) ∙ find-lookup name (rows_of 64 m i) ∙ lookup-from_Contains (eq_by_cmp_equiv nat_list_cmp_total) name j (rows_of 64 m i) x.1.differ c
+      look_up-find name (rows_of form_one m i) ∙ find-lookup name (rows_of form_one m i) ∙ lookup-from_Contains (eq_by_cmp_equiv nat_list_cmp_total) name j (rows_of form_one m i) x.1.differ c
       )
 
-  stands-row : (dir : ℕ) (name : List ℕ) (j : ℕ) → Stands dir → (inode_of m dir).kind ≡ 2 → Contains (rows_of 64 m dir) (name, j) → Stands j
+  stands-row : (dir : ℕ) (name : List ℕ) (j : ℕ) → Stands dir → (inode_of m dir).kind ≡ 2 → Contains (rows_of form_one m dir) (name, j) → Stands j
   stands-row dir name j s two c =
       let y = row-child s.part dir (0 + length s.names) name j (stands-reads dir s) two c in
       record {
@@ -201,51 +201,51 @@ module _ (mode : ℕ) (lot : LotView) (m : Map) (t : Tree) (k : ℕ) (r : MapRec
       }
 
   -- each inode to which the directories lead is one
-  stands : {i : ℕ} → Reached 64 lot m i → Stands i
+  stands : {i : ℕ} → Reached form_one lot m i → Stands i
   stands Root = record { names = []; part = t; found = refl; ends = refl }
   stands (Named dir number name d is c) = stands-row dir name number (stands d) is.kind c
 
-  node-at : (i : ℕ) → IsReached 64 lot m i → IsNode lot (inode_of m i)
+  node-at : (i : ℕ) → IsReached form_one lot m i → IsNode lot (inode_of m i)
   node-at i x = let s = stands x.by in Reads-node form_one refl lot m i (0 + length s.names) s.part (stands-reads i s)
 
-  places-at : (i : ℕ) → IsReached 64 lot m i → (b : ℕ) → has (o i).uses b ≡ true → is_data lot b ≡ true
+  places-at : (i : ℕ) → IsReached form_one lot m i → (b : ℕ) → has (o i).uses b ≡ true → is_data lot b ≡ true
   places-at i x = let s = stands x.by in (inode-part s.part i (0 + length s.names) (stands-reads i s)).places
 
   -- ---- inodes
 
-  no-inode : ¬ BadInode 64 lot m
+  no-inode : ¬ BadInode form_one lot m
   no-inode x = x.bad (node-at x.number x.reached)
 
-  no-pointer : ¬ BadPointer 64 lot m
-  no-pointer x = no_true (sym x.bad.bad ∙ places-lead lot m (inode_of m x.number) (map_length 64 (inode_of m x.number)) x.bad.block (places-at x.number x.reached) x.bad.below)
+  no-pointer : ¬ BadPointer form_one lot m
+  no-pointer x = no_true (sym x.bad.bad ∙ places-lead lot m (inode_of m x.number) (map_length form_one (inode_of m x.number)) x.bad.block (places-at x.number x.reached) x.bad.below)
 
   -- a block that stands in what an inode uses stands there once, and in what no other one uses
   once : (b : ℕ) → is_data lot b ≡ true → times (used_blocks form_one o 0 t) b ≤ 1
   once b d = omega (arith, r.holds.blocks b d, mark-small (used_block m b))
 
-  no-twice : ¬ TwiceUsed 64 lot m
+  no-twice : ¬ TwiceUsed form_one lot m
   no-twice x = by x.twice
     where
-      by : ((x.one ≡ x.other) × (2 ≤ times (node_uses 64 m x.one) x.block)) ⊎ ((x.one ≢ x.other) × (has (node_uses 64 m x.one) x.block ≡ true) × (has (node_uses 64 m x.other) x.block ≡ true)) → ⊥
+      by : ((x.one ≡ x.other) × (2 ≤ times (node_uses form_one m x.one) x.block)) ⊎ ((x.one ≢ x.other) × (has (node_uses form_one m x.one) x.block ≡ true) × (has (node_uses form_one m x.other) x.block ≡ true)) → ⊥
       by (inl two) =
           omega (
             arith,
             two.1,
-            once x.block (places-at x.one x.reached x.block (times-has (node_uses 64 m x.one) x.block (omega (arith, two.1)))),
+            once x.block (places-at x.one x.reached x.block (times-has (node_uses form_one m x.one) x.block (omega (arith, two.1)))),
             used-one form_one o (λ n. (o n).uses) x.block x.one x.one 0 t (stands-used x.one (stands x.reached.by)),
           )
       by (inr y) =
           omega (
             arith,
-            has-times (node_uses 64 m x.one) x.block y.1,
-            has-times (node_uses 64 m x.other) x.block y.2,
+            has-times (node_uses form_one m x.one) x.block y.1,
+            has-times (node_uses form_one m x.other) x.block y.2,
             once x.block (places-at x.one x.reached x.block y.1),
             used-apart form_one o (λ n. (o n).uses) x.block x.one x.other 0 t y.0 (stands-used x.one (stands x.reached.by)) (stands-used x.other (stands x.reached_too.by)),
           )
 
   -- ---- entries
 
-  no-overfull : ¬ Overfull 64 lot m
+  no-overfull : ¬ Overfull form_one lot m
   no-overfull x =
       omega (
         arith,
@@ -290,7 +290,7 @@ module _ (mode : ℕ) (lot : LotView) (m : Map) (t : Tree) (k : ℕ) (r : MapRec
       twice-marked : 2 ≤ times (used_inodes form_one o 0 t) 0 → ⊥
       twice-marked h = omega (arith, h, r.holds.inodes 0 (inode-part t 0 0 r.holds.reads).number, mark-small (used_inode m 0))
 
-  no-entry : ¬ BadEntry 64 lot m
+  no-entry : ¬ BadEntry form_one lot m
   unfolding stands stands-row
   no-entry x = by x.bad
     where
@@ -305,12 +305,12 @@ module _ (mode : ℕ) (lot : LotView) (m : Map) (t : Tree) (k : ℕ) (r : MapRec
           let y = row-child s.part x.number (0 + length s.names) x.row.0 x.row.1 (stands-reads x.number s) x.dir.kind x.has in
           omega (arith, past, (inode-part y.0 x.row.1 (0 + length s.names + 1) y.2).number)
 
-  no-name : ¬ BadName 64 lot m
+  no-name : ¬ BadName form_one lot m
   no-name x = let s = stands x.reached.by in fits s.part (0 + length s.names) (stands-reads x.number s)
     where
       fits : (u : Tree) (h : ℕ) → Reads form_one lot o x.number h u → ⊥
       fits (File bytes) h y = no_file (inode_of m x.number).kind y.1.is_file x.dir.kind
-      fits (Dir es) h y = no_true (sym x.bad ∙ All-contains (λ (row : Row). is_name row.0 ≡ true) (rows_of 64 m x.number) x.row (λ j d low. (y.1.fit j d low).is) x.has)
+      fits (Dir es) h y = no_true (sym x.bad ∙ All-contains (λ (row : Row). is_name row.0 ≡ true) (rows_of form_one m x.number) x.row (λ j d low. (y.1.fit j d low).is) x.has)
 
   -- ---- counts and bitmaps
 
@@ -328,9 +328,9 @@ module _ (mode : ℕ) (lot : LotView) (m : Map) (t : Tree) (k : ℕ) (r : MapRec
       some (File bytes) = omega arith
       some (Dir es) = omega arith
 
-  no-few : ¬ FewCounted 64 lot m
+  no-few : ¬ FewCounted form_one lot m
   no-few x =
-      elim (x.one == x.other) as (λ b. (x.one == x.other) ≡ b → counted false m < length (node_uses 64 m x.one) + cond b 0 (length (node_uses 64 m x.other)) → ⊥) [
+      elim (x.one == x.other) as (λ b. (x.one == x.other) ≡ b → counted false m < length (node_uses form_one m x.one) + cond b 0 (length (node_uses form_one m x.other)) → ⊥) [
         | true ↦ λ e few. omega (arith, few, all, length-one (λ n. (o n).uses) x.one (used_inodes form_one o 0 t) here)
         | false ↦ λ e few.
             let apart : x.one ≢ x.other = grind (arith, nat_tests) in
@@ -346,7 +346,7 @@ module _ (mode : ℕ) (lot : LotView) (m : Map) (t : Tree) (k : ℕ) (r : MapRec
       there : 0 < times (used_inodes form_one o 0 t) x.other
       there = stands-used x.other (stands x.reached_too.by)
 
-  no-free_block : ¬ FreeBlock 64 lot m
+  no-free_block : ¬ FreeBlock form_one lot m
   no-free_block x =
       omega (
         arith,
@@ -356,7 +356,7 @@ module _ (mode : ℕ) (lot : LotView) (m : Map) (t : Tree) (k : ℕ) (r : MapRec
         used-one form_one o (λ n. (o n).uses) x.bad.block x.number x.number 0 t (stands-used x.number (stands x.reached.by)),
       )
 
-  no-free_inode : ¬ FreeInode 64 lot m
+  no-free_inode : ¬ FreeInode form_one lot m
   no-free_inode x = omega (arith, r.holds.inodes x.number x.reached.below, ap mark x.free, stands-used x.number (stands x.reached.by))
 
   -- ---- what directories lead to
@@ -365,26 +365,26 @@ module _ (mode : ℕ) (lot : LotView) (m : Map) (t : Tree) (k : ℕ) (r : MapRec
   sum-le p q [] h = omega arith
   sum-le p q (e ∷ rs) h = omega (arith, sum_by-cons p e rs, sum_by-cons q e rs, h 0 ([], 0) (omega arith), sum-le p q rs (All-tail (λ (row : Row). p row ≤ q row) e rs h))
 
-  spread-nodes : (levels i h : ℕ) (u : Tree) → Reads form_one lot o i h u → spread 64 m levels i ≤ nodes u
+  spread-nodes : (levels i h : ℕ) (u : Tree) → Reads form_one lot o i h u → spread form_one m levels i ≤ nodes u
   spread-nodes zero i h u x = nodes-some u
-  spread-nodes (suc levels) i h (File bytes) x = omega (arith, spread-file 64 m (suc levels) i x.1.is_file)
+  spread-nodes (suc levels) i h (File bytes) x = omega (arith, spread-file form_one m (suc levels) i x.1.is_file)
   spread-nodes (suc levels) i h (Dir es) x =
-      let each : All (λ (row : Row). by_row 64 m levels row ≤ many es row) (rows_in form_one (o i)) = (λ n d low.
+      let each : All (λ (row : Row). by_row form_one m levels row ≤ many es row) (rows_in form_one (o i)) = (λ n d low.
       let row : Row = get_or (rows_in form_one (o i)) n d in
       let c = row-under form_one lot o i h es x n row.0 row.1 (slice_get-get_or (rows_in form_one (o i)) n d low) in
       omega (arith, spread-nodes levels row.1 (h + 1) c.there c.reads, ap many_of c.entry)) in
       omega (
         arith,
-        spread-dir 64 m levels i x.1.is_dir,
-        ap (λ n. spread 64 m n i) (one_more levels),
-        sum-le (by_row 64 m levels) (many es) (rows_in form_one (o i)) each,
+        spread-dir form_one m levels i x.1.is_dir,
+        ap (λ n. spread form_one m n i) (one_more levels),
+        sum-le (by_row form_one m levels) (many es) (rows_in form_one (o i)) each,
         sum-many es (rows_in form_one (o i)) x.1.differ,
       )
     where
       one_more : (n : ℕ) → suc n ≡ n + 1
       one_more n = omega arith
 
-  no-crowd : ¬ Crowded 64 lot m
+  no-crowd : ¬ Crowded form_one lot m
   no-crowd x =
       let s = stands x.reached.by in
       omega (arith, x.many, spread-nodes x.levels x.number (0 + length s.names) s.part (stands-reads x.number s), nodes-within s.names t s.part s.found, free_nodes_are mode lot m t k r)
@@ -394,7 +394,7 @@ module _ (mode : ℕ) (lot : LotView) (m : Map) (t : Tree) (k : ℕ) (r : MapRec
   no-sub : (x : Rule) → ¬ (sub_rule lot.slot (m sub_address) ≡ Some x)
   no-sub x e = None≢Some x (sym r.sub.sound ∙ e)
 
-  breaks-none : (x : Rule) → ¬ IsBroken 64 lot m x
+  breaks-none : (x : Rule) → ¬ IsBroken form_one lot m x
   breaks-none rule.Magic x = no-sub rule.Magic x
   breaks-none rule.Version x = no-sub rule.Version x
   breaks-none rule.Slot x = no-sub rule.Slot x
@@ -420,16 +420,16 @@ module _ (mode : ℕ) (lot : LotView) (m : Map) (t : Tree) (k : ℕ) (r : MapRec
   breaks-none rule.Header x = x
 
 -- a lot that recovers a tree breaks no rule
-pub recovers_unbroken : (mode : ℕ) (lot : LotView) (m : Map) (t : Tree) (k : ℕ) (x : Rule) → MapRecovers form_one mode lot m t k → ¬ IsBroken 64 lot m x
+pub recovers_unbroken : (mode : ℕ) (lot : LotView) (m : Map) (t : Tree) (k : ℕ) (x : Rule) → MapRecovers form_one mode lot m t k → ¬ IsBroken form_one lot m x
 recovers_unbroken mode lot m t k x r = breaks-none mode lot m t k r x
 
 -- so no row names the root, or none of the lot
-pub no-bad-entry : (f : Form) → f ≡ form_one → (entry : ℕ) → entry ≡ 64 → (mode : ℕ) (lot : LotView) (m : Map) (t : Tree) (k : ℕ) → MapRecovers f mode lot m t k → ¬ BadEntry entry lot m
-no-bad-entry f one entry wide mode lot m t k r bad =
+pub no-bad-entry : (f : Form) → f ≡ form_one → (form : Form) → form ≡ form_one → (mode : ℕ) (lot : LotView) (m : Map) (t : Tree) (k : ℕ) → MapRecovers f mode lot m t k → ¬ BadEntry form lot m
+no-bad-entry f one form wide mode lot m t k r bad =
     recovers_unbroken mode lot m t k rule.InodeTwice (subst (λ g. MapRecovers g mode lot m t k) one r) (inl (subst (λ e. BadEntry e lot m) wide bad))
 
 -- so where it breaks one, some rule may be named of it
-pub broken_named : (lot : LotView) (m : Map) (x : Rule) → 0 < length lot.groups → IsBroken 64 lot m x → (r : Rule) × MayName (form_in m) lot m r
+pub broken_named : (lot : LotView) (m : Map) (x : Rule) → 0 < length lot.groups → IsBroken form_one lot m x → (r : Rule) × MayName (form_in m) lot m r
 broken_named lot m x some bad = ⊎_elim
     (λ r. r)
     (λ y.

@@ -35,14 +35,14 @@ pub record SpotFits (lot : LotView) (spot : Spot) : Type 0 where
   pub count : spot.entries < 64 * length lot.groups
 
 -- the ends of a path are what the directories lead to
-pub record EndsAre (entry : ℕ) (lot : LotView) (m : ℕ → List ℕ) (ends : Ends) : Type 0 where
+pub record EndsAre (form : Form) (lot : LotView) (m : ℕ → List ℕ) (ends : Ends) : Type 0 where
   pub parent : PlaceIs m ends.parent
   pub end : PlaceIs m ends.end
-  pub parent_reached : PlaceReached entry lot m ends.parent
-  pub end_reached : PlaceReached entry lot m ends.end
+  pub parent_reached : PlaceReached form lot m ends.parent
+  pub end_reached : PlaceReached form lot m ends.end
 
 -- a directory to which the directories lead, and how many entries it has
-pub record SpotIs (entry : ℕ) (lot : LotView) (m : ℕ → List ℕ) (spot : Spot) : Type 0 where
-  pub reached : IsReached entry lot m spot.number
+pub record SpotIs (form : Form) (lot : LotView) (m : ℕ → List ℕ) (spot : Spot) : Type 0 where
+  pub reached : IsReached form lot m spot.number
   pub dir : IsDirectory lot (inode_of m spot.number)
   pub entries : (inode_of m spot.number).size ≡ spot.entries

@@ -24,12 +24,12 @@ pub record IsChild (f : Form) (lot : LotView) (o : Table) (i h k : ℕ) (es : En
   pub at : place ≡ place_by inode (Found tree)
 
 -- the place of the inode that row k of a directory names
-pub record IsEntry (entry : ℕ) (lot : LotView) (m : ℕ → List ℕ) (dir k : ℕ) (place : Place) : Type 0 where
+pub record IsEntry (form : Form) (lot : LotView) (m : ℕ → List ℕ) (dir k : ℕ) (place : Place) : Type 0 where
   pub name : List ℕ
   pub inode : ℕ
-  pub row : slice_get (rows_of entry m dir) k ≡ Some (name, inode)
+  pub row : slice_get (rows_of form m dir) k ≡ Some (name, inode)
   pub is : PlaceIs m place
-  pub reached : PlaceReached entry lot m place
+  pub reached : PlaceReached form lot m place
   pub at : PlaceOf inode place
 
 -- the faults of a look at the height of a tree

@@ -8,7 +8,7 @@ ghost use Rattle.tree_spec.specs.Costs.{form_of};
 ghost use Rattle.tree_spec.specs.Names.{is_name};
 ghost use Rattle.tree_spec.specs.Trees.{Tree, last_name};
 ghost use Rattle.ice_reads.specs.Recovers.{MapRecovers};
-ghost use Rattle.ice_reads.specs.Tables.{own_in};
+ghost use Rattle.ice_map.specs.Own.{own};
 ghost use Rattle.ice_look.specs.Broken.{IsBrokenBy};
 ghost use Rattle.ice_look.specs.Ends.{IsEnds, EndsFit, EndsAre};
 ghost use Rattle.ice_look.specs.Places.{PlaceNamed, IsWalkFault};
@@ -58,17 +58,17 @@ pub fn find_ends<D: Disk, V: View<D>, F: Form>(
     requires depth { depth ≤ length path.now }
     ensures found { (mode k : ℕ) (t : Tree) → IfShown V.View lot.now view.old disk.old (λ old.
         MapRecovers (form_of F.VERSION) mode lot.now old t k
-        → IfOk result (IsEnds (form_of F.VERSION) (own_in (form_of F.VERSION) old) (drop depth path.now) t)) }
+        → IfOk result (IsEnds (form_of F.VERSION) (own (form_of F.VERSION) old) (drop depth path.now) t)) }
     ensures sound { (mode k : ℕ) (t : Tree) → IfShown V.View lot.now view.old disk.old (λ old.
         MapRecovers (form_of F.VERSION) mode lot.now old t k → IfErr result (λ e. e ≡ FaultDisk)) }
     ensures fits { IfOk result (EndsFit lot.now) }
     ensures are { IfShown V.View lot.now view.old disk.old (λ old.
-        IfOk result (EndsAre F.ENTRY lot.now old)) }
+        IfOk result (EndsAre (form_of F.VERSION) lot.now old)) }
     ensures named { IfShown V.View lot.now view.old disk.old (λ old.
         depth < length path.now
-        → IfOk result (λ ends. PlaceNamed F.ENTRY old ends.parent (last_name (drop depth path.now)) ends.end)) }
+        → IfOk result (λ ends. PlaceNamed (form_of F.VERSION) old ends.parent (last_name (drop depth path.now)) ends.end)) }
     ensures broken { IfShown V.View lot.now view.old disk.old (λ old.
-        IfErr result (IsBrokenBy F.ENTRY lot.now old)) }
+        IfErr result (IsBrokenBy (form_of F.VERSION) lot.now old)) }
     ensures looked { Looked D.Disk V.View lot.now view.old disk.old view.new disk.new }
     ensures faults { IfErr result IsWalkFault }
     ensures failed { IsErrOf result FaultDisk → Rose (D.state disk.old).faults (D.state disk.new).faults }

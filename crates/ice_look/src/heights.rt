@@ -10,7 +10,7 @@ ghost use Rattle.ice_dir.specs.Rows.{HasEntry, IsDirectory};
 ghost use Rattle.tree_spec.specs.Costs.{form_of, nodes};
 ghost use Rattle.tree_spec.specs.Trees.{Tree, Entries, Dir, Found, rows, height};
 ghost use Rattle.ice_reads.specs.Reads.{Reads};
-ghost use Rattle.ice_reads.specs.Tables.{own_in};
+ghost use Rattle.ice_map.specs.Own.{own};
 ghost use Rattle.ice_look.specs.Broken.{IsBrokenBy, spread, spread_at};
 ghost use Rattle.ice_look.specs.Heights.{IsEntry, IsChild, IsHeightFault};
 ghost use Rattle.ice_look.specs.Places.{IsReached, PlaceFits, PlaceIs, PlaceReached, place_by};
@@ -31,19 +31,19 @@ fn entry_place<D: Disk, V: View<D>, F: Form>(
     requires sited { is_sited lot.now (D.state disk.old).size ≡ true }
     requires number { number < 64 * length lot.now.groups }
     ensures place { (h : ℕ) (es : Entries) → IfShown V.View lot.now view.old disk.old (λ old.
-        Reads (form_of F.VERSION) lot.now (own_in (form_of F.VERSION) old) number h (Dir es)
+        Reads (form_of F.VERSION) lot.now (own (form_of F.VERSION) old) number h (Dir es)
         → k < length (rows es)
-        → IfOk result (IsChild (form_of F.VERSION) lot.now (own_in (form_of F.VERSION) old) number h k es)) }
+        → IfOk result (IsChild (form_of F.VERSION) lot.now (own (form_of F.VERSION) old) number h k es)) }
     ensures sound { (h : ℕ) (es : Entries) → IfShown V.View lot.now view.old disk.old (λ old.
-        Reads (form_of F.VERSION) lot.now (own_in (form_of F.VERSION) old) number h (Dir es)
+        Reads (form_of F.VERSION) lot.now (own (form_of F.VERSION) old) number h (Dir es)
         → k < length (rows es) → IfErr result (λ e. e ≡ FaultDisk)) }
     ensures fits { IfOk result (PlaceFits lot.now) }
     ensures child { IfShown V.View lot.now view.old disk.old (λ old.
-        IsReached F.ENTRY lot.now old number → HasEntry lot.now k (inode_of old number)
-        → IfOk result (IsEntry F.ENTRY lot.now old number k)) }
+        IsReached (form_of F.VERSION) lot.now old number → HasEntry lot.now k (inode_of old number)
+        → IfOk result (IsEntry (form_of F.VERSION) lot.now old number k)) }
     ensures broken { IfShown V.View lot.now view.old disk.old (λ old.
-        IsReached F.ENTRY lot.now old number → HasEntry lot.now k (inode_of old number)
-        → IfErr result (IsBrokenBy F.ENTRY lot.now old)) }
+        IsReached (form_of F.VERSION) lot.now old number → HasEntry lot.now k (inode_of old number)
+        → IfErr result (IsBrokenBy (form_of F.VERSION) lot.now old)) }
     ensures looked { Looked D.Disk V.View lot.now view.old disk.old view.new disk.new }
     ensures faults { IfErr result IsHeightFault }
     ensures failed { IsErrOf result FaultDisk → Rose (D.state disk.old).faults (D.state disk.new).faults }
@@ -68,28 +68,28 @@ fn has_higher<D: Disk, V: View<D>, F: Form>(
     requires number { number < 64 * length lot.now.groups }
     requires levels { levels < 24 }
     ensures higher { (h : ℕ) (es : Entries) → IfShown V.View lot.now view.old disk.old (λ old.
-        Reads (form_of F.VERSION) lot.now (own_in (form_of F.VERSION) old) number h (Dir es)
+        Reads (form_of F.VERSION) lot.now (own (form_of F.VERSION) old) number h (Dir es)
         → size ≡ length (rows es) → nodes (Dir es) ≤ budget.old + 1
         → IfOk result (λ b. b ≡ nat_lt (levels + 1) (height (Dir es)))) }
     ensures sound { (h : ℕ) (es : Entries) → IfShown V.View lot.now view.old disk.old (λ old.
-        Reads (form_of F.VERSION) lot.now (own_in (form_of F.VERSION) old) number h (Dir es)
+        Reads (form_of F.VERSION) lot.now (own (form_of F.VERSION) old) number h (Dir es)
         → size ≡ length (rows es) → nodes (Dir es) ≤ budget.old + 1
         → IfErr result (λ e. e ≡ FaultDisk)) }
     ensures budget { (h : ℕ) (es : Entries) → IfShown V.View lot.now view.old disk.old (λ old.
-        Reads (form_of F.VERSION) lot.now (own_in (form_of F.VERSION) old) number h (Dir es)
+        Reads (form_of F.VERSION) lot.now (own (form_of F.VERSION) old) number h (Dir es)
         → size ≡ length (rows es) → nodes (Dir es) ≤ budget.old + 1
         → budget.old + 1 ≤ budget.new + nodes (Dir es)) }
     ensures falls { budget.new ≤ budget.old }
     ensures pays { IfShown V.View lot.now view.old disk.old (λ old.
-        IsReached F.ENTRY lot.now old number → IsDirectory lot.now (inode_of old number)
+        IsReached (form_of F.VERSION) lot.now old number → IsDirectory lot.now (inode_of old number)
         → (inode_of old number).size ≡ size
         → IfOk result (λ b. b ≡ false
-        → budget.old + 1 ≤ budget.new + spread F.ENTRY old (levels + 1) number)) }
+        → budget.old + 1 ≤ budget.new + spread (form_of F.VERSION) old (levels + 1) number)) }
     ensures broken { IfShown V.View lot.now view.old disk.old (λ old.
-        IsReached F.ENTRY lot.now old number → IsDirectory lot.now (inode_of old number)
+        IsReached (form_of F.VERSION) lot.now old number → IsDirectory lot.now (inode_of old number)
         → (inode_of old number).size ≡ size
-        → IfErr result (λ e. IsBrokenBy F.ENTRY lot.now old e
-        ⊎ ((e ≡ Damaged InodeTwice) × (budget.old + 1 < spread F.ENTRY old (levels + 1) number)))) }
+        → IfErr result (λ e. IsBrokenBy (form_of F.VERSION) lot.now old e
+        ⊎ ((e ≡ Damaged InodeTwice) × (budget.old + 1 < spread (form_of F.VERSION) old (levels + 1) number)))) }
     ensures looked { Looked D.Disk V.View lot.now view.old disk.old view.new disk.new }
     ensures faults { IfErr result IsHeightFault }
     ensures failed { IsErrOf result FaultDisk → Rose (D.state disk.old).faults (D.state disk.new).faults }
@@ -120,24 +120,24 @@ pub fn is_higher<D: Disk, V: View<D>, F: Form>(
     requires fits { PlaceFits lot.now place }
     requires levels { levels ≤ 24 }
     ensures higher { (i h : ℕ) (s : Tree) → IfShown V.View lot.now view.old disk.old (λ old.
-        Reads (form_of F.VERSION) lot.now (own_in (form_of F.VERSION) old) i h s
+        Reads (form_of F.VERSION) lot.now (own (form_of F.VERSION) old) i h s
         → place ≡ place_by i (Found s) → nodes s ≤ budget.old
         → IfOk result (λ b. b ≡ nat_lt levels (height s))) }
     ensures sound { (i h : ℕ) (s : Tree) → IfShown V.View lot.now view.old disk.old (λ old.
-        Reads (form_of F.VERSION) lot.now (own_in (form_of F.VERSION) old) i h s
+        Reads (form_of F.VERSION) lot.now (own (form_of F.VERSION) old) i h s
         → place ≡ place_by i (Found s) → nodes s ≤ budget.old → IfErr result (λ e. e ≡ FaultDisk)) }
     ensures budget { (i h : ℕ) (s : Tree) → IfShown V.View lot.now view.old disk.old (λ old.
-        Reads (form_of F.VERSION) lot.now (own_in (form_of F.VERSION) old) i h s
+        Reads (form_of F.VERSION) lot.now (own (form_of F.VERSION) old) i h s
         → place ≡ place_by i (Found s) → nodes s ≤ budget.old → budget.old ≤ budget.new + nodes s) }
     ensures falls { budget.new ≤ budget.old }
     ensures pays { IfShown V.View lot.now view.old disk.old (λ old.
-        PlaceIs old place → PlaceReached F.ENTRY lot.now old place
+        PlaceIs old place → PlaceReached (form_of F.VERSION) lot.now old place
         → IfOk result (λ b. b ≡ false
-        → budget.old ≤ budget.new + spread_at F.ENTRY old levels place)) }
+        → budget.old ≤ budget.new + spread_at (form_of F.VERSION) old levels place)) }
     ensures broken { IfShown V.View lot.now view.old disk.old (λ old.
-        PlaceIs old place → PlaceReached F.ENTRY lot.now old place
-        → IfErr result (λ e. IsBrokenBy F.ENTRY lot.now old e
-        ⊎ ((e ≡ Damaged InodeTwice) × (budget.old < spread_at F.ENTRY old levels place)))) }
+        PlaceIs old place → PlaceReached (form_of F.VERSION) lot.now old place
+        → IfErr result (λ e. IsBrokenBy (form_of F.VERSION) lot.now old e
+        ⊎ ((e ≡ Damaged InodeTwice) × (budget.old < spread_at (form_of F.VERSION) old levels place)))) }
     ensures looked { Looked D.Disk V.View lot.now view.old disk.old view.new disk.new }
     ensures faults { IfErr result IsHeightFault }
     ensures failed { IsErrOf result FaultDisk → Rose (D.state disk.old).faults (D.state disk.new).faults }

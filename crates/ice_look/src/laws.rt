@@ -12,11 +12,11 @@ ghost use Rattle.ice_look.specs.Broken.{IsBroken};
 #[tactic(auto, using(crate::proofs::SoundLaws::recovers_unbroken))]
 pub fn recovers_unbroken()
     ensures { (mode : ℕ) (lot : LotView) (m : ℕ → List ℕ) (t : Tree) (k : ℕ) (r : Rule)
-        → MapRecovers form_one mode lot m t k → ¬ IsBroken 64 lot m r }
+        → MapRecovers form_one mode lot m t k → ¬ IsBroken form_one lot m r }
 {}
 
 /// Where a lot of some groups breaks such a rule, some rule may be named of it.
 pub fn broken_named()
-    ensures { (lot : LotView) (m : ℕ → List ℕ) (r : Rule) → 0 < length lot.groups → IsBroken 64 lot m r
+    ensures { (lot : LotView) (m : ℕ → List ℕ) (r : Rule) → 0 < length lot.groups → IsBroken form_one lot m r
         → (x : Rule) × MayName (form_in m) lot m x }
 {}

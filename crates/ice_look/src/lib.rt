@@ -18,4 +18,4 @@ pub use laws::{broken_named, recovers_unbroken};
 pub use lists::list;
 pub use looks::{FileAt, file_at, read, stat};
 pub use paths::{DEEPEST, check_path, check_paths};
-pub use place::{LONGEST_FILE, Place};
+pub use place::Place;

@@ -18,7 +18,8 @@ ghost use Rattle.tree_spec.specs.declared.reply.Refusal.TheVariants.{Fault, Dama
 ghost use Rattle.tree_spec.specs.declared.reply.Value.TheVariants.{Listed};
 ghost use Rattle.ice_reads.specs.Reads.{Reads};
 ghost use Rattle.ice_reads.specs.Recovers.{MapRecovers};
-ghost use Rattle.ice_reads.specs.Tables.{own_in, rows_in};
+ghost use Rattle.ice_map.specs.Own.{own};
+ghost use Rattle.ice_reads.specs.Tables.{rows_in};
 ghost use Rattle.ice_rules.specs.Rules.{rule_number};
 ghost use Rattle.ice_look.specs.Broken.{BadEntry, IsBroken, IsBrokenBy};
 ghost use Rattle.ice_look.specs.Listings.{listed_as, IsListFault};
@@ -48,21 +49,21 @@ fn add_entry<D: Disk, V: View<D>, F: Form>(
     requires number { number < 64 * length lot.now.groups }
     requires fits { length room.old.entries < most_entries }
     ensures added { (h : ℕ) (es : Entries) (row : Row) → IfShown V.View lot.now view.old disk.old (λ old.
-        Reads (form_of F.VERSION) lot.now (own_in (form_of F.VERSION) old) number h (Dir es)
-        → slice_get (rows_in (form_of F.VERSION) (own_in (form_of F.VERSION) old number)) k ≡ Some row
-        → IsReached F.ENTRY lot.now old number → ¬ BadEntry F.ENTRY lot.now old
+        Reads (form_of F.VERSION) lot.now (own (form_of F.VERSION) old) number h (Dir es)
+        → slice_get (rows_in (form_of F.VERSION) (own (form_of F.VERSION) old number)) k ≡ Some row
+        → IsReached (form_of F.VERSION) lot.now old number → ¬ BadEntry (form_of F.VERSION) lot.now old
         → OnOk result (room.new.entries ≡ room.old.entries ++ listed_as es row ∷ [])) }
     ensures sound { (h : ℕ) (es : Entries) → IfShown V.View lot.now view.old disk.old (λ old.
-        Reads (form_of F.VERSION) lot.now (own_in (form_of F.VERSION) old) number h (Dir es)
-        → k < length (rows es) → IsReached F.ENTRY lot.now old number → ¬ BadEntry F.ENTRY lot.now old
+        Reads (form_of F.VERSION) lot.now (own (form_of F.VERSION) old) number h (Dir es)
+        → k < length (rows es) → IsReached (form_of F.VERSION) lot.now old number → ¬ BadEntry (form_of F.VERSION) lot.now old
         → IfErr result (λ e. e ≡ FaultDisk)) }
     ensures one { OnOk result (length room.new.entries ≡ length room.old.entries + 1) }
     ensures kept { OnErr result (room.new.entries ≡ room.old.entries) }
     ensures bytes { room.new.bytes ≡ room.old.bytes }
     ensures rows { room.new.rows ≡ room.old.rows }
     ensures broken { IfShown V.View lot.now view.old disk.old (λ old.
-        IsReached F.ENTRY lot.now old number → HasEntry lot.now k (inode_of old number)
-        → IfErr result (IsBrokenBy F.ENTRY lot.now old)) }
+        IsReached (form_of F.VERSION) lot.now old number → HasEntry lot.now k (inode_of old number)
+        → IfErr result (IsBrokenBy (form_of F.VERSION) lot.now old)) }
     ensures looked { Looked D.Disk V.View lot.now view.old disk.old view.new disk.new }
     ensures faults { IfErr result IsListFault }
     ensures failed { IsErrOf result FaultDisk → Rose (D.state disk.old).faults (D.state disk.new).faults }
@@ -89,20 +90,20 @@ fn add_entries<D: Disk, V: View<D>, F: Form>(
     requires few { count ≤ most_entries }
     requires empty { room.old.entries ≡ [] }
     ensures listed { (h : ℕ) (es : Entries) → IfShown V.View lot.now view.old disk.old (λ old.
-        Reads (form_of F.VERSION) lot.now (own_in (form_of F.VERSION) old) number h (Dir es)
-        → count ≡ length (rows es) → IsReached F.ENTRY lot.now old number
-        → ¬ BadEntry F.ENTRY lot.now old
-        → OnOk result (room.new.entries ≡ map (listed_as es) (rows_in (form_of F.VERSION) (own_in (form_of F.VERSION) old number)))) }
+        Reads (form_of F.VERSION) lot.now (own (form_of F.VERSION) old) number h (Dir es)
+        → count ≡ length (rows es) → IsReached (form_of F.VERSION) lot.now old number
+        → ¬ BadEntry (form_of F.VERSION) lot.now old
+        → OnOk result (room.new.entries ≡ map (listed_as es) (rows_in (form_of F.VERSION) (own (form_of F.VERSION) old number)))) }
     ensures sound { (h : ℕ) (es : Entries) → IfShown V.View lot.now view.old disk.old (λ old.
-        Reads (form_of F.VERSION) lot.now (own_in (form_of F.VERSION) old) number h (Dir es)
-        → count ≡ length (rows es) → IsReached F.ENTRY lot.now old number
-        → ¬ BadEntry F.ENTRY lot.now old → IfErr result (λ e. e ≡ FaultDisk)) }
+        Reads (form_of F.VERSION) lot.now (own (form_of F.VERSION) old) number h (Dir es)
+        → count ≡ length (rows es) → IsReached (form_of F.VERSION) lot.now old number
+        → ¬ BadEntry (form_of F.VERSION) lot.now old → IfErr result (λ e. e ≡ FaultDisk)) }
     ensures all { OnOk result (length room.new.entries ≡ count) }
     ensures bytes { room.new.bytes ≡ room.old.bytes }
     ensures rows { room.new.rows ≡ room.old.rows }
     ensures broken { IfShown V.View lot.now view.old disk.old (λ old.
-        IsReached F.ENTRY lot.now old number → IsDirectory lot.now (inode_of old number)
-        → count ≤ (inode_of old number).size → IfErr result (IsBrokenBy F.ENTRY lot.now old)) }
+        IsReached (form_of F.VERSION) lot.now old number → IsDirectory lot.now (inode_of old number)
+        → count ≤ (inode_of old number).size → IfErr result (IsBrokenBy (form_of F.VERSION) lot.now old)) }
     ensures looked { Looked D.Disk V.View lot.now view.old disk.old view.new disk.new }
     ensures faults { IfErr result IsListFault }
     ensures failed { IsErrOf result FaultDisk → Rose (D.state disk.old).faults (D.state disk.new).faults }
@@ -152,7 +153,7 @@ pub fn list<D: Disk, V: View<D>, F: Form>(
     ensures bytes { room.new.bytes ≡ [] }
     ensures rows { room.new.rows ≡ [] }
     ensures damaged { (n : ℕ) → IsErrOf result (Damaged n) → IfShown V.View lot.now view.old disk.old (λ old.
-        (r : Rule) × (n ≡ rule_number r) × IsBroken F.ENTRY lot.now old r) }
+        (r : Rule) × (n ≡ rule_number r) × IsBroken (form_of F.VERSION) lot.now old r) }
     ensures looked { Looked D.Disk V.View lot.now view.old disk.old view.new disk.new }
     ensures set { IfErr result (IsOneOf look_refusals list_rules) }
     ensures failed { IsErrOf result Fault → Rose (D.state disk.old).faults (D.state disk.new).faults }

@@ -4,10 +4,9 @@ ghost use Rattle.ice_base.specs.Disk.{Rose};
 ghost use Rattle.ice_base.specs.Lots.{is_sited};
 ghost use Rattle.ice_base.specs.Views.{Looked, IfShown};
 ghost use Rattle.ice_base.specs.declared.fault.Rule.{Rule};
-ghost use Rattle.ice_file.specs.Files.{longest_file, most_at_once};
+ghost use Rattle.tree_spec.specs.Held.{most_bytes, Held};
 ghost use Rattle.tree_spec.specs.Answers.{answer};
-ghost use Rattle.tree_spec.specs.Costs.{form_of};
-ghost use Rattle.tree_spec.specs.Held.{Held};
+ghost use Rattle.tree_spec.specs.Costs.{form_of, form_one};
 ghost use Rattle.tree_spec.specs.Operations.{Read, Stat};
 ghost use Rattle.tree_spec.specs.Replies.{meant, refused_of, Tallies};
 ghost use Rattle.tree_spec.specs.Trees.{Tree, Entries, Found, File, Dir, rows, walk};
@@ -15,7 +14,7 @@ ghost use Rattle.tree_spec.specs.Why.{Why};
 ghost use Rattle.tree_spec.specs.declared.reply.Refusal.TheVariants.{Fault, Damaged};
 ghost use Rattle.ice_reads.specs.Reads.{inode_on};
 ghost use Rattle.ice_reads.specs.Recovers.{MapRecovers};
-ghost use Rattle.ice_reads.specs.Tables.{own_in};
+ghost use Rattle.ice_map.specs.Own.{own};
 ghost use Rattle.ice_rules.specs.Rules.{rule_number};
 ghost use Rattle.ice_look.specs.Broken.{IsBroken};
 ghost use Rattle.ice_look.specs.Outcomes.{AsModel, RefusedAs, ShownBy, IsOneOf, read_refusals, look_refusals, look_rules};
@@ -52,15 +51,15 @@ pub fn file_at<D: Disk, V: View<D>, F: Form>(
         MapRecovers (form_of F.VERSION) mode lot.now old t k
         → MatchResult result (λ file. (bytes : List ℕ)
         × (walk (drop depth path.now) t ≡ Found (File bytes))
-        × (file.number ≡ inode_on (form_of F.VERSION) (own_in (form_of F.VERSION) old) 0 (drop depth path.now)) × (file.size ≡ length bytes)) (λ r. RefusedAs (refused_of r) (file_refusal (walk (drop depth path.now) t)))) }
+        × (file.number ≡ inode_on (form_of F.VERSION) (own (form_of F.VERSION) old) 0 (drop depth path.now)) × (file.size ≡ length bytes)) (λ r. RefusedAs (refused_of r) (file_refusal (walk (drop depth path.now) t)))) }
     ensures fits { IfOk result (λ file. (file.number < 64 * length lot.now.groups)
-        × (file.size ≤ longest_file)) }
+        × (file.size ≤ form_one.longest_file)) }
     ensures is { IfShown V.View lot.now view.old disk.old (λ old.
         IfOk result (λ file. PlaceIs old (AtFile file.number file.size))) }
     ensures reached { IfShown V.View lot.now view.old disk.old (λ old.
-        IfOk result (λ file. IsReached F.ENTRY lot.now old file.number)) }
+        IfOk result (λ file. IsReached (form_of F.VERSION) lot.now old file.number)) }
     ensures damaged { (n : ℕ) → IsErrOf result (Damaged n) → IfShown V.View lot.now view.old disk.old (λ old.
-        (r : Rule) × (n ≡ rule_number r) × IsBroken F.ENTRY lot.now old r) }
+        (r : Rule) × (n ≡ rule_number r) × IsBroken (form_of F.VERSION) lot.now old r) }
     ensures looked { Looked D.Disk V.View lot.now view.old disk.old view.new disk.new }
     ensures set { IfErr result (IsOneOf read_refusals look_rules) }
     ensures failed { IsErrOf result Fault → Rose (D.state disk.old).faults (D.state disk.new).faults }
@@ -95,15 +94,15 @@ pub(crate) fn dir_at<D: Disk, V: View<D>, F: Form>(
     ensures found { (mode k : ℕ) (t : Tree) → IfShown V.View lot.now view.old disk.old (λ old.
         MapRecovers (form_of F.VERSION) mode lot.now old t k
         → MatchResult result (λ dir. (es : Entries) × (walk (drop depth path.now) t ≡ Found (Dir es))
-        × (dir.number ≡ inode_on (form_of F.VERSION) (own_in (form_of F.VERSION) old) 0 (drop depth path.now)) × (dir.size ≡ length (rows es))) (λ r. RefusedAs (refused_of r) (dir_refusal (walk (drop depth path.now) t)))) }
+        × (dir.number ≡ inode_on (form_of F.VERSION) (own (form_of F.VERSION) old) 0 (drop depth path.now)) × (dir.size ≡ length (rows es))) (λ r. RefusedAs (refused_of r) (dir_refusal (walk (drop depth path.now) t)))) }
     ensures fits { IfOk result (λ dir. (dir.number < 64 * length lot.now.groups)
         × (dir.size < 64 * length lot.now.groups)) }
     ensures is { IfShown V.View lot.now view.old disk.old (λ old.
         IfOk result (λ dir. PlaceIs old (AtDir dir.number dir.size))) }
     ensures reached { IfShown V.View lot.now view.old disk.old (λ old.
-        IfOk result (λ dir. IsReached F.ENTRY lot.now old dir.number)) }
+        IfOk result (λ dir. IsReached (form_of F.VERSION) lot.now old dir.number)) }
     ensures damaged { (n : ℕ) → IsErrOf result (Damaged n) → IfShown V.View lot.now view.old disk.old (λ old.
-        (r : Rule) × (n ≡ rule_number r) × IsBroken F.ENTRY lot.now old r) }
+        (r : Rule) × (n ≡ rule_number r) × IsBroken (form_of F.VERSION) lot.now old r) }
     ensures looked { Looked D.Disk V.View lot.now view.old disk.old view.new disk.new }
     ensures set { IfErr result (IsOneOf look_refusals look_rules) }
     ensures failed { IsErrOf result Fault → Rose (D.state disk.old).faults (D.state disk.new).faults }
@@ -132,7 +131,7 @@ pub fn read<D: Disk, V: View<D>, F: Form>(
     requires sited { is_sited lot.now (D.state disk.old).size ≡ true }
     requires some { 1 ≤ length lot.now.groups }
     requires depth { depth ≤ length path.now }
-    requires few { len ≤ most_at_once }
+    requires few { len ≤ most_bytes }
     requires bytes { room.old.bytes ≡ [] }
     requires entries { room.old.entries ≡ [] }
     requires rows { room.old.rows ≡ [] }
@@ -146,7 +145,7 @@ pub fn read<D: Disk, V: View<D>, F: Form>(
     ensures entries { room.new.entries ≡ [] }
     ensures rows { room.new.rows ≡ [] }
     ensures damaged { (n : ℕ) → IsErrOf result (Damaged n) → IfShown V.View lot.now view.old disk.old (λ old.
-        (r : Rule) × (n ≡ rule_number r) × IsBroken F.ENTRY lot.now old r) }
+        (r : Rule) × (n ≡ rule_number r) × IsBroken (form_of F.VERSION) lot.now old r) }
     ensures looked { Looked D.Disk V.View lot.now view.old disk.old view.new disk.new }
     ensures set { IfErr result (IsOneOf read_refusals look_rules) }
     ensures failed { IsErrOf result Fault → Rose (D.state disk.old).faults (D.state disk.new).faults }
@@ -187,7 +186,7 @@ pub fn stat<D: Disk, V: View<D>, F: Form>(
         → (disk.new ≡ disk.old) × (view.new ≡ view.old) }
     ensures tallies { (room : Held) → Tallies result room }
     ensures damaged { (n : ℕ) → IsErrOf result (Damaged n) → IfShown V.View lot.now view.old disk.old (λ old.
-        (r : Rule) × (n ≡ rule_number r) × IsBroken F.ENTRY lot.now old r) }
+        (r : Rule) × (n ≡ rule_number r) × IsBroken (form_of F.VERSION) lot.now old r) }
     ensures looked { Looked D.Disk V.View lot.now view.old disk.old view.new disk.new }
     ensures set { IfErr result (IsOneOf look_refusals look_rules) }
     ensures failed { IsErrOf result Fault → Rose (D.state disk.old).faults (D.state disk.new).faults }

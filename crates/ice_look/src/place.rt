@@ -11,17 +11,15 @@ ghost use Rattle.ice_look.specs.Broken.{BadEntry, IsBrokenBy};
 ghost use Rattle.ice_look.specs.Places.{place_by, place_at, IsNode, Reached, PlaceFits, PlaceOf, PlaceIs, PlaceReached, PlaceNamed, IsWalkFault};
 ghost use Rattle.tree_spec.specs.Trees.{Tree, child, Found};
 ghost use Rattle.tree_spec.specs.Costs.{form_of};
-ghost use Rattle.ice_reads.specs.Tables.{own_in, rows_in, inode_named};
+ghost use Rattle.ice_map.specs.Own.{own};
+ghost use Rattle.ice_reads.specs.Tables.{rows_in, inode_named};
 ghost use Rattle.ice_reads.specs.Reads.{Reads};
 ghost use Rattle.ice_reads.specs.Recovers.{MapRecovers};
 
 use ice_base::{Disk, Form, Lot, OpFault, Rule, View};
 use ice_dir::find;
-use ice_map::get_inode;
+use ice_map::{get_inode, longest_file};
 use tree_spec::{Name, Path};
-
-/// The bytes of the longest file.
-pub const LONGEST_FILE: u32 = 274_432;
 
 /// Where a walk ends: at a file or a directory, with the number and the size of its inode, at a directory without the next name, or at a
 /// file with a name left.
@@ -43,18 +41,18 @@ pub(crate) fn look<D: Disk, V: View<D>, F: Form>(
     requires sited { is_sited lot.now (D.state disk.old).size ≡ true }
     requires number { number < 64 * length lot.now.groups }
     ensures place { (h : ℕ) (t : Tree) → IfShown V.View lot.now view.old disk.old (λ old.
-        Reads (form_of F.VERSION) lot.now (own_in (form_of F.VERSION) old) number h t
+        Reads (form_of F.VERSION) lot.now (own (form_of F.VERSION) old) number h t
         → IfOk result (λ p. p ≡ place_by number (Found t))) }
     ensures sound { (h : ℕ) (t : Tree) → IfShown V.View lot.now view.old disk.old (λ old.
-        Reads (form_of F.VERSION) lot.now (own_in (form_of F.VERSION) old) number h t
+        Reads (form_of F.VERSION) lot.now (own (form_of F.VERSION) old) number h t
         → IfErr result (λ e. e ≡ FaultDisk)) }
     ensures fits { IfOk result (PlaceFits lot.now) }
     ensures at { IfOk result (PlaceOf number) }
     ensures is { IfShown V.View lot.now view.old disk.old (λ old. IfOk result (PlaceIs old)) }
     ensures reached { IfShown V.View lot.now view.old disk.old (λ old.
-        Reached F.ENTRY lot.now old number → IfOk result (PlaceReached F.ENTRY lot.now old)) }
+        Reached (form_of F.VERSION) lot.now old number → IfOk result (PlaceReached (form_of F.VERSION) lot.now old)) }
     ensures broken { IfShown V.View lot.now view.old disk.old (λ old.
-        Reached F.ENTRY lot.now old number → IfErr result (IsBrokenBy F.ENTRY lot.now old)) }
+        Reached (form_of F.VERSION) lot.now old number → IfErr result (IsBrokenBy (form_of F.VERSION) lot.now old)) }
     ensures kind { IsErrOf result (Damaged Kind) → IfShown V.View lot.now view.old disk.old (λ old.
         ¬ IsNode lot.now (inode_of old number)) }
     ensures looked { Looked D.Disk V.View lot.now view.old disk.old view.new disk.new }
@@ -63,7 +61,8 @@ pub(crate) fn look<D: Disk, V: View<D>, F: Form>(
 {
     let inode = get_inode::<D, V, F>(view, disk, lot, number)?;
     let size = inode.size;
-    if inode.kind == 1 && size <= LONGEST_FILE {
+    let longest = longest_file::<F>();
+    if inode.kind == 1 && size <= longest {
         return Ok(Place::File { number, size });
     }
     if inode.kind == 2 && size < 64 * lot.len() as u32 {
@@ -81,20 +80,20 @@ pub(crate) fn enter<D: Disk, V: View<D>, F: Form>(
 ) -> Result<Place, OpFault>
     requires sited { is_sited lot.now (D.state disk.old).size ≡ true }
     ensures place { (h : ℕ) (t : Tree) → IfShown V.View lot.now view.old disk.old (λ old.
-        Reads (form_of F.VERSION) lot.now (own_in (form_of F.VERSION) old) number h t
+        Reads (form_of F.VERSION) lot.now (own (form_of F.VERSION) old) number h t
         → IfOk result (λ p. p ≡ place_by number (Found t))) }
     ensures sound { (h : ℕ) (t : Tree) → IfShown V.View lot.now view.old disk.old (λ old.
-        Reads (form_of F.VERSION) lot.now (own_in (form_of F.VERSION) old) number h t
+        Reads (form_of F.VERSION) lot.now (own (form_of F.VERSION) old) number h t
         → IfErr result (λ e. e ≡ FaultDisk)) }
     ensures fits { IfOk result (PlaceFits lot.now) }
     ensures at { IfOk result (PlaceOf number) }
     ensures is { IfShown V.View lot.now view.old disk.old (λ old. IfOk result (PlaceIs old)) }
     ensures reached { IfShown V.View lot.now view.old disk.old (λ old.
-        Reached F.ENTRY lot.now old number → IfOk result (PlaceReached F.ENTRY lot.now old)) }
+        Reached (form_of F.VERSION) lot.now old number → IfOk result (PlaceReached (form_of F.VERSION) lot.now old)) }
     ensures broken { IfShown V.View lot.now view.old disk.old (λ old.
-        Reached F.ENTRY lot.now old number
-        → (64 * length lot.now.groups ≤ number → BadEntry F.ENTRY lot.now old)
-        → IfErr result (IsBrokenBy F.ENTRY lot.now old)) }
+        Reached (form_of F.VERSION) lot.now old number
+        → (64 * length lot.now.groups ≤ number → BadEntry (form_of F.VERSION) lot.now old)
+        → IfErr result (IsBrokenBy (form_of F.VERSION) lot.now old)) }
     ensures looked { Looked D.Disk V.View lot.now view.old disk.old view.new disk.new }
     ensures faults { IfErr result IsWalkFault }
     ensures failed { IsErrOf result FaultDisk → Rose (D.state disk.old).faults (D.state disk.new).faults }
@@ -114,20 +113,20 @@ pub(crate) fn enter_named<D: Disk, V: View<D>, F: Form>(
 ) -> Result<Place, OpFault>
     requires sited { is_sited lot.now (D.state disk.old).size ≡ true }
     ensures place { (h : ℕ) (t : Tree) → IfShown V.View lot.now view.old disk.old (λ old.
-        number ≢ 0 → Reads (form_of F.VERSION) lot.now (own_in (form_of F.VERSION) old) number h t
+        number ≢ 0 → Reads (form_of F.VERSION) lot.now (own (form_of F.VERSION) old) number h t
         → IfOk result (λ p. p ≡ place_by number (Found t))) }
     ensures sound { (h : ℕ) (t : Tree) → IfShown V.View lot.now view.old disk.old (λ old.
-        number ≢ 0 → Reads (form_of F.VERSION) lot.now (own_in (form_of F.VERSION) old) number h t
+        number ≢ 0 → Reads (form_of F.VERSION) lot.now (own (form_of F.VERSION) old) number h t
         → IfErr result (λ e. e ≡ FaultDisk)) }
     ensures fits { IfOk result (PlaceFits lot.now) }
     ensures at { IfOk result (PlaceOf number) }
     ensures is { IfShown V.View lot.now view.old disk.old (λ old. IfOk result (PlaceIs old)) }
     ensures reached { IfShown V.View lot.now view.old disk.old (λ old.
-        Reached F.ENTRY lot.now old number → IfOk result (PlaceReached F.ENTRY lot.now old)) }
+        Reached (form_of F.VERSION) lot.now old number → IfOk result (PlaceReached (form_of F.VERSION) lot.now old)) }
     ensures broken { IfShown V.View lot.now view.old disk.old (λ old.
-        Reached F.ENTRY lot.now old number
-        → ((number ≡ 0) ⊎ (64 * length lot.now.groups ≤ number) → BadEntry F.ENTRY lot.now old)
-        → IfErr result (IsBrokenBy F.ENTRY lot.now old)) }
+        Reached (form_of F.VERSION) lot.now old number
+        → ((number ≡ 0) ⊎ (64 * length lot.now.groups ≤ number) → BadEntry (form_of F.VERSION) lot.now old)
+        → IfErr result (IsBrokenBy (form_of F.VERSION) lot.now old)) }
     ensures looked { Looked D.Disk V.View lot.now view.old disk.old view.new disk.new }
     ensures faults { IfErr result IsWalkFault }
     ensures failed { IsErrOf result FaultDisk → Rose (D.state disk.old).faults (D.state disk.new).faults }
@@ -149,25 +148,25 @@ pub(crate) fn step<D: Disk, V: View<D>, F: Form>(
     requires sited { is_sited lot.now (D.state disk.old).size ≡ true }
     requires fits { PlaceFits lot.now from }
     ensures place { (i h : ℕ) (t : Tree) → IfShown V.View lot.now view.old disk.old (λ old.
-        Reads (form_of F.VERSION) lot.now (own_in (form_of F.VERSION) old) i h t
-        → from ≡ place_by i (Found t) → PlaceReached F.ENTRY lot.now old from
-        → ¬ BadEntry F.ENTRY lot.now old
-        → IfOk result (λ p. p ≡ place_by (inode_named name.now (rows_in (form_of F.VERSION) (own_in (form_of F.VERSION) old i))) (child name.now t))) }
+        Reads (form_of F.VERSION) lot.now (own (form_of F.VERSION) old) i h t
+        → from ≡ place_by i (Found t) → PlaceReached (form_of F.VERSION) lot.now old from
+        → ¬ BadEntry (form_of F.VERSION) lot.now old
+        → IfOk result (λ p. p ≡ place_by (inode_named name.now (rows_in (form_of F.VERSION) (own (form_of F.VERSION) old i))) (child name.now t))) }
     ensures sound { (i h : ℕ) (t : Tree) → IfShown V.View lot.now view.old disk.old (λ old.
-        Reads (form_of F.VERSION) lot.now (own_in (form_of F.VERSION) old) i h t
-        → from ≡ place_by i (Found t) → PlaceReached F.ENTRY lot.now old from
-        → ¬ BadEntry F.ENTRY lot.now old → IfErr result (λ e. e ≡ FaultDisk)) }
+        Reads (form_of F.VERSION) lot.now (own (form_of F.VERSION) old) i h t
+        → from ≡ place_by i (Found t) → PlaceReached (form_of F.VERSION) lot.now old from
+        → ¬ BadEntry (form_of F.VERSION) lot.now old → IfErr result (λ e. e ≡ FaultDisk)) }
     ensures missing { from ≡ Missing → result ≡ Ok Missing }
     ensures blocked { from ≡ Blocked → result ≡ Ok Blocked }
     ensures fits { IfOk result (PlaceFits lot.now) }
     ensures is { IfShown V.View lot.now view.old disk.old (λ old. IfOk result (PlaceIs old)) }
     ensures reached { IfShown V.View lot.now view.old disk.old (λ old.
-        PlaceReached F.ENTRY lot.now old from → IfOk result (PlaceReached F.ENTRY lot.now old)) }
+        PlaceReached (form_of F.VERSION) lot.now old from → IfOk result (PlaceReached (form_of F.VERSION) lot.now old)) }
     ensures named { IfShown V.View lot.now view.old disk.old (λ old.
-        IfOk result (PlaceNamed F.ENTRY old from name.now)) }
+        IfOk result (PlaceNamed (form_of F.VERSION) old from name.now)) }
     ensures broken { IfShown V.View lot.now view.old disk.old (λ old.
-        PlaceIs old from → PlaceReached F.ENTRY lot.now old from
-        → IfErr result (IsBrokenBy F.ENTRY lot.now old)) }
+        PlaceIs old from → PlaceReached (form_of F.VERSION) lot.now old from
+        → IfErr result (IsBrokenBy (form_of F.VERSION) lot.now old)) }
     ensures looked { Looked D.Disk V.View lot.now view.old disk.old view.new disk.new }
     ensures faults { IfErr result IsWalkFault }
     ensures failed { IsErrOf result FaultDisk → Rose (D.state disk.old).faults (D.state disk.new).faults }
@@ -199,15 +198,15 @@ pub(crate) fn walk<D: Disk, V: View<D>, F: Form>(
     requires within { end ≤ length path.now }
     ensures place { (mode k : ℕ) (t : Tree) → IfShown V.View lot.now view.old disk.old (λ old.
         MapRecovers (form_of F.VERSION) mode lot.now old t k
-        → IfOk result (λ p. p ≡ place_at (form_of F.VERSION) (own_in (form_of F.VERSION) old) (take (end - depth) (drop depth path.now)) t)) }
+        → IfOk result (λ p. p ≡ place_at (form_of F.VERSION) (own (form_of F.VERSION) old) (take (end - depth) (drop depth path.now)) t)) }
     ensures sound { (mode k : ℕ) (t : Tree) → IfShown V.View lot.now view.old disk.old (λ old.
         MapRecovers (form_of F.VERSION) mode lot.now old t k → IfErr result (λ e. e ≡ FaultDisk)) }
     ensures fits { IfOk result (PlaceFits lot.now) }
     ensures is { IfShown V.View lot.now view.old disk.old (λ old. IfOk result (PlaceIs old)) }
     ensures reached { IfShown V.View lot.now view.old disk.old (λ old.
-        IfOk result (PlaceReached F.ENTRY lot.now old)) }
+        IfOk result (PlaceReached (form_of F.VERSION) lot.now old)) }
     ensures broken { IfShown V.View lot.now view.old disk.old (λ old.
-        IfErr result (IsBrokenBy F.ENTRY lot.now old)) }
+        IfErr result (IsBrokenBy (form_of F.VERSION) lot.now old)) }
     ensures looked { Looked D.Disk V.View lot.now view.old disk.old view.new disk.new }
     ensures faults { IfErr result IsWalkFault }
     ensures failed { IsErrOf result FaultDisk → Rose (D.state disk.old).faults (D.state disk.new).faults }

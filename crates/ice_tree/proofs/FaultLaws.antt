@@ -15,6 +15,7 @@ use Rattle.tree_spec.specs.declared.reply.Refusal.TheVariants as code
 use Rattle.ice_reads.proofs.Focus.{same_Some, None≢Some}
 use Rattle.ice_look.specs.Broken.{IsBroken, IsBrokenBy, IsFaultBy}
 use Rattle.ice_rules.specs.Rules.{rule_number}
+use Rattle.tree_spec.specs.Costs.{Form}
 use Rattle.ice_tree.specs.Outcomes.{IsNamedIn, sub_rules, IsCountFault}
 
 -- what a failed call says of its fault
@@ -83,8 +84,8 @@ sub-named slot bytes r h = by r (sub-names slot bytes r h)
 no_true : false ≡ true → ⊥
 no_true h = cc
 
-module _ (entry : ℕ) (lot : LotView) (m : ℕ → List ℕ) where
-  sub-broken : (r : Rule) → sub_rule lot.slot (m sub_address) ≡ Some r → IsBroken entry lot m r
+module _ (form : Form) (lot : LotView) (m : ℕ → List ℕ) where
+  sub-broken : (r : Rule) → sub_rule lot.slot (m sub_address) ≡ Some r → IsBroken form lot m r
   sub-broken rule.Magic h = h
   sub-broken rule.Version h = h
   sub-broken rule.Slot h = h
@@ -102,7 +103,7 @@ module _ (entry : ℕ) (lot : LotView) (m : ℕ → List ℕ) where
   sub-broken rule.Header h = absurd (sub-names lot.slot (m sub_address) rule.Header h)
 
   -- a look at the sub-super block
-  pub sub-fault : (e : OpFault) → IsNamedIn sub_rules e → ((r : Rule) → e ≡ Damaged r → sub_rule lot.slot (m sub_address) ≡ Some r) → IsBrokenBy entry lot m e
+  pub sub-fault : (e : OpFault) → IsNamedIn sub_rules e → ((r : Rule) → e ≡ Damaged r → sub_rule lot.slot (m sub_address) ≡ Some r) → IsBrokenBy form lot m e
   sub-fault Disk h named = tt
   sub-fault (Damaged r) h named = sub-broken r (named r refl)
   sub-fault NoSpace h named = absurd (no_true h)

@@ -10,35 +10,37 @@ use Rattle.ice_map.specs.Inodes.{inode_of}
 use Rattle.ice_map.specs.Maps.{cut_off, FreeOrTwice, Misleads}
 use Rattle.ice_map.proofs.UsesLaws.{free-or, off-free}
 use Rattle.ice_file.proofs.WriteLaws.{count-less}
-use Rattle.ice_file.specs.Files.{longest_file, ReachesTo, IsWriteFault, IsCutToFault}
-use Rattle.ice_file.specs.Own.{blocks_for, Confuses}
-use Rattle.ice_file.specs.Writes.{uses_of, blocks_with}
+use Rattle.ice_file.specs.Files.{ReachesTo, IsWriteFault, IsCutToFault}
+use Rattle.ice_map.specs.Own.{blocks_for, Confuses}
+use Rattle.ice_map.specs.Moves.{uses_of}
+use Rattle.ice_file.specs.Writes.{blocks_with}
 use Rattle.ice_reads.specs.Tables.{Map}
 use Rattle.ice_look.specs.Broken.{IsBrokenBy, IsFaultBy}
 use Rattle.ice_tree.specs.Writes.{BytesFit}
 use Rattle.ice_tree.specs.Removes.{LooseBroken}
 use Rattle.ice_look.specs.Places.{IsReached}
 use Rattle.ice_look.proofs.MapDamage.{map-file, few-counted, bad-pointer, bad-bitmap, bad-map}
+use Rattle.tree_spec.specs.Costs.{Form, form_one}
 use Rattle.ice_tree.proofs.MapDamage.{file-few}
 
 -- bytes can't be put
-pub write-blamed : (entry : ℕ) (lot : LotView) (m : Map) (at end number : ℕ) → length lot.groups ≤ 64 → end ≤ longest_file → BytesFit entry lot m at end number → (e : OpFault) → IsWriteFault e
+pub write-blamed : (form : Form) (lot : LotView) (m : Map) (at end number : ℕ) → length lot.groups ≤ 64 → end ≤ form_one.longest_file → BytesFit form lot m at end number → (e : OpFault) → IsWriteFault e
     → (e ≡ NoSpace → free_count false lot m + uses_of (blocks_for (inode_of m number).size) < uses_of (blocks_with (inode_of m number).size end))
     → (e ≡ Damaged Counts → 2 ^ 32 + uses_of (blocks_for (inode_of m number).size) ≤ counted false m + uses_of (blocks_with (inode_of m number).size end))
     → (e ≡ Damaged Kind → ¬ ReachesTo at (inode_of m number)) → (e ≡ Damaged Bitmap → ¬ Reserved lot m)
     → (e ≡ Damaged Pointer → Confuses lot m (inode_of m number) (blocks_for (inode_of m number).size))
-    → IsBrokenBy entry lot m e
-write-blamed entry lot m at end number few short fits Disk h none full kind bitmap pointer = tt
-write-blamed entry lot m at end number few short fits NoSpace h none full kind bitmap pointer = absurd (omega (arith, none refl, fits.blocks))
-write-blamed entry lot m at end number few short fits (Damaged Counts) h none full kind bitmap pointer =
+    → IsBrokenBy form lot m e
+write-blamed form lot m at end number few short fits Disk h none full kind bitmap pointer = tt
+write-blamed form lot m at end number few short fits NoSpace h none full kind bitmap pointer = absurd (omega (arith, none refl, fits.blocks))
+write-blamed form lot m at end number few short fits (Damaged Counts) h none full kind bitmap pointer =
     let small = fits.file_is.reaches.small in
     inl (record { inodes = false; many = omega (arith, few, full refl, file-few (max (inode_of m number).size end) (omega arith)) })
-write-blamed entry lot m at end number few short fits (Damaged Kind) h none full kind bitmap pointer = absurd (kind refl fits.file_is.reaches)
-write-blamed entry lot m at end number few short fits (Damaged Pointer) h none full kind bitmap pointer =
+write-blamed form lot m at end number few short fits (Damaged Kind) h none full kind bitmap pointer = absurd (kind refl fits.file_is.reaches)
+write-blamed form lot m at end number few short fits (Damaged Pointer) h none full kind bitmap pointer =
     let is = fits.file_is.reaches in
-    bad-map entry lot m number (blocks_for (inode_of m number).size) fits.file_is.reached (inl (is.kind, is.small)) (map-file entry (inode_of m number) is.kind) (pointer refl)
-write-blamed entry lot m at end number few short fits (Damaged Bitmap) h none full kind bitmap pointer = inl (bitmap refl)
-write-blamed entry lot m at end number few short fits _ h none full kind bitmap pointer = absurd h
+    bad-map form lot m number (blocks_for (inode_of m number).size) fits.file_is.reached (inl (is.kind, is.small)) (map-file form (inode_of m number) is.kind) (pointer refl)
+write-blamed form lot m at end number few short fits (Damaged Bitmap) h none full kind bitmap pointer = inl (bitmap refl)
+write-blamed form lot m at end number few short fits _ h none full kind bitmap pointer = absurd h
 
 -- a file can't be cut: what is damaged of it, whether or not a directory names it
 pub cut-loose : (lot : LotView) (m : Map) (len number : ℕ) → ReachesTo len (inode_of m number) → (e : OpFault) → IsCutToFault e
@@ -55,11 +57,11 @@ cut-loose lot m len number file (Damaged Pointer) f kind zero unused placed misl
 cut-loose lot m len number file _ f kind zero unused placed misled = absurd f
 
 -- where one does, the lot breaks that rule
-pub loose-blamed : (entry : ℕ) (lot : LotView) (m : Map) (number : ℕ) → IsReached entry lot m number → (e : OpFault) → IsFaultBy (LooseBroken lot m number) e → IsBrokenBy entry lot m e
-loose-blamed entry lot m number reached Disk h = tt
-loose-blamed entry lot m number reached (Damaged Counts) (inl h) = inr (inr (few-counted entry lot m number (blocks_for (inode_of m number).size) reached (inl (h.0, h.1)) (map-file entry (inode_of m number) h.0) h.2))
-loose-blamed entry lot m number reached (Damaged Counts) (inr h) = inr (inl h)
-loose-blamed entry lot m number reached (Damaged Pointer) h = inl (bad-pointer entry lot m number (blocks_for (inode_of m number).size) reached (inl (h.0, h.1)) (map-file entry (inode_of m number) h.0) h.2)
-loose-blamed entry lot m number reached (Damaged Bitmap) (inl h) = bad-bitmap entry lot m number (blocks_for (inode_of m number).size) reached (inl (h.0, h.1)) (map-file entry (inode_of m number) h.0) h.3
-loose-blamed entry lot m number reached (Damaged Bitmap) (inr h) = inr (inr (inl (record { number = number; reached = reached; free = h })))
-loose-blamed entry lot m number reached _ h = absurd h
+pub loose-blamed : (form : Form) (lot : LotView) (m : Map) (number : ℕ) → IsReached form lot m number → (e : OpFault) → IsFaultBy (LooseBroken lot m number) e → IsBrokenBy form lot m e
+loose-blamed form lot m number reached Disk h = tt
+loose-blamed form lot m number reached (Damaged Counts) (inl h) = inr (inr (few-counted form lot m number (blocks_for (inode_of m number).size) reached (inl (h.0, h.1)) (map-file form (inode_of m number) h.0) h.2))
+loose-blamed form lot m number reached (Damaged Counts) (inr h) = inr (inl h)
+loose-blamed form lot m number reached (Damaged Pointer) h = inl (bad-pointer form lot m number (blocks_for (inode_of m number).size) reached (inl (h.0, h.1)) (map-file form (inode_of m number) h.0) h.2)
+loose-blamed form lot m number reached (Damaged Bitmap) (inl h) = bad-bitmap form lot m number (blocks_for (inode_of m number).size) reached (inl (h.0, h.1)) (map-file form (inode_of m number) h.0) h.3
+loose-blamed form lot m number reached (Damaged Bitmap) (inr h) = inr (inr (inl (record { number = number; reached = reached; free = h })))
+loose-blamed form lot m number reached _ h = absurd h

@@ -2,7 +2,8 @@ use Rattle.std.proofs.Common.{◌≡◌, ℕ, length, take, map}
 use Rattle.ice_base.specs.Views.{Looked}
 use Rattle.tree_spec.specs.Trees.{Entries, Dir, rows}
 use Rattle.tree_spec.specs.Costs.{form_of}
-use Rattle.ice_reads.specs.Tables.{own_in, rows_in}
+use Rattle.ice_map.specs.Own.{own}
+use Rattle.ice_reads.specs.Tables.{rows_in}
 use Rattle.ice_reads.specs.Reads.{Reads}
 use Rattle.ice_look.specs.Broken.{BadEntry}
 use Rattle.ice_look.specs.Places.{IsReached}
@@ -16,6 +17,6 @@ invariant-loop-k g l = record {
   all : length l.room.entries ≡ l.k;
   bytes : l.room.bytes ≡ l.fn.room.bytes;
   cube_rows : l.room.rows ≡ l.fn.room.rows;
-  listed : (h : ℕ) (es : Entries) → g.V.View.shows l.lot l.fn.view l.fn.disk → Reads (form_of g.F.Form.VERSION) l.lot (own_in (form_of g.F.Form.VERSION) (g.V.View.map l.fn.view l.fn.disk l.lot)) l.number h (Dir es) → l.count ≡ length (rows es)
-      → IsReached g.F.Form.ENTRY l.lot (g.V.View.map l.fn.view l.fn.disk l.lot) l.number → ¬ BadEntry g.F.Form.ENTRY l.lot (g.V.View.map l.fn.view l.fn.disk l.lot) → l.room.entries ≡ map (listed_as es) (take l.k (rows_in (form_of g.F.Form.VERSION) (own_in (form_of g.F.Form.VERSION) (g.V.View.map l.fn.view l.fn.disk l.lot) l.number)));
+  listed : (h : ℕ) (es : Entries) → g.V.View.shows l.lot l.fn.view l.fn.disk → Reads (form_of g.F.Form.VERSION) l.lot (own (form_of g.F.Form.VERSION) (g.V.View.map l.fn.view l.fn.disk l.lot)) l.number h (Dir es) → l.count ≡ length (rows es)
+      → IsReached (form_of g.F.Form.VERSION) l.lot (g.V.View.map l.fn.view l.fn.disk l.lot) l.number → ¬ BadEntry (form_of g.F.Form.VERSION) l.lot (g.V.View.map l.fn.view l.fn.disk l.lot) → l.room.entries ≡ map (listed_as es) (take l.k (rows_in (form_of g.F.Form.VERSION) (own (form_of g.F.Form.VERSION) (g.V.View.map l.fn.view l.fn.disk l.lot) l.number)));
 }

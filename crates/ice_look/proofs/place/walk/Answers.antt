@@ -3,7 +3,8 @@ use Rattle.std.proofs.lemmas.Result.{err_from_is_err_and}
 use Rattle.ice_base.specs.declared.fault.OpFault.TheVariants.{Disk as FaultDisk}
 use Rattle.tree_spec.specs.Trees.{Tree, Found, child}
 use Rattle.tree_spec.specs.Costs.{form_of}
-use Rattle.ice_reads.specs.Tables.{own_in, rows_in, inode_named}
+use Rattle.ice_map.specs.Own.{own}
+use Rattle.ice_reads.specs.Tables.{rows_in, inode_named}
 use Rattle.ice_reads.specs.Reads.{Reads}
 use Rattle.ice_look.specs.Broken.{BadEntry, IsBrokenBy}
 use Rattle.ice_look.proofs.SoundLaws.{no-bad-entry}
@@ -19,12 +20,12 @@ returns-in_err-place-2-clause-sound g c = λ mode k t s recovers.
     let f = form_of g.F.Form.VERSION in
     let i = c.loop-k.invariant in
     rw (p.1, p.2)
-    (next-fault f c.args.lot.now (own_in f (g.V.View.map c.args.view.now c.args.disk.now c.args.lot.now)) (take (c.loop-k.k - c.args.depth) (drop c.args.depth c.args.path.now)) t c.loop-k.place _
+    (next-fault f c.args.lot.now (own f (g.V.View.map c.args.view.now c.args.disk.now c.args.lot.now)) (take (c.loop-k.k - c.args.depth) (drop c.args.depth c.args.path.now)) t c.loop-k.place _
     recovers.holds.reads (i.place mode k t s recovers)
-    (subst (λ (m : ℕ → List ℕ). (i h : ℕ) (u : Tree) → Reads f c.args.lot.now (own_in f m) i h u → c.loop-k.place ≡ place_by i (Found u) → c.in_err-place-2.field-0.0 ≡ FaultDisk) i.looked.map
+    (subst (λ (m : ℕ → List ℕ). (i h : ℕ) (u : Tree) → Reads f c.args.lot.now (own f m) i h u → c.loop-k.place ≡ place_by i (Found u) → c.in_err-place-2.field-0.0 ≡ FaultDisk) i.looked.map
     (λ i' h u r is. e.sound i' h u (i.looked.shows s) r is
-    (subst (λ (m : ℕ → List ℕ). PlaceReached g.F.Form.ENTRY c.args.lot.now m c.loop-k.place) (sym i.looked.map) (i.reached s))
-    (λ b. no-bad-entry f (ap form_of g.F.Form.is_one.0) g.F.Form.ENTRY g.F.Form.is_one.1 mode c.args.lot.now (g.V.View.map c.args.view.now c.args.disk.now c.args.lot.now) t k recovers (subst (BadEntry g.F.Form.ENTRY c.args.lot.now) i.looked.map b))))
+    (subst (λ (m : ℕ → List ℕ). PlaceReached (form_of g.F.Form.VERSION) c.args.lot.now m c.loop-k.place) (sym i.looked.map) (i.reached s))
+    (λ b. no-bad-entry f (ap form_of g.F.Form.is_one.0) (form_of g.F.Form.VERSION) (ap form_of g.F.Form.is_one.0) mode c.args.lot.now (g.V.View.map c.args.view.now c.args.disk.now c.args.lot.now) t k recovers (subst (BadEntry (form_of g.F.Form.VERSION) c.args.lot.now) i.looked.map b))))
     e.missing e.blocked)
 
 pub returns-in_err-place-clause-broken : goal.returns-in_err-place-clause-broken
@@ -42,7 +43,7 @@ loop-k-init g c = record {
   place = λ mode done t s recovers.
       let f = form_of g.F.Form.VERSION in
       let none : c.args.depth - c.args.depth ≡ 0 = omega arith in
-      c.in_ok-place.ensures.place 0 t s recovers.holds.reads ∙ ap (λ n. place_at f (own_in f (g.V.View.map c.args.view.now c.args.disk.now c.args.lot.now)) (take n (drop c.args.depth c.args.path.now)) t) (sym none);
+      c.in_ok-place.ensures.place 0 t s recovers.holds.reads ∙ ap (λ n. place_at f (own f (g.V.View.map c.args.view.now c.args.disk.now c.args.lot.now)) (take n (drop c.args.depth c.args.path.now)) t) (sym none);
 }
 
 pub returns-in_err-place-2-clause-broken : goal.returns-in_err-place-2-clause-broken
@@ -51,9 +52,9 @@ returns-in_err-place-2-clause-broken g c = λ s.
     let e = c.in_err-place-2.ensures in
     let i = c.loop-k.invariant in
     rw (p.1, p.2)
-    (subst (λ (m : ℕ → List ℕ). IsBrokenBy g.F.Form.ENTRY c.args.lot.now m c.in_err-place-2.field-0.0) i.looked.map
+    (subst (λ (m : ℕ → List ℕ). IsBrokenBy (form_of g.F.Form.VERSION) c.args.lot.now m c.in_err-place-2.field-0.0) i.looked.map
     (e.broken (i.looked.shows s) (subst (λ (m : ℕ → List ℕ). PlaceIs m c.loop-k.place) (sym i.looked.map) (i.is s))
-    (subst (λ (m : ℕ → List ℕ). PlaceReached g.F.Form.ENTRY c.args.lot.now m c.loop-k.place) (sym i.looked.map) (i.reached s))))
+    (subst (λ (m : ℕ → List ℕ). PlaceReached (form_of g.F.Form.VERSION) c.args.lot.now m c.loop-k.place) (sym i.looked.map) (i.reached s))))
 
 pub loop-k-preserved : goal.loop-k-preserved
 loop-k-preserved g c =
@@ -64,18 +65,18 @@ loop-k-preserved g c =
       looked = search rules;
       fits = e.fits;
       is = λ s. subst (λ (m : ℕ → List ℕ). PlaceIs m c.in_ok-place-2.place) i.looked.map (e.is (i.looked.shows s));
-      reached = λ s. subst (λ (m : ℕ → List ℕ). PlaceReached g.F.Form.ENTRY c.args.lot.now m c.in_ok-place-2.place) i.looked.map
-          (e.reached (i.looked.shows s) (subst (λ (m : ℕ → List ℕ). PlaceReached g.F.Form.ENTRY c.args.lot.now m c.loop-k.place) (sym i.looked.map) (i.reached s)));
+      reached = λ s. subst (λ (m : ℕ → List ℕ). PlaceReached (form_of g.F.Form.VERSION) c.args.lot.now m c.in_ok-place-2.place) i.looked.map
+          (e.reached (i.looked.shows s) (subst (λ (m : ℕ → List ℕ). PlaceReached (form_of g.F.Form.VERSION) c.args.lot.now m c.loop-k.place) (sym i.looked.map) (i.reached s)));
       from = omega arith;
       place = λ mode done t s recovers.
-          next-place f c.args.lot.now (own_in f (g.V.View.map c.args.view.now c.args.disk.now c.args.lot.now)) (take (c.loop-k.k - c.args.depth) (drop c.args.depth c.args.path.now)) c.name-name.result t c.loop-k.place c.in_ok-place-2.place
+          next-place f c.args.lot.now (own f (g.V.View.map c.args.view.now c.args.disk.now c.args.lot.now)) (take (c.loop-k.k - c.args.depth) (drop c.args.depth c.args.path.now)) c.name-name.result t c.loop-k.place c.in_ok-place-2.place
           recovers.holds.reads (i.place mode done t s recovers)
-          (subst (λ (m : ℕ → List ℕ). (i h : ℕ) (u : Tree) → Reads f c.args.lot.now (own_in f m) i h u → c.loop-k.place ≡ place_by i (Found u) → c.in_ok-place-2.place ≡ place_by (inode_named c.name-name.result (rows_in f (own_in f m i))) (child c.name-name.result u)) i.looked.map
+          (subst (λ (m : ℕ → List ℕ). (i h : ℕ) (u : Tree) → Reads f c.args.lot.now (own f m) i h u → c.loop-k.place ≡ place_by i (Found u) → c.in_ok-place-2.place ≡ place_by (inode_named c.name-name.result (rows_in f (own f m i))) (child c.name-name.result u)) i.looked.map
           (λ i' h u r is. e.place i' h u (i.looked.shows s) r is
-          (subst (λ (m : ℕ → List ℕ). PlaceReached g.F.Form.ENTRY c.args.lot.now m c.loop-k.place) (sym i.looked.map) (i.reached s))
-          (λ b. no-bad-entry f (ap form_of g.F.Form.is_one.0) g.F.Form.ENTRY g.F.Form.is_one.1 mode c.args.lot.now (g.V.View.map c.args.view.now c.args.disk.now c.args.lot.now) t done recovers (subst (BadEntry g.F.Form.ENTRY c.args.lot.now) i.looked.map b))))
+          (subst (λ (m : ℕ → List ℕ). PlaceReached (form_of g.F.Form.VERSION) c.args.lot.now m c.loop-k.place) (sym i.looked.map) (i.reached s))
+          (λ b. no-bad-entry f (ap form_of g.F.Form.is_one.0) (form_of g.F.Form.VERSION) (ap form_of g.F.Form.is_one.0) mode c.args.lot.now (g.V.View.map c.args.view.now c.args.disk.now c.args.lot.now) t done recovers (subst (BadEntry (form_of g.F.Form.VERSION) c.args.lot.now) i.looked.map b))))
           e.missing e.blocked
-          ∙ ap (λ n. place_at f (own_in f (g.V.View.map c.args.view.now c.args.disk.now c.args.lot.now)) n t) (sym (names-next c.args.path.now c.args.depth c.loop-k.k c.name-name.result i.from (omega arith) (c.name-name.ensures [])));
+          ∙ ap (λ n. place_at f (own f (g.V.View.map c.args.view.now c.args.disk.now c.args.lot.now)) n t) (sym (names-next c.args.path.now c.args.depth c.loop-k.k c.name-name.result i.from (omega arith) (c.name-name.ensures [])));
     }
 
 pub returns-clause-place : goal.returns-clause-place
@@ -83,4 +84,4 @@ returns-clause-place g c = λ mode k t s recovers.
     let f = form_of g.F.Form.VERSION in
     let end : c.loop-k.k ≡ c.args.end = omega arith in
     c.loop-k.invariant.place mode k t s recovers
-    ∙ ap (λ n. place_at f (own_in f (g.V.View.map c.args.view.now c.args.disk.now c.args.lot.now)) (take (n - c.args.depth) (drop c.args.depth c.args.path.now)) t) end
+    ∙ ap (λ n. place_at f (own f (g.V.View.map c.args.view.now c.args.disk.now c.args.lot.now)) (take (n - c.args.depth) (drop c.args.depth c.args.path.now)) t) end

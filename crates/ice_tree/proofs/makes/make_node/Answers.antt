@@ -51,6 +51,6 @@ returns-in-Err-put_new-clause-damaged g c = λ n named s.
     let lot = c.args.lot.now in
     let m0 = g.K.View.map c.args.keep.now c.args.disk.now lot in
     let looked = c.check_new.ensures.looked in
-    let fits = subst (λ (m : Map). NewFits g.F.Form.ENTRY lot m c.in-Ok.spot) (sym looked.map) (c.in-Ok.ensures.ready s) in
-    fault-names (IsBroken g.F.Form.ENTRY lot m0) c.in-Err-put_new.fault c.refusal_of.result c.refusal_of.ensures
-    (subst (λ (m : Map). IsBrokenBy g.F.Form.ENTRY lot m c.in-Err-put_new.fault) looked.map (c.in-Err-put_new.ensures.broken (looked.shows s) fits)) n named
+    let fits = subst (λ (m : Map). NewFits (form_of g.F.Form.VERSION) lot m c.in-Ok.spot) (sym looked.map) (c.in-Ok.ensures.ready s) in
+    fault-names (IsBroken (form_of g.F.Form.VERSION) lot m0) c.in-Err-put_new.fault c.refusal_of.result c.refusal_of.ensures
+    (subst (λ (m : Map). IsBrokenBy (form_of g.F.Form.VERSION) lot m c.in-Err-put_new.fault) looked.map (c.in-Err-put_new.ensures.broken (looked.shows s) fits)) n named

@@ -81,11 +81,11 @@ returns-in-Err-put_away-clause-damaged g c = λ n named s.
     let m1 : ℕ → List ℕ = g.K.View.map c.may_remove.new.keep c.may_remove.new.disk lot in
     let looked = c.may_remove.ensures.looked in
     let last = last_name (drop c.args.depth c.args.path.now) in
-    let is = gone-after g.F.Form.ENTRY lot m0 m1 last c.last_of-name.result c.in-Ok.gone looked.map c.last_of-name.ensures.last (c.in-Ok.ensures.is s) in
+    let is = gone-after (form_of g.F.Form.VERSION) lot m0 m1 last c.last_of-name.result c.in-Ok.gone looked.map c.last_of-name.ensures.last (c.in-Ok.ensures.is s) in
     let room = subst (λ (m : ℕ → List ℕ). CanCount m) (sym looked.map) (c.in-Ok.ensures.room s) in
     let broken = c.in-Err-put_away.ensures.broken (looked.shows s) is room in
-    fault-names (IsBroken g.F.Form.ENTRY lot m0) c.in-Err-put_away.fault c.refusal_of.result c.refusal_of.ensures
-    (subst (λ (m : ℕ → List ℕ). IsBrokenBy g.F.Form.ENTRY lot m c.in-Err-put_away.fault) looked.map broken) n named
+    fault-names (IsBroken (form_of g.F.Form.VERSION) lot m0) c.in-Err-put_away.fault c.refusal_of.result c.refusal_of.ensures
+    (subst (λ (m : ℕ → List ℕ). IsBrokenBy (form_of g.F.Form.VERSION) lot m c.in-Err-put_away.fault) looked.map broken) n named
 
 pub returns-in-Ok-put_away-clause-freed : goal.returns-in-Ok-put_away-clause-freed
 returns-in-Ok-put_away-clause-freed g c = λ mode k t s r.

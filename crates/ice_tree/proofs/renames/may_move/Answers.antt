@@ -74,29 +74,29 @@ returns-in-Ok-check_quota-clause-room g c = λ s.
     let looked = c.find_move.ensures.looked in
     let few = sited-few c.args.lot.now _ c.requires.sited in
     let fits = c.in-Ok.ensures.fits in
-    row-fits g.F.Form.ENTRY c.args.lot.now m (form_of g.F.Form.VERSION) (ap form_of g.F.Form.is_one.0) g.F.Form.is_one.1 c.in-Ok.step c.need_of-need.result (omega (arith, fits.from.count)) (omega (arith, fits.to.count)) (c.is_overfull.ensures.room c.if-is_overfull.false) c.need_of-need.ensures.apart
+    row-fits (form_of g.F.Form.VERSION) c.args.lot.now m (form_of g.F.Form.VERSION) (ap form_of g.F.Form.is_one.0) (ap form_of g.F.Form.is_one.0) c.in-Ok.step c.need_of-need.result (omega (arith, fits.from.count)) (omega (arith, fits.to.count)) (c.is_overfull.ensures.room c.if-is_overfull.false) c.need_of-need.ensures.apart
     (subst (λ (x : Map). HasFree c.args.lot.now x c.need_of-need.result) looked.map (c.in-Ok-check_quota.ensures.enough (looked.shows s)))
 
 pub returns-in-Err-check_quota-clause-damaged : goal.returns-in-Err-check_quota-clause-damaged
 returns-in-Err-check_quota-clause-damaged g c = λ n e s.
     let looked = c.find_move.ensures.looked in
     let same : c.in-Err-check_quota.refusal ≡ Damaged n = cc in
-    subst (λ (m : Map). (r : Rule) × (n ≡ rule_number r) × IsBroken g.F.Form.ENTRY c.args.lot.now m r) looked.map
+    subst (λ (m : Map). (r : Rule) × (n ≡ rule_number r) × IsBroken (form_of g.F.Form.VERSION) c.args.lot.now m r) looked.map
     (c.in-Err-check_quota.ensures.damaged n (ap (λ x. Err x) same) (looked.shows s))
 
 pub returns-then-is_overfull-clause-damaged : goal.returns-then-is_overfull-clause-damaged
 returns-then-is_overfull-clause-damaged g c = λ n e s. (
   InodeTwice,
   cc,
-  inr (inl (overfull-of g.F.Form.ENTRY c.args.lot.now (g.K.View.map c.args.keep.now c.args.disk.now c.args.lot.now) (last_name (drop c.args.depth c.args.path.now)) c.in-Ok.step (c.in-Ok.ensures.is s) (c.is_overfull.ensures.many c.if-is_overfull.true))),
+  inr (inl (overfull-of (form_of g.F.Form.VERSION) c.args.lot.now (g.K.View.map c.args.keep.now c.args.disk.now c.args.lot.now) (last_name (drop c.args.depth c.args.path.now)) c.in-Ok.step (c.in-Ok.ensures.is s) (c.is_overfull.ensures.many c.if-is_overfull.true))),
 )
 
 pub returns-then-is_overfull-clause-found : goal.returns-then-is_overfull-clause-found
 returns-then-is_overfull-clause-found g c = λ mode k t s r.
     let lot = c.args.lot.now in
     let m : Map = g.K.View.map c.args.keep.now c.args.disk.now lot in
-    let x = overfull-of g.F.Form.ENTRY lot m (last_name (drop c.args.depth c.args.path.now)) c.in-Ok.step (c.in-Ok.ensures.is s) (c.is_overfull.ensures.many c.if-is_overfull.true) in
-    absurd (recovers_unbroken mode lot m t k InodeTwice (subst (λ f. MapRecovers f mode lot m t k) (ap form_of g.F.Form.is_one.0) r) (inr (inl (subst (λ e. Overfull e lot m) g.F.Form.is_one.1 x))))
+    let x = overfull-of (form_of g.F.Form.VERSION) lot m (last_name (drop c.args.depth c.args.path.now)) c.in-Ok.step (c.in-Ok.ensures.is s) (c.is_overfull.ensures.many c.if-is_overfull.true) in
+    absurd (recovers_unbroken mode lot m t k InodeTwice (subst (λ f. MapRecovers f mode lot m t k) (ap form_of g.F.Form.is_one.0) r) (inr (inl (subst (λ e. Overfull e lot m) (ap form_of g.F.Form.is_one.0) x))))
 
 pub is_overfull-requires-clause-few : goal.is_overfull-requires-clause-few
 is_overfull-requires-clause-few g c = sited-few c.args.lot.now _ c.requires.sited

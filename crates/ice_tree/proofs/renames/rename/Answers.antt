@@ -91,13 +91,13 @@ returns-in-Err-may_move-clause-damaged g c = λ n e s.
 
 pub returns-in-Err-put_moved-clause-damaged : goal.returns-in-Err-put_moved-clause-damaged
 returns-in-Err-put_moved-clause-damaged g c = λ n e s.
-    let entry = g.F.Form.ENTRY in
+    let form = (form_of g.F.Form.VERSION) in
     let lot = c.args.lot.now in
     let m : Map = g.K.View.map c.args.keep.now c.args.disk.now lot in
     let step = c.in-Ok.step in
     let looked = c.may_move.ensures.looked in
     let below = c.in-Ok.ensures.below.0 in
     let name = last-is c.args.path.now c.args.depth (c.len.result - 1) c.name-name.result (omega (arith, below, c.len.ensures)) (omega (arith, below, c.len.ensures)) (c.name-name.ensures []) in
-    let is = subst (λ (x : List ℕ). MoveIs entry lot m x step) (sym name) (c.in-Ok.ensures.is s) in
-    let broken = c.in-Err-put_moved.ensures.broken (looked.shows s) (subst (λ (x : Map). MoveIs entry lot x c.name-name.result step) (sym looked.map) is) (subst (λ (x : Map). RowFits entry lot x step) (sym looked.map) (c.in-Ok.ensures.room s)) in
-    fault-names (IsBroken entry lot m) c.in-Err-put_moved.fault _ c.refusal_of.ensures (subst (λ (x : Map). IsBrokenBy entry lot x c.in-Err-put_moved.fault) looked.map broken) n e
+    let is = subst (λ (x : List ℕ). MoveIs form lot m x step) (sym name) (c.in-Ok.ensures.is s) in
+    let broken = c.in-Err-put_moved.ensures.broken (looked.shows s) (subst (λ (x : Map). MoveIs form lot x c.name-name.result step) (sym looked.map) is) (subst (λ (x : Map). RowFits form lot x step) (sym looked.map) (c.in-Ok.ensures.room s)) in
+    fault-names (IsBroken form lot m) c.in-Err-put_moved.fault _ c.refusal_of.ensures (subst (λ (x : Map). IsBrokenBy form lot x c.in-Err-put_moved.fault) looked.map broken) n e

@@ -53,4 +53,4 @@ returns-in-Err-check_quota-clause-file g c = λ mode k t s r.
 pub returns-in-Err-check_quota-clause-damaged : goal.returns-in-Err-check_quota-clause-damaged
 returns-in-Err-check_quota-clause-damaged g c = λ n e s.
     let looked = c.reach_file.ensures.looked in
-    broke-too _ _ (λ r h. subst (λ (m : Map). IsBroken g.F.Form.ENTRY c.args.lot.now m r) looked.map h) c.in-Err-check_quota.refusal (λ n e. c.in-Err-check_quota.ensures.damaged n e (looked.shows s)) n e
+    broke-too _ _ (λ r h. subst (λ (m : Map). IsBroken (form_of g.F.Form.VERSION) c.args.lot.now m r) looked.map h) c.in-Err-check_quota.refusal (λ n e. c.in-Err-check_quota.ensures.damaged n e (looked.shows s)) n e

@@ -54,6 +54,6 @@ returns-in-Err-put_bytes-clause-damaged g c = λ n named s.
     let lot = c.args.lot.now in
     let m0 = g.K.View.map c.args.keep.now c.args.disk.now lot in
     let looked = c.check_write.ensures.looked in
-    let broken = c.in-Err-put_bytes.ensures.broken (looked.shows s) (subst (λ (m : Map). BytesFit g.F.Form.ENTRY lot m c.args.at (c.args.at + length c.args.bytes.now) c.in-Ok.number) (sym looked.map) (c.in-Ok.ensures.ready s)) in
-    fault-names (IsBroken g.F.Form.ENTRY lot m0) c.in-Err-put_bytes.fault c.refusal_of.result c.refusal_of.ensures
-    (subst (λ (m : Map). IsBrokenBy g.F.Form.ENTRY lot m c.in-Err-put_bytes.fault) looked.map broken) n named
+    let broken = c.in-Err-put_bytes.ensures.broken (looked.shows s) (subst (λ (m : Map). BytesFit (form_of g.F.Form.VERSION) lot m c.args.at (c.args.at + length c.args.bytes.now) c.in-Ok.number) (sym looked.map) (c.in-Ok.ensures.ready s)) in
+    fault-names (IsBroken (form_of g.F.Form.VERSION) lot m0) c.in-Err-put_bytes.fault c.refusal_of.result c.refusal_of.ensures
+    (subst (λ (m : Map). IsBrokenBy (form_of g.F.Form.VERSION) lot m c.in-Err-put_bytes.fault) looked.map broken) n named
