@@ -164,16 +164,16 @@ module _ (f : Form) (one : f ≡ form_one) (lot : LotView) (m : Map) (i h : ℕ)
   pub file-bytes : (form : Form) → form ≡ form_one → file_bytes (own form m i) ≡ bytes
   file-bytes form e = ap (λ x. file_bytes (own x m i)) e ∙ ap (λ g. file_bytes (own g m i)) (sym one) ∙ r.1.bytes_are
 
-  file-reaches : (at : ℕ) → at ≤ length bytes → ReachesTo at (inode_of m i)
+  file-reaches : (at : ℕ) → at ≤ length bytes → ReachesTo f at (inode_of m i)
   file-reaches at below =
       let size = inode-own f one lot m i h in
       record {
         kind = ap (λ (x : Inode). x.kind) (sym size) ∙ r.1.is_file;
-        small = omega (arith, r.1.within, ap (λ g. g.longest_file) one, ap (λ (x : Inode). x.size) size);
+        small = omega (arith, r.1.within, ap (λ (x : Inode). x.size) size);
         reaches = omega (arith, below, ap length r.1.bytes_are, length-file_bytes (own f m i), ap (λ (x : Inode). x.size) size);
       }
 
-  pub read-fails : (at : ℕ) → at ≤ length bytes → (e : OpFault) → IsReadFault e → (e ≡ Damaged Kind → ReachesTo at (inode_of m i) → ⊥)
+  pub read-fails : (at : ℕ) → at ≤ length bytes → (e : OpFault) → IsReadFault e → (e ≡ Damaged Kind → ReachesTo f at (inode_of m i) → ⊥)
       → (e ≡ Damaged Pointer → (k : ℕ) × (1024 * k < (inode_of m i).size) × (leads lot m (inode_of m i) k ≡ false)) → e ≡ Disk
   read-fails at below e faults kind pointer =
       reading-fails e faults (λ q. kind q (file-reaches at below))

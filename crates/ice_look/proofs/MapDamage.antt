@@ -8,7 +8,7 @@ use Rattle.ice_map.specs.declared.codec.Inode.{Inode}
 use Rattle.ice_map.specs.Inodes.{inode_of}
 use Rattle.ice_map.specs.Maps.{times, uses, leads, Misleads, UsesUnmarked, HasTwice}
 use Rattle.ice_file.specs.Files.{ReachesTo, IsReadFault}
-use Rattle.ice_map.specs.Own.{map_length, blocks_for, Confuses}
+use Rattle.ice_map.specs.Own.{map_length, blocks_for, Confuses, entry_size}
 use Rattle.ice_map.specs.Moves.{uses_of}
 use Rattle.ice_map.proofs.OwnLaws.{length-uses}
 use Rattle.ice_dir.specs.Changes.{dir_blocks}
@@ -17,15 +17,15 @@ use Rattle.ice_look.specs.Broken.{FewCounted, FreeBlock, BadPointer, TwiceUsed, 
 use Rattle.ice_look.specs.Places.{IsNode, IsReached}
 use Rattle.ice_base.specs.declared.fault.OpFault.{OpFault}
 use Rattle.ice_base.specs.declared.fault.OpFault.TheVariants.{Disk, Damaged}
-use Rattle.tree_spec.specs.Costs.{Form}
+use Rattle.tree_spec.specs.Costs.{Form, form_one}
 use Rattle.ice_base.specs.declared.fault.Rule.TheVariants.{Kind, Pointer}
 
 -- how many blocks the map of a directory has, and that of a file
 pub map-dir : (form : Form) (inode : Inode) → inode.kind ≡ 2 → map_length form inode ≡ dir_blocks form inode.size
-map-dir form inode kind = ap (λ k. blocks_for (cond (k == 2) (form * inode.size) inode.size)) kind
+map-dir form inode kind = ap (λ k. blocks_for (cond (k == 2) (entry_size form * inode.size) inode.size)) kind
 
 pub map-file : (form : Form) (inode : Inode) → inode.kind ≡ 1 → map_length form inode ≡ blocks_for inode.size
-map-file form inode kind = ap (λ k. blocks_for (cond (k == 2) (form * inode.size) inode.size)) kind
+map-file form inode kind = ap (λ k. blocks_for (cond (k == 2) (entry_size form * inode.size) inode.size)) kind
 
 -- what is damaged at an inode whose map has c blocks
 module _ (form : Form) (lot : LotView) (m : Map) (number c : ℕ) (reached : IsReached form lot m number) (node : IsNode lot (inode_of m number)) (long : map_length form (inode_of m number) ≡ c) where
@@ -64,14 +64,14 @@ module _ (form : Form) (lot : LotView) (m : Map) (number c : ℕ) (reached : IsR
   bad-map (inr t) = inr (twice-used t)
 
 -- bytes can't be read
-pub read-blamed : (form : Form) (lot : LotView) (m : Map) (at number : ℕ) → IsReached form lot m number → ReachesTo at (inode_of m number) → (e : OpFault) → IsReadFault e → (e ≡ Damaged Kind → ¬ ReachesTo at (inode_of m number))
+pub read-blamed : (form : Form) → form ≡ form_one → (lot : LotView) (m : Map) (at number : ℕ) → IsReached form lot m number → ReachesTo form at (inode_of m number) → (e : OpFault) → IsReadFault e → (e ≡ Damaged Kind → ¬ ReachesTo form at (inode_of m number))
     → (e ≡ Damaged Pointer → (k : ℕ) × (1024 * k < (inode_of m number).size) × (leads lot m (inode_of m number) k ≡ false)) → IsBrokenBy form lot m e
-read-blamed form lot m at number reached file Disk h kind pointer = tt
-read-blamed form lot m at number reached file (Damaged Kind) h kind pointer = absurd (kind refl file)
-read-blamed form lot m at number reached file (Damaged Pointer) h kind pointer =
+read-blamed form one lot m at number reached file Disk h kind pointer = tt
+read-blamed form one lot m at number reached file (Damaged Kind) h kind pointer = absurd (kind refl file)
+read-blamed form one lot m at number reached file (Damaged Pointer) h kind pointer =
     let x = inode_of m number in
     let p = pointer refl in
     let q = div-add-mod' (x.size + 1023) 1024 in
     let d = mod_below (x.size + 1023) 1024 (omega arith) in
-    inl (bad-pointer form lot m number (blocks_for x.size) reached (inl (file.kind, file.small)) (map-file form x file.kind) (record { block = p.0; below = omega (arith, p.1, q, d); bad = p.2 }))
-read-blamed form lot m at number reached file _ h kind pointer = absurd h
+    inl (bad-pointer form lot m number (blocks_for x.size) reached (inl (file.kind, omega (arith, file.small, ap (λ g. g.longest_file) one))) (map-file form x file.kind) (record { block = p.0; below = omega (arith, p.1, q, d); bad = p.2 }))
+read-blamed form one lot m at number reached file _ h kind pointer = absurd h

@@ -25,7 +25,7 @@ use Rattle.ice_steps.proofs.Quotas.{beside_free_nodes}
 use Rattle.ice_steps.proofs.Walks.{FileAt, beside_dir}
 
 -- a file of these bytes reaches to each place in them
-pub reaches_to : (m : Map) (i at : ℕ) (bytes : List ℕ) → FileAt m i bytes → at ≤ length bytes → ReachesTo at (inode_of m i)
+pub reaches_to : (m : Map) (i at : ℕ) (bytes : List ℕ) → FileAt m i bytes → at ≤ length bytes → ReachesTo form_one at (inode_of m i)
 reaches_to m i at bytes f h = record { kind = f.kind; small = f.within; reaches = (let e = f.size in omega arith) }
 
 -- a directory has fewer entries than its tree has files and directories

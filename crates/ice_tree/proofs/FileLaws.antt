@@ -167,8 +167,8 @@ module _ (mode : ℕ) (lot : LotView) (m : Map) (t : Tree) (k : ℕ) (p : Names)
   made : WellMade lot form_one m number
   made = subst (WellMade lot form_one m) (sym is) (walk_made mode lot m t k r p few (File old) found)
 
-  reach : (at : ℕ) → at ≤ length old → ReachesTo at (inode_of m number)
-  reach at h = subst (λ i. ReachesTo at (inode_of m i)) (sym is) (reaches_to m here at old file h)
+  reach : (at : ℕ) → at ≤ length old → ReachesTo form_one at (inode_of m number)
+  reach at h = subst (λ i. ReachesTo form_one at (inode_of m i)) (sym is) (reaches_to m here at old file h)
 
   counts : uses_of (blocks_for (inode_of m number).size) ≤ counted false m
   counts = subst (λ i. uses_of (blocks_for (inode_of m i).size) ≤ counted false m) (sym is)
@@ -208,7 +208,7 @@ module _ (f : Form) (one : f ≡ form_one) (form : Form) (sized : form ≡ form_
     pub write-sound : (e : OpFault) → IsWriteFault e
         → (e ≡ NoSpace → free_count false lot m + uses_of (blocks_for (inode_of m number).size) < uses_of (blocks_with (inode_of m number).size (off + length bytes)))
         → (e ≡ Damaged Counts → 2 ^ 32 + uses_of (blocks_for (inode_of m number).size) ≤ counted false m + uses_of (blocks_with (inode_of m number).size (off + length bytes)))
-        → (e ≡ Damaged Kind → ¬ ReachesTo off (inode_of m number)) → (e ≡ Damaged Pointer → ¬ WellMade lot form m number) → (e ≡ Damaged Bitmap → ¬ Reserved lot m) → e ≡ Disk
+        → (e ≡ Damaged Kind → ¬ ReachesTo form off (inode_of m number)) → (e ≡ Damaged Pointer → ¬ WellMade lot form m number) → (e ≡ Damaged Bitmap → ¬ Reserved lot m) → e ≡ Disk
     write-sound e h none full kind pointer unreserved =
         let b = whole mode lot m t k p number few write-takes.recovers write-takes.number_is writes.old writes.found in
         write-fails e h
@@ -219,7 +219,7 @@ module _ (f : Form) (one : f ≡ form_one) (form : Form) (sized : form ≡ form_
         (λ q. subst (λ i. ¬ (2 ^ 32 + uses_of (blocks_for (inode_of m i).size) ≤ counted false m + uses_of (blocks_with (inode_of m i).size (off + length bytes)))) (sym write-takes.number_is)
         (write_counts mode lot m t k few [] [] b p writes.old writes.found (off + length bytes) writes.small)
         (full q))
-        (λ q. kind q (reach mode lot m t k p number few write-takes.recovers write-takes.number_is writes.old writes.found off writes.within))
+        (λ q. kind q (subst (λ (s : Form). ReachesTo s off (inode_of m number)) (sym sized) (reach mode lot m t k p number few write-takes.recovers write-takes.number_is writes.old writes.found off writes.within)))
         (λ q. pointer q write-made)
         (λ q. unreserved q write-takes.recovers.holds.reserved)
 
@@ -240,10 +240,10 @@ module _ (f : Form) (one : f ≡ form_one) (form : Form) (sized : form ≡ form_
         (let d = file mode lot m t k p number few cut-takes.recovers cut-takes.number_is cuts.old cuts.found in let l = length-take len cuts.old in let a = d.size in let b = d.within in omega arith)
         (subst (λ s. FileSet lot s m m' number (take len (file_bytes (own s m number)))) sized set))
 
-    pub cut-sound : (e : OpFault) → IsCutToFault e → (e ≡ Damaged Counts → counted false m < uses_of (blocks_for (inode_of m number).size)) → (e ≡ Damaged Kind → ¬ ReachesTo len (inode_of m number))
+    pub cut-sound : (e : OpFault) → IsCutToFault e → (e ≡ Damaged Counts → counted false m < uses_of (blocks_for (inode_of m number).size)) → (e ≡ Damaged Kind → ¬ ReachesTo form len (inode_of m number))
         → (e ≡ Damaged Pointer → ¬ WellMade lot form m number) → (e ≡ Damaged Bitmap → ¬ WellMade lot form m number) → e ≡ Disk
     cut-sound e h zero kind pointer unused = cut-fails e h
         (λ q. let n = zero q in let u = counts mode lot m t k p number few cut-takes.recovers cut-takes.number_is cuts.old cuts.found in omega arith)
-        (λ q. kind q (reach mode lot m t k p number few cut-takes.recovers cut-takes.number_is cuts.old cuts.found len cuts.within))
+        (λ q. kind q (subst (λ (s : Form). ReachesTo s len (inode_of m number)) (sym sized) (reach mode lot m t k p number few cut-takes.recovers cut-takes.number_is cuts.old cuts.found len cuts.within)))
         (λ q. pointer q cut-made)
         (λ q. unused q cut-made)

@@ -61,9 +61,9 @@ freed-counted m1 m2 number done set free =
     }
 
 -- a file that was there before its entry was taken is there after it
-pub file-stays : (form : Form) (lot : LotView) (m0 m1 : ℕ → List ℕ) (name : List ℕ) (gone : Gone) → GoneIs form lot m0 name gone → EntryGone lot form m0 m1 gone.spot.number → 0 < gone.bytes → ReachesTo 0 (inode_of m1 gone.number)
+pub file-stays : (form : Form) (lot : LotView) (m0 m1 : ℕ → List ℕ) (name : List ℕ) (gone : Gone) → GoneIs form lot m0 name gone → EntryGone lot form m0 m1 gone.spot.number → 0 < gone.bytes → ReachesTo form 0 (inode_of m1 gone.number)
 file-stays form lot m0 m1 name gone is took pos =
     let file = is.file pos in
     let dir = is.spot_is.dir in
     let other : gone.number ≢ gone.spot.number = λ e. let k = ap (λ i. (inode_of m0 i).kind) e in let f = file.kind in let d = dir.kind in absurd (omega arith) in
-    subst (ReachesTo 0) (sym (took.others gone.number other)) file
+    subst (ReachesTo form 0) (sym (took.others gone.number other)) file

@@ -89,7 +89,7 @@ module _ (mode : ℕ) (lot : LotView) (few : length lot.groups ≤ 64) (m : Map)
 
   -- it can be cut
   can-cut : (h n : ℕ) (v : Tree) → Beside form_one mode lot m t k (used_blocks form_one (own form_one m) j v) (used_inodes form_one (own form_one m) j v) → Reads form_one lot (own form_one m) j h v → n ≡ length (bytes_of v) → n ≢ 0
-      → (e : OpFault) → IsCutToFault e → (e ≡ Damaged Kind → ¬ ReachesTo 0 (inode_of m j)) → (e ≡ Damaged Counts → counted false m < uses_of (blocks_for (inode_of m j).size))
+      → (e : OpFault) → IsCutToFault e → (e ≡ Damaged Kind → ¬ ReachesTo form_one 0 (inode_of m j)) → (e ≡ Damaged Counts → counted false m < uses_of (blocks_for (inode_of m j).size))
       → (e ≡ Damaged Bitmap → ¬ WellMade lot form_one m j) → (e ≡ Damaged Pointer → ¬ WellMade lot form_one m j) → e ≡ Disk
   can-cut h n (File bytes) b r len z e is kind zero unused pointer =
       let f = file_at lot m j h bytes r in
@@ -142,11 +142,11 @@ module _ (f : Form) (one : f ≡ form_one) (mode : ℕ) (lot : LotView) (few : l
       from-one (λ g. Beside g mode lot m' t k [] (j ∷ [])) (some-blocks mode lot few m t k j m' s.level bytes s.tree at.0 at.1 s.bytes_are z (subst (λ w. FileSet lot w m m' j []) wide set))
 
   pub can-drop : StandsLoose f mode lot m t k j bytes → bytes ≢ 0
-      → (e : OpFault) → IsCutToFault e → (e ≡ Damaged Kind → ¬ ReachesTo 0 (inode_of m j)) → (e ≡ Damaged Counts → counted false m < uses_of (blocks_for (inode_of m j).size))
+      → (e : OpFault) → IsCutToFault e → (e ≡ Damaged Kind → ¬ ReachesTo form 0 (inode_of m j)) → (e ≡ Damaged Counts → counted false m < uses_of (blocks_for (inode_of m j).size))
       → (e ≡ Damaged Bitmap → ¬ WellMade lot form m j) → (e ≡ Damaged Pointer → ¬ WellMade lot form m j) → e ≡ Disk
   can-drop s z e is kind zero unused pointer =
       let at = at-one (AtMap m s.tree s.level) (s.beside, s.reads) in
-      can-cut mode lot few m t k j s.level bytes s.tree at.0 at.1 s.bytes_are z e is kind zero
+      can-cut mode lot few m t k j s.level bytes s.tree at.0 at.1 s.bytes_are z e is (subst (λ w. e ≡ Damaged Kind → ¬ ReachesTo w 0 (inode_of m j)) wide kind) zero
       (subst (λ w. e ≡ Damaged Bitmap → ¬ WellMade lot w m j) wide unused)
       (subst (λ w. e ≡ Damaged Pointer → ¬ WellMade lot w m j) wide pointer)
 

@@ -110,7 +110,7 @@ fn check_write<D: Disk, K: Keep<D>, P: Pool<D, K>, F: Form>(
         MapRecovers (form_of F.VERSION) mode lot.now old t k
         → MatchResult result (λ number. (number ≡ inode_on (form_of F.VERSION) (own (form_of F.VERSION) old) 0 (drop depth path.now)) × (refusal t k (length lot.now.groups) (form_of F.VERSION) (Write (drop depth path.now) at bytes.now) ≡ None)) (λ r. RefusedAs (refused_of r) (refusal t k (length lot.now.groups) (form_of F.VERSION) (Write (drop depth path.now) at bytes.now)))) }
     ensures fits { IfOk result (λ number. number < 64 * length lot.now.groups) }
-    ensures short { OnOk result (at + length bytes.now ≤ form_one.longest_file) }
+    ensures short { OnOk result (at + length bytes.now ≤ (form_of F.VERSION).longest_file) }
     ensures paths { ShownBy (paths_refusal (form_of F.VERSION) (drop depth path.now ∷ [])) result }
     ensures untouched { (r : Why) → paths_refusal (form_of F.VERSION) (drop depth path.now ∷ []) ≡ Some r
         → (disk.new ≡ disk.old) × (keep.new ≡ keep.old) × (pool.new ≡ pool.old) }
@@ -192,7 +192,7 @@ fn put_bytes<D: Disk, K: Keep<D>, P: Pool<D, K>, F: Form>(
     requires number { number < 64 * length lot.now.groups }
     requires room { 49 ≤ K.room keep.old }
     requires few { length bytes.now ≤ most_bytes }
-    requires short { at + length bytes.now ≤ form_one.longest_file }
+    requires short { at + length bytes.now ≤ (form_of F.VERSION).longest_file }
     ensures set { (mode k : ℕ) (t : Tree) (p : List (List ℕ))
         → AsShown K.View lot.now keep.old disk.old keep.new disk.new (λ old new.
         TakesAt (form_of F.VERSION) mode lot.now old t k p (Write p at bytes.now) number

@@ -1,5 +1,5 @@
 use Rattle.std.proofs.Common.{ℕ, List, Err, length, drop, take, ◌≡◌, ◌+◌, ◌∙◌, ap, sym, arith, subst}
-use Rattle.tree_spec.specs.Costs.{form_of}
+use Rattle.tree_spec.specs.Costs.{form_of, Form}
 use Rattle.tree_spec.specs.Trees.{File}
 use Rattle.ice_map.specs.Own.{own, file_bytes}
 use Rattle.ice_reads.specs.Reads.{Reads}
@@ -63,9 +63,9 @@ returns-in-Err-read_at-clause-damaged g c = λ n named s.
     let looked = c.file_at.ensures.looked in
     let number = c.in-Ok.file.number in
     let is = c.in-Ok.ensures.is s in
-    let reaches : ReachesTo c.args.at (inode_of m0 number) = record { kind = is.0; small = omega (arith, is.1, c.in-Ok.ensures.fits.1); reaches = omega (arith, is.1) } in
+    let reaches : ReachesTo form c.args.at (inode_of m0 number) = record { kind = is.0; small = omega (arith, is.1, c.in-Ok.ensures.fits.1, ap (λ (g : Form). g.longest_file) (ap form_of g.F.Form.is_one.0)); reaches = omega (arith, is.1) } in
     let e = c.in-Err-read_at.ensures in
-    let broken = read-blamed form lot m1 c.args.at number (subst (λ (m : ℕ → List ℕ). IsReached form lot m number) (sym looked.map) (c.in-Ok.ensures.reached s))
-    (subst (λ (m : ℕ → List ℕ). ReachesTo c.args.at (inode_of m number)) (sym looked.map) reaches)
+    let broken = read-blamed form (ap form_of g.F.Form.is_one.0) lot m1 c.args.at number (subst (λ (m : ℕ → List ℕ). IsReached form lot m number) (sym looked.map) (c.in-Ok.ensures.reached s))
+    (subst (λ (m : ℕ → List ℕ). ReachesTo form c.args.at (inode_of m number)) (sym looked.map) reaches)
     c.in-Err-read_at.fault e.faults (λ q. e.kind (ap (λ y. Err y) q) (looked.shows s)) (λ q. e.pointer (ap (λ y. Err y) q) (looked.shows s)) in
     fault-names (IsBroken form lot m0) c.in-Err-read_at.fault c.refusal_of.result c.refusal_of.ensures (subst (λ (m : ℕ → List ℕ). IsBrokenBy form lot m c.in-Err-read_at.fault) looked.map broken) n named

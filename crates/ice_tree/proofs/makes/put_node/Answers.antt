@@ -46,7 +46,7 @@ returns-in_err-add-clause-sound g c = λ mode k t p s takes.
       there = c.put_inode.ensures.puts.only;
     })
     _ e.faults (λ q. e.none (ap (λ y. Err y) q) s2) (λ q. e.full (ap (λ y. Err y) q) s2) (λ q. e.kind (ap (λ y. Err y) q) s2)
-    (λ q. dir-misled c.args.lot.now (form_of g.F.Form.VERSION) m2 c.args.spot.now.number (e.is_dir Pointer (ap (λ y. Err y) q) (λ w. absurd cc) s2) (e.misled (ap (λ y. Err y) q) s2)) (λ q. e.unreserved (ap (λ y. Err y) q) s2))
+    (λ q. dir-misled c.args.lot.now (form_of g.F.Form.VERSION) (ap form_of g.F.Form.is_one.0) m2 c.args.spot.now.number (e.is_dir Pointer (ap (λ y. Err y) q) (λ w. absurd cc) s2) (e.misled (ap (λ y. Err y) q) s2)) (λ q. e.unreserved (ap (λ y. Err y) q) s2))
 
 pub returns-clause-made : goal.returns-clause-made
 returns-clause-made g c = λ mode k t p s takes.

@@ -40,8 +40,8 @@ returns-clause-sound g c = λ mode k t s l.
     (λ e is fault.
     can-drop (form_of g.F.Form.VERSION) (ap form_of g.F.Form.is_one.0) mode c.args.lot.now few m t k c.args.number c.args.bytes (form_of g.F.Form.VERSION) (ap form_of g.F.Form.is_one.0) l c.if-bytes-eq0.false
     e fault (λ q. x.kind (is ∙ ap (λ (y : OpFault). Err y) q) s) (λ q. let z = x.zero (is ∙ ap (λ (y : OpFault). Err y) q) s in omega arith)
-    (λ q. file-free c.args.lot.now (form_of g.F.Form.VERSION) m c.args.number 0 (err-at _ c.cut_to.result e is x.file Bitmap q (λ z. absurd cc) s) (x.unused (is ∙ ap (λ (y : OpFault). Err y) q) s))
-    (λ q. file-misled c.args.lot.now (form_of g.F.Form.VERSION) m c.args.number 0 (err-at _ c.cut_to.result e is x.file Pointer q (λ z. absurd cc) s) (x.misled (is ∙ ap (λ (y : OpFault). Err y) q) s)))
+    (λ q. file-free c.args.lot.now (form_of g.F.Form.VERSION) (ap form_of g.F.Form.is_one.0) m c.args.number 0 (err-at _ c.cut_to.result e is x.file Bitmap q (λ z. absurd cc) s) (x.unused (is ∙ ap (λ (y : OpFault). Err y) q) s))
+    (λ q. file-misled c.args.lot.now (form_of g.F.Form.VERSION) (ap form_of g.F.Form.is_one.0) m c.args.number 0 (err-at _ c.cut_to.result e is x.file Pointer q (λ z. absurd cc) s) (x.misled (is ∙ ap (λ (y : OpFault). Err y) q) s)))
 
 pub returns-clause-broken : goal.returns-clause-broken
 returns-clause-broken g c = λ s file.
@@ -50,7 +50,7 @@ returns-clause-broken g c = λ s file.
     let x = c.cut_to.ensures in
     err-by c.cut_to.result IsCutToFault (IsFaultBy (LooseBroken lot m c.args.number)) x.faults
     (λ e is fault.
-    cut-loose lot m 0 c.args.number (file (omega arith)) e fault (λ q. x.kind (is ∙ ap (λ (y : OpFault). Err y) q) s) (λ q. x.zero (is ∙ ap (λ (y : OpFault). Err y) q) s) (λ q. x.unused (is ∙ ap (λ (y : OpFault). Err y) q) s)
+    cut-loose (form_of g.F.Form.VERSION) (ap form_of g.F.Form.is_one.0) lot m 0 c.args.number (file (omega arith)) e fault (λ q. x.kind (is ∙ ap (λ (y : OpFault). Err y) q) s) (λ q. x.zero (is ∙ ap (λ (y : OpFault). Err y) q) s) (λ q. x.unused (is ∙ ap (λ (y : OpFault). Err y) q) s)
     (λ q. x.single_placed (is ∙ ap (λ (y : OpFault). Err y) q) s) (λ q. x.misled (is ∙ ap (λ (y : OpFault). Err y) q) s))
 
 pub returns-clause-faults : goal.returns-clause-faults

@@ -25,8 +25,8 @@ returns-in_err-take-clause-sound g c = λ mode k t p s l.
     rw (x.1, x.2)
     (spot-takes (form_of g.F.Form.VERSION) (ap form_of g.F.Form.is_one.0) mode c.args.lot.now (sited-few c.args.lot.now _ c.requires.sited) (g.K.View.map c.args.keep.now c.args.disk.now c.args.lot.now) t k p c.args.gone.now c.args.name.now (form_of g.F.Form.VERSION) (ap form_of g.F.Form.is_one.0) l
     _ e.faults (λ q. e.zero (ap (λ y. Err y) q) s) (λ q. e.kind (ap (λ y. Err y) q) s)
-    (λ q. dir-confused c.args.lot.now (form_of g.F.Form.VERSION) (g.K.View.map c.args.keep.now c.args.disk.now c.args.lot.now) c.args.gone.now.spot.number (e.is_dir Pointer (ap (λ y. Err y) q) (λ z. absurd cc) s) (e.misled (ap (λ y. Err y) q) s))
-    (λ q. dir-free c.args.lot.now (form_of g.F.Form.VERSION) (g.K.View.map c.args.keep.now c.args.disk.now c.args.lot.now) c.args.gone.now.spot.number (e.is_dir Bitmap (ap (λ y. Err y) q) (λ z. absurd cc) s) (e.unused (ap (λ y. Err y) q) s)))
+    (λ q. dir-confused c.args.lot.now (form_of g.F.Form.VERSION) (ap form_of g.F.Form.is_one.0) (g.K.View.map c.args.keep.now c.args.disk.now c.args.lot.now) c.args.gone.now.spot.number (e.is_dir Pointer (ap (λ y. Err y) q) (λ z. absurd cc) s) (e.misled (ap (λ y. Err y) q) s))
+    (λ q. dir-free c.args.lot.now (form_of g.F.Form.VERSION) (ap form_of g.F.Form.is_one.0) (g.K.View.map c.args.keep.now c.args.disk.now c.args.lot.now) c.args.gone.now.spot.number (e.is_dir Bitmap (ap (λ y. Err y) q) (λ z. absurd cc) s) (e.unused (ap (λ y. Err y) q) s)))
 
 pub returns-in-None-clause-sound : goal.returns-in-None-clause-sound
 returns-in-None-clause-sound g c = λ mode k t p s l.

@@ -22,8 +22,8 @@ returns-in_err-take-clause-sound g c = λ mode k t p q s x differ.
     let e = c.in_err-take.ensures in
     rw (y.1, y.2) (take_sound f one (form_of g.F.Form.VERSION) (ap form_of g.F.Form.is_one.0) mode c.args.lot.now m t k p q c.args.step.now c.args.name.now c.args.new.now few x differ _ e.faults
     (λ z. e.zero (ap (λ y. Err y) z) s) (λ z. e.kind (ap (λ y. Err y) z) s)
-    (λ z. dir-free c.args.lot.now (form_of g.F.Form.VERSION) m c.args.step.now.from.number (e.is_dir Bitmap (ap (λ y. Err y) z) (λ w. absurd cc) s) (e.unused (ap (λ y. Err y) z) s))
-    (λ z. dir-confused c.args.lot.now (form_of g.F.Form.VERSION) m c.args.step.now.from.number (e.is_dir Pointer (ap (λ y. Err y) z) (λ w. absurd cc) s) (e.misled (ap (λ y. Err y) z) s)))
+    (λ z. dir-free c.args.lot.now (form_of g.F.Form.VERSION) (ap form_of g.F.Form.is_one.0) m c.args.step.now.from.number (e.is_dir Bitmap (ap (λ y. Err y) z) (λ w. absurd cc) s) (e.unused (ap (λ y. Err y) z) s))
+    (λ z. dir-confused c.args.lot.now (form_of g.F.Form.VERSION) (ap form_of g.F.Form.is_one.0) m c.args.step.now.from.number (e.is_dir Pointer (ap (λ y. Err y) z) (λ w. absurd cc) s) (e.misled (ap (λ y. Err y) z) s)))
 
 pub returns-in-None-clause-sound : goal.returns-in-None-clause-sound
 returns-in-None-clause-sound g c = λ mode k t p q s x differ.
@@ -60,7 +60,7 @@ returns-in_err-add-in-Some-clause-sound g c = λ mode k t p q s x differ.
     let e = c.in_err-add-in-Some.ensures in
     let s1 = c.take.ensures.spent.shows s in
     rw (y.1, y.2) (add_sound f one (form_of g.F.Form.VERSION) (ap form_of g.F.Form.is_one.0) mode c.args.lot.now m t k p q c.args.step.now c.args.name.now c.args.new.now few x differ m1 c.in-Some.number found set _ e.faults
-    (λ z. e.none (ap (λ y. Err y) z) s1) (λ z. e.full (ap (λ y. Err y) z) s1) (λ z. e.kind (ap (λ y. Err y) z) s1) (λ z. dir-misled c.args.lot.now (form_of g.F.Form.VERSION) m1 c.args.step.now.to.number (e.is_dir Pointer (ap (λ y. Err y) z) (λ w. absurd cc) s1) (e.misled (ap (λ y. Err y) z) s1)) (λ z. e.unreserved (ap (λ y. Err y) z) s1))
+    (λ z. e.none (ap (λ y. Err y) z) s1) (λ z. e.full (ap (λ y. Err y) z) s1) (λ z. e.kind (ap (λ y. Err y) z) s1) (λ z. dir-misled c.args.lot.now (form_of g.F.Form.VERSION) (ap form_of g.F.Form.is_one.0) m1 c.args.step.now.to.number (e.is_dir Pointer (ap (λ y. Err y) z) (λ w. absurd cc) s1) (e.misled (ap (λ y. Err y) z) s1)) (λ z. e.unreserved (ap (λ y. Err y) z) s1))
 
 pub returns-in_ok-add-in-Some-clause-moved : goal.returns-in_ok-add-in-Some-clause-moved
 returns-in_ok-add-in-Some-clause-moved g c = λ mode k t p q s x differ.

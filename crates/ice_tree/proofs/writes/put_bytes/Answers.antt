@@ -20,7 +20,7 @@ returns-in_err-write_at-clause-sound g c = λ mode k t p s takes.
     let e = c.in_err-write_at.ensures in
     rw (x.1, x.2)
     (write-sound (form_of g.F.Form.VERSION) (ap form_of g.F.Form.is_one.0) (form_of g.F.Form.VERSION) (ap form_of g.F.Form.is_one.0) mode c.args.lot.now (g.K.View.map c.args.keep.now c.args.disk.now c.args.lot.now) t k p c.args.number (sited-few c.args.lot.now _ c.requires.sited)
-    c.args.at c.args.bytes.now takes _ e.faults (λ q. e.none (ap (λ y. Err y) q) s) (λ q. e.full (ap (λ y. Err y) q) s) (λ q. e.kind (ap (λ y. Err y) q) s) (λ q. file-confused c.args.lot.now (form_of g.F.Form.VERSION) (g.K.View.map c.args.keep.now c.args.disk.now c.args.lot.now) c.args.number c.args.at (e.file (ap (λ y. Err y) q) s) (e.misled (ap (λ y. Err y) q) s)) (λ q. e.unreserved (ap (λ y. Err y) q) s))
+    c.args.at c.args.bytes.now takes _ e.faults (λ q. e.none (ap (λ y. Err y) q) s) (λ q. e.full (ap (λ y. Err y) q) s) (λ q. e.kind (ap (λ y. Err y) q) s) (λ q. file-confused c.args.lot.now (form_of g.F.Form.VERSION) (ap form_of g.F.Form.is_one.0) (g.K.View.map c.args.keep.now c.args.disk.now c.args.lot.now) c.args.number c.args.at (e.file (ap (λ y. Err y) q) s) (e.misled (ap (λ y. Err y) q) s)) (λ q. e.unreserved (ap (λ y. Err y) q) s))
 
 pub returns-in_err-count_up-clause-sound : goal.returns-in_err-count_up-clause-sound
 returns-in_err-count_up-clause-sound g c = λ mode k t p s takes.
@@ -57,7 +57,7 @@ returns-in_err-write_at-clause-broken g c = λ s fits.
     let e = c.in_err-write_at.ensures in
     let m0 = g.K.View.map c.args.keep.now c.args.disk.now c.args.lot.now in
     rw (x.1, x.2)
-    (write-blamed (form_of g.F.Form.VERSION) c.args.lot.now m0 c.args.at (c.args.at + length c.args.bytes.now) c.args.number (sited-few c.args.lot.now _ c.requires.sited) c.requires.short fits _ e.faults
+    (write-blamed (form_of g.F.Form.VERSION) (ap form_of g.F.Form.is_one.0) c.args.lot.now m0 c.args.at (c.args.at + length c.args.bytes.now) c.args.number (sited-few c.args.lot.now _ c.requires.sited) c.requires.short fits _ e.faults
     (λ q. e.none (ap (λ y. Err y) q) s) (λ q. e.full (ap (λ y. Err y) q) s) (λ q. e.kind (ap (λ y. Err y) q) s) (λ q. e.unreserved (ap (λ y. Err y) q) s) (λ q. e.misled (ap (λ y. Err y) q) s))
 
 pub returns-in_err-count_up-clause-broken : goal.returns-in_err-count_up-clause-broken

@@ -22,8 +22,8 @@ returns-in_err-cut_to-clause-sound g c = λ mode k t p s takes.
     rw (x.1, x.2)
     (cut-sound (form_of g.F.Form.VERSION) (ap form_of g.F.Form.is_one.0) (form_of g.F.Form.VERSION) (ap form_of g.F.Form.is_one.0) mode c.args.lot.now (g.K.View.map c.args.keep.now c.args.disk.now c.args.lot.now) t k p c.args.number (sited-few c.args.lot.now _ c.requires.sited)
     c.args.len takes _ e.faults (λ q. let z = e.zero (ap (λ y. Err y) q) s in omega arith) (λ q. e.kind (ap (λ y. Err y) q) s)
-    (λ q. file-misled c.args.lot.now (form_of g.F.Form.VERSION) (g.K.View.map c.args.keep.now c.args.disk.now c.args.lot.now) c.args.number c.args.len (e.file Pointer q (λ z. absurd cc) s) (e.misled (ap (λ y. Err y) q) s))
-    (λ q. file-free c.args.lot.now (form_of g.F.Form.VERSION) (g.K.View.map c.args.keep.now c.args.disk.now c.args.lot.now) c.args.number c.args.len (e.file Bitmap q (λ z. absurd cc) s) (e.unused (ap (λ y. Err y) q) s)))
+    (λ q. file-misled c.args.lot.now (form_of g.F.Form.VERSION) (ap form_of g.F.Form.is_one.0) (g.K.View.map c.args.keep.now c.args.disk.now c.args.lot.now) c.args.number c.args.len (e.file Pointer q (λ z. absurd cc) s) (e.misled (ap (λ y. Err y) q) s))
+    (λ q. file-free c.args.lot.now (form_of g.F.Form.VERSION) (ap form_of g.F.Form.is_one.0) (g.K.View.map c.args.keep.now c.args.disk.now c.args.lot.now) c.args.number c.args.len (e.file Bitmap q (λ z. absurd cc) s) (e.unused (ap (λ y. Err y) q) s)))
 
 pub returns-in_err-count_up-clause-sound : goal.returns-in_err-count_up-clause-sound
 returns-in_err-count_up-clause-sound g c = λ mode k t p s takes.
@@ -61,7 +61,7 @@ returns-in_err-cut_to-clause-broken g c = λ s is room.
     let m0 = g.K.View.map c.args.keep.now c.args.disk.now c.args.lot.now in
     rw (x.1, x.2)
     (loose-blamed (form_of g.F.Form.VERSION) c.args.lot.now m0 c.args.number is.reached _
-    (cut-loose c.args.lot.now m0 c.args.len c.args.number is.reaches _ e.faults (λ q. e.kind (ap (λ y. Err y) q) s) (λ q. e.zero (ap (λ y. Err y) q) s) (λ q. e.unused (ap (λ y. Err y) q) s)
+    (cut-loose (form_of g.F.Form.VERSION) (ap form_of g.F.Form.is_one.0) c.args.lot.now m0 c.args.len c.args.number is.reaches _ e.faults (λ q. e.kind (ap (λ y. Err y) q) s) (λ q. e.zero (ap (λ y. Err y) q) s) (λ q. e.unused (ap (λ y. Err y) q) s)
     (λ q. e.single_placed (ap (λ y. Err y) q) s) (λ q. e.misled (ap (λ y. Err y) q) s)))
 
 pub returns-in_err-count_up-clause-broken : goal.returns-in_err-count_up-clause-broken
