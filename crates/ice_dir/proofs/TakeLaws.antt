@@ -205,7 +205,7 @@ module _ (lot : LotView) (f : Form) (m0 m1 m2 m3 : ℕ → List ℕ) (x y : Inod
   gone-free =
       let a = free-same lot m2 m3 (λ b. used-same false m2 m3 b gone-bitmaps) in
       let b = free-same lot m0 m1 (λ b. used-same false m0 m1 b (beside-bitmaps lot m0 m1 beside)) in
-      let f = was.gave.free in
+      let freed = was.gave.free in
       let l = off-length (entry_size f) m1 x count rest (ap entry_size one) c r in
       omega arith
 

@@ -1,5 +1,5 @@
 -- Changes of directories.
-use Rattle.std.specs.Prelude.{◌≡◌, ◌≢◌, ◌<◌, ◌⊎◌, ℕ, ◌+◌, ◌-◌, ◌*◌, ◌/◌, ◌++◌, true, false, List, [], ◌∷◌, length}
+use Rattle.std.specs.Prelude.{◌≡◌, ◌≢◌, ◌<◌, ◌⊎◌, ℕ, ◌+◌, ◌-◌, ◌*◌, ◌/◌, ◌++◌, true, false, List, [], ◌∷◌, length, ◌≤◌, ◌^◌}
 use Rattle.std.specs.List.{swap_remove}
 use Rattle.ice_base.specs.Fields.{SameBeside}
 use Rattle.ice_base.specs.Lots.{LotView, sub_address}
@@ -20,6 +20,18 @@ blocks_sized entry size = blocks_for (entry * size)
 -- how many blocks a directory of so many entries has in a cube of the form
 abbrev pub dir_blocks : Form → ℕ → ℕ
 dir_blocks f = blocks_sized (entry_size f)
+
+-- fewer blocks are free than a directory of so many entries needs more for one more
+abbrev pub FewFree : LotView → Form → (ℕ → List ℕ) → ℕ → Type 0
+FewFree lot f m size = free_count false lot m + uses_of (dir_blocks f size) < uses_of (dir_blocks f (size + 1))
+
+-- so many blocks are counted that these can't be
+abbrev pub CountFull : Form → (ℕ → List ℕ) → ℕ → Type 0
+CountFull f m size = 2 ^ 32 + uses_of (dir_blocks f size) ≤ counted false m + uses_of (dir_blocks f (size + 1))
+
+-- fewer blocks are counted than a directory of so many entries gives back with one of them
+abbrev pub CountLow : Form → (ℕ → List ℕ) → ℕ → Type 0
+CountLow f m size = counted false m + uses_of (dir_blocks f (size - 1)) < uses_of (dir_blocks f size)
 
 -- an inode is a directory that can have one entry more
 pub record HasRoom (lot : LotView) (inode : Inode) : Type 0 where

@@ -13,7 +13,7 @@ ghost use Rattle.ice_map.specs.Inodes.{inode_of};
 ghost use Rattle.ice_map.specs.Maps.{longest, needs, Misleads};
 ghost use Rattle.ice_map.specs.Own.{MadeOf, WellMade};
 ghost use Rattle.ice_map.specs.Moves.{Reached, content_of, uses_of};
-ghost use Rattle.ice_dir.specs.Changes.{blocks_sized, HasRoom, DirSet, RowPut, TextAdded, dir_blocks};
+ghost use Rattle.ice_dir.specs.Changes.{FewFree, CountFull, blocks_sized, HasRoom, DirSet, RowPut, TextAdded, dir_blocks};
 ghost use Rattle.ice_dir.specs.Faults.{IsAddFault};
 ghost use Rattle.ice_dir.specs.Rows.{rows_of, IsText, IsDirectory};
 ghost use Rattle.tree_spec.specs.Costs.{form_of};
@@ -152,9 +152,9 @@ pub fn add<D: Disk, K: Keep<D>, P: Pool<D, K>, F: Form>(
         OnOk result (HasRoom lot.now (inode_of old number))) }
     ensures spent { Spent D.Disk K.View lot.now 8 keep.old disk.old keep.new disk.new }
     ensures none { IsErrOf result NoSpace → IfShown K.View lot.now keep.old disk.old (λ old.
-        free_count false lot.now old + uses_of (dir_blocks (form_of F.VERSION) (inode_of old number).size) < uses_of (dir_blocks (form_of F.VERSION) ((inode_of old number).size + 1))) }
+        FewFree lot.now (form_of F.VERSION) old (inode_of old number).size) }
     ensures full { IsErrOf result (Damaged Counts) → IfShown K.View lot.now keep.old disk.old (λ old.
-        2 ^ 32 + uses_of (dir_blocks (form_of F.VERSION) (inode_of old number).size) ≤ counted false old + uses_of (dir_blocks (form_of F.VERSION) ((inode_of old number).size + 1))) }
+        CountFull (form_of F.VERSION) old (inode_of old number).size) }
     ensures kind { IsErrOf result (Damaged Kind) → IfShown K.View lot.now keep.old disk.old (λ old.
         ¬ HasRoom lot.now (inode_of old number)) }
     ensures unreserved { IsErrOf result (Damaged Bitmap)

@@ -150,7 +150,8 @@ pub fn entry<D: Disk, V: View<D>, F: Form>(
 /// The first of the first `count` entries of a block that has this name.
 fn seek_in<F: Form>(block: &Block, count: u32, name: &[u8]) -> Option<u32>
     requires { count ≤ entries_in F.ENTRY }
-    ensures found { MatchOption result (NoneNamed (λ k. row_at F.ENTRY block.now (F.ENTRY * k)) name.now 0 count) (FirstNamed (λ k. row_at F.ENTRY block.now (F.ENTRY * k)) name.now 0 count) }
+    ensures found { MatchOption result (NoneNamed (λ k. row_at F.ENTRY block.now (F.ENTRY * k)) name.now 0 count)
+        (FirstNamed (λ k. row_at F.ENTRY block.now (F.ENTRY * k)) name.now 0 count) }
 {
     for k in 0..count {
         if *read_name::<F>(block, (F::ENTRY * k) as usize) == *name {
@@ -173,7 +174,10 @@ fn seek_block<D: Disk, V: View<D>, F: Form>(
     requires short { inode.now.size ≤ 4096 }
     requires below { n * entries_in F.ENTRY < inode.now.size }
     ensures found { IfShown V.View lot.now view.old disk.old (λ old.
-        IfOk result (λ o. MatchOption o (NoneNamed (row_sized F.ENTRY old inode.now) name.now (n * entries_in F.ENTRY) (min inode.now.size (n * entries_in F.ENTRY + entries_in F.ENTRY))) (λ p. FirstNamed (row_sized F.ENTRY old inode.now) name.now (n * entries_in F.ENTRY) inode.now.size p.0 × (p.1 ≡ (row_sized F.ENTRY old inode.now p.0).1)))) }
+        IfOk result (λ o. MatchOption o
+        (NoneNamed (row_sized F.ENTRY old inode.now) name.now (n * entries_in F.ENTRY) (min inode.now.size (n * entries_in F.ENTRY + entries_in F.ENTRY)))
+        (λ p. FirstNamed (row_sized F.ENTRY old inode.now) name.now (n * entries_in F.ENTRY) inode.now.size p.0
+        × (p.1 ≡ (row_sized F.ENTRY old inode.now p.0).1)))) }
     ensures below { IfOk result (λ o. IfSome o (λ p. p.0 < inode.now.size)) }
     ensures pointer { IsErrOf result (Damaged Pointer) → IfShown V.View lot.now view.old disk.old (λ old.
         leads lot.now old inode.now n ≡ false) }
@@ -202,7 +206,9 @@ pub fn seek<D: Disk, V: View<D>, F: Form>(
     requires sited { is_sited lot.now (D.state disk.old).size ≡ true }
     requires short { inode.now.size ≤ 4096 }
     ensures found { IfShown V.View lot.now view.old disk.old (λ old.
-        IfOk result (λ o. MatchOption o (NoneNamed (row_sized F.ENTRY old inode.now) name.now 0 inode.now.size) (λ p. FirstNamed (row_sized F.ENTRY old inode.now) name.now 0 inode.now.size p.0 × (p.1 ≡ (row_sized F.ENTRY old inode.now p.0).1)))) }
+        IfOk result (λ o. MatchOption o (NoneNamed (row_sized F.ENTRY old inode.now) name.now 0 inode.now.size)
+        (λ p. FirstNamed (row_sized F.ENTRY old inode.now) name.now 0 inode.now.size p.0
+        × (p.1 ≡ (row_sized F.ENTRY old inode.now p.0).1)))) }
     ensures below { IfOk result (λ o. IfSome o (λ p. p.0 < inode.now.size)) }
     ensures pointer { IsErrOf result (Damaged Pointer) → IfShown V.View lot.now view.old disk.old (λ old.
         (n : ℕ) × (n * entries_in F.ENTRY < inode.now.size) × (leads lot.now old inode.now n ≡ false)) }

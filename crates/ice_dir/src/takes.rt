@@ -13,7 +13,7 @@ ghost use Rattle.ice_map.specs.Inodes.{inode_of};
 ghost use Rattle.ice_map.specs.Maps.{nth_block, uses, FreeOrTwice, Misleads};
 ghost use Rattle.ice_map.specs.Own.{MadeOf, WellMade, Confuses};
 ghost use Rattle.ice_map.specs.Moves.{uses_of};
-ghost use Rattle.ice_dir.specs.Changes.{blocks_sized, DirSet, RowPut, TextTaken, EntryGone, dir_blocks};
+ghost use Rattle.ice_dir.specs.Changes.{CountLow, blocks_sized, DirSet, RowPut, TextTaken, EntryGone, dir_blocks};
 ghost use Rattle.ice_dir.specs.Faults.{IsTakeFault};
 ghost use Rattle.ice_dir.specs.Rows.{entries_in, entry_bytes, rows_of, named, look_up, without, IsDirectory};
 ghost use Rattle.tree_spec.specs.Costs.{form_of};
@@ -39,7 +39,8 @@ fn move_last<D: Disk, K: Keep<D>, F: Form>(
     requires below { k < dir.now.size }
     ensures put { AsShown K.View lot.now keep.old disk.old keep.new disk.new (λ old new.
         MadeOf lot.now old dir.now (blocks_sized F.ENTRY dir.now.size)
-        → OnOk result (RowPut lot.now F.ENTRY old new dir.now dir.now (blocks_sized F.ENTRY dir.now.size) (blocks_sized F.ENTRY dir.now.size) k (entry_bytes F.ENTRY old dir.now (dir.now.size - 1)))) }
+        → OnOk result (RowPut lot.now F.ENTRY old new dir.now dir.now (blocks_sized F.ENTRY dir.now.size)
+        (blocks_sized F.ENTRY dir.now.size) k (entry_bytes F.ENTRY old dir.now (dir.now.size - 1)))) }
     ensures counts { K.map keep.new disk.new lot.now sub_address ≡ K.map keep.old disk.old lot.now sub_address }
     ensures beside { (b : ℕ) → is_data lot.now b ≡ false
         → K.map keep.new disk.new lot.now b ≡ K.map keep.old disk.old lot.now b }
@@ -51,12 +52,12 @@ fn move_last<D: Disk, K: Keep<D>, F: Form>(
     ensures faults { IfErr result IsLookFault }
     ensures failed { IsErrOf result FaultDisk → Rose (D.state disk.old).faults (D.state disk.new).faults }
 {
-    let entries_in = rows_per_block::<F>();
+    let per_block = rows_per_block::<F>();
     let last = dir.size - 1;
     let mut from = [0; 1024];
-    read_block::<D, K, F>(keep, disk, lot, dir, last / entries_in, &mut from)?;
+    read_block::<D, K, F>(keep, disk, lot, dir, last / per_block, &mut from)?;
     let mut into = [0; 1024];
-    let at = read_block::<D, K, F>(keep, disk, lot, dir, k / entries_in, &mut into)?;
+    let at = read_block::<D, K, F>(keep, disk, lot, dir, k / per_block, &mut into)?;
     copy_row::<F>(&from, row_place::<F>(last), &mut into, row_place::<F>(k));
     store(keep, disk, lot, at, &into)?;
     Ok(())
@@ -143,7 +144,7 @@ pub fn take<D: Disk, K: Keep<D>, P: Pool<D, K>, F: Form>(
         OnOk result (IsDirectory lot.now (inode_of old number))) }
     ensures spent { Spent D.Disk K.View lot.now 8 keep.old disk.old keep.new disk.new }
     ensures zero { IsErrOf result (Damaged Counts) → IfShown K.View lot.now keep.old disk.old (λ old.
-        counted false old + uses_of (dir_blocks (form_of F.VERSION) ((inode_of old number).size - 1)) < uses_of (dir_blocks (form_of F.VERSION) (inode_of old number).size)) }
+        CountLow (form_of F.VERSION) old (inode_of old number).size) }
     ensures kind { IsErrOf result (Damaged Kind) → IfShown K.View lot.now keep.old disk.old (λ old.
         ¬ IsDirectory lot.now (inode_of old number)) }
     ensures unused { IsErrOf result (Damaged Bitmap) → IfShown K.View lot.now keep.old disk.old (λ old.

@@ -86,7 +86,8 @@ pub fn put_piece<D: Disk, K: Keep<D>, P: Pool<D, K>, F: Form>(
     ensures grew { AsShown K.View lot.now keep.old disk.old keep.new disk.new (λ old new.
         OnOk result (Grew lot.now old new inode.old inode.new count (max count (k + 1)))) }
     ensures stays { AsShown K.View lot.now keep.old disk.old keep.new disk.new (λ old new. InodesStay old new) }
-    ensures pays { OnOk result (K.room keep.old + due (K.held keep.new) inode.new.single (max count (k + 1)) ≤ K.room keep.new + due (K.held keep.old) inode.old.single count + 2) }
+    ensures pays { OnOk result (K.room keep.old + due (K.held keep.new) inode.new.single (max count (k + 1))
+        ≤ K.room keep.new + due (K.held keep.old) inode.old.single count + 2) }
     ensures spent { Spent D.Disk K.View lot.now 7 keep.old disk.old keep.new disk.new }
     ensures none { IsErrOf result NoSpace → IfShown K.View lot.now keep.old disk.old (λ old.
         (k ≡ count) × (free_count false lot.now old < needs count)) }

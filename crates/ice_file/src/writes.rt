@@ -14,7 +14,7 @@ ghost use Rattle.ice_file.specs.Files.{ReachesTo, FileSet, IsWriteFault, overwri
 ghost use Rattle.tree_spec.specs.Held.{most_bytes};
 ghost use Rattle.ice_map.specs.Growth.{Grew, InodesStay};
 ghost use Rattle.ice_map.specs.Own.{own, file_bytes, blocks_for, MadeOf, WellMade, Confuses};
-ghost use Rattle.ice_file.specs.Writes.{Written, blocks_with};
+ghost use Rattle.ice_file.specs.Writes.{BytesPut, FewFree, CountFull, blocks_with};
 ghost use Rattle.ice_map.specs.Moves.{uses_of};
 ghost use Rattle.tree_spec.specs.Costs.{form_of};
 
@@ -41,15 +41,16 @@ fn write_blocks<D: Disk, K: Keep<D>, P: Pool<D, K>, F: Form>(
     requires reaches { ReachesTo (form_of F.VERSION) at inode.old }
     ensures written { AsShown K.View lot.now keep.old disk.old keep.new disk.new (λ old new.
         MadeOf lot.now old inode.old (blocks_for inode.old.size)
-        → OnOk result (Written lot.now old new inode.old inode.new (blocks_for inode.old.size) (blocks_with inode.old.size (at + length bytes.now)) at (at + length bytes.now) bytes.now)) }
+        → OnOk result (BytesPut lot.now old new inode.old inode.new at bytes.now)) }
     ensures grew { AsShown K.View lot.now keep.old disk.old keep.new disk.new (λ old new.
-        OnOk result (Grew lot.now old new inode.old inode.new (blocks_for inode.old.size) (blocks_with inode.old.size (at + length bytes.now)))) }
+        OnOk result (Grew lot.now old new inode.old inode.new (blocks_for inode.old.size)
+        (blocks_with inode.old.size (at + length bytes.now)))) }
     ensures stays { AsShown K.View lot.now keep.old disk.old keep.new disk.new (λ old new. InodesStay old new) }
     ensures spent { Spent D.Disk K.View lot.now 44 keep.old disk.old keep.new disk.new }
     ensures none { IsErrOf result NoSpace → IfShown K.View lot.now keep.old disk.old (λ old.
-        free_count false lot.now old + uses_of (blocks_for inode.old.size) < uses_of (blocks_with inode.old.size (at + length bytes.now))) }
+        FewFree lot.now old inode.old.size (at + length bytes.now)) }
     ensures full { IsErrOf result (Damaged Counts) → IfShown K.View lot.now keep.old disk.old (λ old.
-        2 ^ 32 + uses_of (blocks_for inode.old.size) ≤ counted false old + uses_of (blocks_with inode.old.size (at + length bytes.now))) }
+        CountFull old inode.old.size (at + length bytes.now)) }
     ensures unreserved { IsErrOf result (Damaged Bitmap)
         → IfShown K.View lot.now keep.old disk.old (λ old. ¬ Reserved lot.now old) }
     ensures misled { IsErrOf result (Damaged Pointer) → IfShown K.View lot.now keep.old disk.old (λ old.
@@ -108,9 +109,9 @@ pub fn write_at<D: Disk, K: Keep<D>, P: Pool<D, K>, F: Form>(
     ensures looked { IsErrOf result (Damaged Kind)
         → Looked D.Disk K.View lot.now keep.old disk.old keep.new disk.new }
     ensures none { IsErrOf result NoSpace → IfShown K.View lot.now keep.old disk.old (λ old.
-        free_count false lot.now old + uses_of (blocks_for (inode_of old number).size) < uses_of (blocks_with (inode_of old number).size (at + length bytes.now))) }
+        FewFree lot.now old (inode_of old number).size (at + length bytes.now)) }
     ensures full { IsErrOf result (Damaged Counts) → IfShown K.View lot.now keep.old disk.old (λ old.
-        2 ^ 32 + uses_of (blocks_for (inode_of old number).size) ≤ counted false old + uses_of (blocks_with (inode_of old number).size (at + length bytes.now))) }
+        CountFull old (inode_of old number).size (at + length bytes.now)) }
     ensures unreserved { IsErrOf result (Damaged Bitmap)
         → IfShown K.View lot.now keep.old disk.old (λ old. ¬ Reserved lot.now old) }
     ensures kept { (rule : Rule) → IsErrOf result (Damaged rule)

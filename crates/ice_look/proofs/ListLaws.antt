@@ -267,7 +267,7 @@ module _ (f : Form) (one : f ≡ form_one) (lot : LotView) (m : Map) (i h : ℕ)
       (λ q.
       let row = get-row form m i k en has.is.kind has.below in
       let same = ap (λ (xs : List Row). slice_get xs k) (rows-own f one lot m i h form en) ∙ row in
-      let long = ap length (rows-own f one lot m i h form en) ∙ length-rows form m i in
+      let long = ap length (rows-own f one lot m i h form en) ∙ length-rows form m i en in
       let has_below = has.below in
       let fits : IsNameOf f (row_of form m (inode_of m i) k).0 =
       subst (λ (x : Row). IsNameOf f x.0) (get_or_from_slice_get (rows_in f (own f m i)) k (row_of form m (inode_of m i) k) ([], 0) same) (r.1.fit k ([], 0) (omega arith)) in
@@ -275,7 +275,7 @@ module _ (f : Form) (one : f ≡ form_one) (lot : LotView) (m : Map) (i h : ℕ)
 
   -- as many rows as entries
   pub rows-long : (form : Form) → form ≡ form_one → length (rows_in f (own f m i)) ≡ length (rows es)
-  rows-long form e = ap length (rows-own f one lot m i h form e) ∙ length-rows form m i ∙ ap (λ (x : Inode). x.size) (sym (inode-own f one lot m i h)) ∙ sym r.1.count
+  rows-long form e = ap length (rows-own f one lot m i h form e) ∙ length-rows form m i e ∙ ap (λ (x : Inode). x.size) (sym (inode-own f one lot m i h)) ∙ sym r.1.count
 
 -- one entry more in the room
 pub listed-more : (es : Entries) (rs : List Row) (k : ℕ) (old new : List Entry) → k < length rs → old ≡ map (listed_as es) (take k rs) → ((row : Row) → slice_get rs k ≡ Some row → new ≡ old ++ listed_as es row ∷ [])

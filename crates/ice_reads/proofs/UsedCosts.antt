@@ -9,7 +9,7 @@ use Rattle.ice_base.specs.Lots.{LotView}
 use Rattle.ice_map.specs.declared.codec.Inode.{Inode}
 use Rattle.ice_map.specs.Inodes.{inode_of}
 use Rattle.ice_map.specs.Maps.{indirect_of, longest}
-use Rattle.ice_map.specs.Own.{Own, blocks_for, map_length, file_bytes, own, own_long_of, indirects_long, nth_long}
+use Rattle.ice_map.specs.Own.{Own, blocks_for, map_length, file_bytes, own, own_long_of, indirects_long, nth_long, entry_size}
 use Rattle.ice_map.specs.Moves.{uses_of}
 use Rattle.ice_map.proofs.OwnLaws.{length-uses}
 use Rattle.ice_dir.specs.Rows.{Row}
@@ -58,11 +58,11 @@ length-bytes : (o : Own) → length (file_bytes o) ≡ o.inode.size
 unfolding file_bytes
 length-bytes o = length-map-range_with_len _ 0 o.inode.size
 
-map-file : (entry : ℕ) (x : Inode) → x.kind ≡ 1 → map_length entry x ≡ file_blocks x.size
-map-file entry x kind = ap (λ k. blocks_for (cond (k == 2) (entry * x.size) x.size)) kind ∙ ap (λ n. n / 1024) (omega arith)
+map-file : (f : Form) (x : Inode) → x.kind ≡ 1 → map_length f x ≡ file_blocks x.size
+map-file f x kind = ap (λ k. blocks_for (cond (k == 2) (entry_size f * x.size) x.size)) kind ∙ ap (λ n. n / 1024) (omega arith)
 
-map-dir : (entry : ℕ) (x : Inode) → x.kind ≡ 2 → map_length entry x ≡ blocks_for (entry * x.size)
-map-dir entry x kind = ap (λ k. blocks_for (cond (k == 2) (entry * x.size) x.size)) kind
+map-dir : (f : Form) (x : Inode) → x.kind ≡ 2 → map_length f x ≡ blocks_for (entry_size f * x.size)
+map-dir f x kind = ap (λ k. blocks_for (cond (k == 2) (entry_size f * x.size) x.size)) kind
 
 -- sixteen entries of 64 bytes, or eight of 128, have one block
 sixteen : (n : ℕ) → blocks_for (64 * n) ≡ dir_blocks form_one n
@@ -106,19 +106,19 @@ module _ (lot : LotView) (m : Map) where
 
   dir-one : length lot.groups ≤ 64 → (i : ℕ) (es : Entries) → IsDirInode form_one lot (own form_one m i) es → length (own form_one m i).uses ≡ map_cost (dir_blocks form_one (length (rows es)))
   dir-one few i es r =
-      let long = map-dir form_one (inode_of m i) r.is_dir in
+      let long : map_length form_one (inode_of m i) ≡ blocks_for (64 * (inode_of m i).size) = map-dir form_one (inode_of m i) r.is_dir in
       let short : map_length form_one (inode_of m i) ≤ 268 = let d = div-add-mod' (64 * (inode_of m i).size + 1023) 1024 in let w : (inode_of m i).size < 64 * length lot.groups = r.within in omega arith in
       length-uses m (inode_of m i) (map_length form_one (inode_of m i)) ∙ cost-short (map_length form_one (inode_of m i)) short ∙ ap map_cost (long ∙ sixteen (inode_of m i).size ∙ ap (dir_blocks form_one) (sym r.count))
 
   file-two : (i : ℕ) (bytes : List ℕ) → IsFileInode form_two (own form_two m i) bytes → length (own form_two m i).uses ≡ map_cost (file_blocks (length bytes))
   file-two i bytes r =
-      length-long m (inode_of m i) (map_length 128 (inode_of m i))
-      ∙ ap map_cost (map-file 128 (inode_of m i) r.is_file ∙ ap file_blocks (sym (length-bytes (own form_two m i)) ∙ ap length r.bytes_are))
+      length-long m (inode_of m i) (map_length form_two (inode_of m i))
+      ∙ ap map_cost (map-file form_two (inode_of m i) r.is_file ∙ ap file_blocks (sym (length-bytes (own form_two m i)) ∙ ap length r.bytes_are))
 
   dir-two : (i : ℕ) (es : Entries) → IsDirInode form_two lot (own form_two m i) es → length (own form_two m i).uses ≡ map_cost (dir_blocks form_two (length (rows es)))
   dir-two i es r =
-      length-long m (inode_of m i) (map_length 128 (inode_of m i))
-      ∙ ap map_cost (map-dir 128 (inode_of m i) r.is_dir ∙ eight (inode_of m i).size ∙ ap (dir_blocks form_two) (sym r.count))
+      length-long m (inode_of m i) (map_length form_two (inode_of m i))
+      ∙ ap map_cost (map-dir form_two (inode_of m i) r.is_dir ∙ eight (inode_of m i).size ∙ ap (dir_blocks form_two) (sym r.count))
 
 -- in the form of a version a tree uses as many blocks as it costs
 pub cost_is_used : (f : Form) (lot : LotView) (m : Map) (i h : ℕ) (t : Tree) → f ≡ form_of f.version → length lot.groups ≤ 64 → Reads f lot (own f m) i h t → length (used_blocks f (own f m) i t) ≡ blocks f t

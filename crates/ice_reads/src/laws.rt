@@ -14,7 +14,8 @@ ghost use Rattle.ice_reads.specs.Recovers.{MapRecovers};
 /// A map recovers one tree, with one count and one mode.
 #[tactic(auto, using(crate::proofs::Recovering::recovers_one))]
 pub fn one_tree()
-    ensures { (f : Form) (mode other : ℕ) (lot : LotView) (m : Map) (t u : Tree) (j k : ℕ) → MapRecovers f mode lot m t j → MapRecovers f other lot m u k → (t ≡ u) × (j ≡ k) × (mode ≡ other) }
+    ensures { (f : Form) (mode other : ℕ) (lot : LotView) (m : Map) (t u : Tree) (j k : ℕ)
+        → MapRecovers f mode lot m t j → MapRecovers f other lot m u k → (t ≡ u) × (j ≡ k) × (mode ≡ other) }
 {}
 
 /// The count that a map recovers has at most 63 bits.
@@ -34,8 +35,10 @@ pub fn same_blocks()
 
 /// A number stands in a list as often as a bit says where it stands there once at most, and just where the bit is set.
 pub fn marks_as_sets()
-    ensures sets { (xs : List ℕ) (a : ℕ) (b : Bool) → times xs a ≡ mark b → (times xs a ≤ 1) × (b ≡ true → has xs a ≡ true) × (has xs a ≡ true → b ≡ true) }
-    ensures counts { (xs : List ℕ) (a : ℕ) (b : Bool) → times xs a ≤ 1 → (b ≡ true → has xs a ≡ true) → (has xs a ≡ true → b ≡ true) → times xs a ≡ mark b }
+    ensures sets { (xs : List ℕ) (a : ℕ) (b : Bool) → times xs a ≡ mark b
+        → (times xs a ≤ 1) × (b ≡ true → has xs a ≡ true) × (has xs a ≡ true → b ≡ true) }
+    ensures counts { (xs : List ℕ) (a : ℕ) (b : Bool) → times xs a ≤ 1
+        → (b ≡ true → has xs a ≡ true) → (has xs a ≡ true → b ≡ true) → times xs a ≡ mark b }
 {}
 
 /// A fresh lot recovers the empty directory, with no accepted operation.
@@ -47,5 +50,6 @@ pub fn fresh_lot()
 /// In the form of a version, a tree uses as many blocks of a lot of at most 64 groups as it costs.
 #[tactic(auto, using(crate::proofs::UsedCosts::cost_is_used))]
 pub fn cost_is_used()
-    ensures { (f : Form) (lot : LotView) (m : Map) (i h : ℕ) (t : Tree) → f ≡ form_of f.version → length lot.groups ≤ 64 → Reads f lot (own f m) i h t → length (used_blocks f (own f m) i t) ≡ blocks f t }
+    ensures { (f : Form) (lot : LotView) (m : Map) (i h : ℕ) (t : Tree) → f ≡ form_of f.version
+        → length lot.groups ≤ 64 → Reads f lot (own f m) i h t → length (used_blocks f (own f m) i t) ≡ blocks f t }
 {}

@@ -1,4 +1,4 @@
-use Rattle.std.proofs.Common.{rules, ◌≡◌, ◌∙◌, ap, sym, subst, Some, inl, arith, List, ℕ, []}
+use Rattle.std.proofs.Common.{rules, ◌≡◌, ◌∙◌, ap, sym, subst, Some, inl, arith, List, ℕ, [], ◌+◌, ◌-◌, ◌<◌, false}
 use Rattle.ice_dir.proofs.SizeLaws.{sized}
 use Rattle.tree_spec.specs.Costs.{form_of}
 use Rattle.std.specs.List.{swap_remove}
@@ -12,6 +12,8 @@ use Rattle.ice_dir.specs.Rows.{row_sized, rows_of}
 use Rattle.ice_dir.proofs.DirLaws.{look-found, look-none, rows-read}
 use Rattle.ice_dir.proofs.FaultLaws.{misled-block}
 use Rattle.ice_dir.proofs.TakeLaws.{row-named}
+use Rattle.ice_base.specs.Used.{counted}
+use Rattle.ice_map.specs.Moves.{uses_of}
 use Rattle.ice_dir.proofs.takes.take.Goals as goal
 
 pub seek-requires-clause-short : goal.seek-requires-clause-short
@@ -93,3 +95,12 @@ returns-in_err-remove_row-in-Some-clause-misled g c = λ e s.
     subst (λ n. Confuses c.args.lot.now m (inode_of m c.args.number) (blocks_sized n (inode_of m c.args.number).size)) (sym (sized g.F.Form.VERSION g.F.Form.ENTRY g.F.Form.is_one.0 g.F.Form.is_one.1))
     (subst (λ (i : Inode). Confuses c.args.lot.now m i (blocks_sized g.F.Form.ENTRY i.size)) (c.in_ok-dir.ensures.value s)
     (subst (λ (n : ℕ → List ℕ). Confuses c.args.lot.now n c.in_ok-dir.dir (blocks_sized g.F.Form.ENTRY c.in_ok-dir.dir.size)) same (c.in_err-remove_row-in-Some.ensures.misled (search rules) t)))
+
+pub returns-in_err-remove_row-in-Some-clause-zero : goal.returns-in_err-remove_row-in-Some-clause-zero
+returns-in_err-remove_row-in-Some-clause-zero g c = λ e s.
+    let t = c.seek.ensures.looked.shows (c.dir_inode.ensures.looked.shows s) in
+    let same = c.seek.ensures.looked.map ∙ c.dir_inode.ensures.looked.map in
+    let m = g.K.View.map c.args.keep.now c.args.disk.now c.args.lot.now in
+    subst (λ n. counted false m + uses_of (blocks_sized n ((inode_of m c.args.number).size - 1)) < uses_of (blocks_sized n (inode_of m c.args.number).size)) (sym (sized g.F.Form.VERSION g.F.Form.ENTRY g.F.Form.is_one.0 g.F.Form.is_one.1))
+    (subst (λ (i : Inode). counted false m + uses_of (blocks_sized g.F.Form.ENTRY (i.size - 1)) < uses_of (blocks_sized g.F.Form.ENTRY i.size)) (c.in_ok-dir.ensures.value s)
+    (subst (λ (n : ℕ → List ℕ). counted false n + uses_of (blocks_sized g.F.Form.ENTRY (c.in_ok-dir.dir.size - 1)) < uses_of (blocks_sized g.F.Form.ENTRY c.in_ok-dir.dir.size)) same (c.in_err-remove_row-in-Some.ensures.zero (search rules) t)))

@@ -205,7 +205,7 @@ has_higher-returns-clause-pays g t c = λ s reached dir size e.
       arith,
       spread-dir (form_of g.F.Form.VERSION) m c.args.levels c.args.number dir.kind,
       c.loop-k.invariant.pays s reached dir size,
-      rows-whole (form_of g.F.Form.VERSION) m c.args.levels c.args.number c.loop-k.k (omega (arith, length-rows (form_of g.F.Form.VERSION) m c.args.number, size, c.loop-k-test.false)),
+      rows-whole (form_of g.F.Form.VERSION) m c.args.levels c.args.number c.loop-k.k (omega (arith, length-rows (form_of g.F.Form.VERSION) m c.args.number (ap form_of g.F.Form.is_one.0), size, c.loop-k-test.false)),
     )
 
 pub is_higher-returns-then-budget-eq0-clause-broken : goal.is_higher-returns-then-budget-eq0-clause-broken
