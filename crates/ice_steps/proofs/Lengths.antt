@@ -42,21 +42,6 @@ file-size m i bytes r =
     let l = length-map-range_with_len (byte_of m (inode_of m i)) 0 (inode_of m i).size in
     sym l ∙ ap (λ (xs : List ℕ). length xs) (sym e ∙ r.bytes_are)
 
--- a file has at most 268 blocks, and so has a directory
-pub file-short : (lot : LotView) (m : Map) (i : ℕ) (bytes : List ℕ) → IsFileInode form_one (own form_one m i) bytes → map_length form_one (inode_of m i) ≤ 268
-file-short lot m i bytes r =
-    let e = file_length form_one (inode_of m i) r.is_file in
-    let w : (inode_of m i).size ≤ 274432 = r.within in
-    let d = div-add-mod' ((inode_of m i).size + 1023) 1024 in
-    omega arith
-
-pub dir-short : (lot : LotView) (m : Map) (i : ℕ) (es : Entries) → length lot.groups ≤ 64 → IsDirInode form_one lot (own form_one m i) es → map_length form_one (inode_of m i) ≤ 268
-dir-short lot m i es few r =
-    let e = dir-length form_one (inode_of m i) refl r.is_dir in
-    let w : (inode_of m i).size < 64 * length lot.groups = r.within in
-    let d = div-add-mod' ((inode_of m i).size + 15) 16 in
-    omega arith
-
 module _ (lot : LotView) (few : length lot.groups ≤ 64) (m : Map) where
   pub length-blocks : (i h : ℕ) (t : Tree) → Reads form_one lot (own form_one m) i h t → length (used_blocks form_one (own form_one m) i t) ≡ blocks form_one t
   length-blocks i h t r = cost_is_used form_one lot m i h t refl few r

@@ -16,7 +16,6 @@ use Rattle.ice_reads.proofs.Frames.{times-here}
 use Rattle.ice_reads.proofs.Focus.{Reads-part, uses-part}
 use Rattle.ice_steps.specs.Beside.{Beside}
 use Rattle.ice_steps.proofs.Counts.{mark-small, mark-set}
-use Rattle.ice_steps.proofs.Lengths.{file-short, dir-short}
 
 -- what the inode at the top of a tree uses
 pub own-first : (f : Form) (o : Table) (i : ℕ) (s : Tree) (b : ℕ) → times (o i).uses b ≤ times (used_blocks f o i s) b
@@ -28,10 +27,6 @@ inode-first f o i (File bytes) = omega (arith, times-here i [])
 inode-first f o i (Dir es) = omega (arith, times-here i (entries_use f o (λ i. i ∷ []) (rows_in f (o i)) es))
 
 module _ (lot : LotView) (few : length lot.groups ≤ 64) (m : Map) where
-  reads-short : (i h : ℕ) (s : Tree) → Reads form_one lot (own form_one m) i h s → map_length form_one (inode_of m i) ≤ 268
-  reads-short i h (File bytes) r = file-short lot m i bytes r.1
-  reads-short i h (Dir es) r = dir-short lot m i es few r.1
-
   -- an inode that stands for a tree is well made where its blocks are marked, each once
   pub made-reads : (i h : ℕ) (s : Tree) → Reads form_one lot (own form_one m) i h s → ((b : ℕ) → is_data lot b ≡ true → times (own form_one m i).uses b ≤ mark (used_block m b)) → WellMade lot form_one m i
   made-reads i h s r marks =
