@@ -11,6 +11,7 @@ import sys
 ROOTS = [
     ("ice_run", "run"),
     ("ice_run", "image_of"),
+    ("ice_look", None),
     ("ice_tree", None),
     ("ice_check", None),
     ("ice_rules", None),

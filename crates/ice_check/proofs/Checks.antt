@@ -5,12 +5,12 @@ use Rattle.ice_base.specs.Lots.{LotView}
 use Rattle.ice_base.specs.Used.{used_inode}
 use Rattle.ice_map.specs.Maps.{times}
 use Rattle.ice_map.proofs.ListLaws.{times-append}
-use Rattle.ice_file.specs.Own.{file_bytes}
+use Rattle.ice_map.specs.Own.{file_bytes, own}
 use Rattle.ice_dir.specs.Rows.{Row}
 use Rattle.tree_spec.specs.Answers.{deepest}
 use Rattle.tree_spec.specs.Trees.{File, Dir, Entries, Nil}
 use Rattle.tree_spec.specs.Costs.{Form}
-use Rattle.ice_reads.specs.Tables.{Map, Table, own_in, rows_in, IsInode}
+use Rattle.ice_reads.specs.Tables.{Map, Table, rows_in, IsInode}
 use Rattle.ice_reads.specs.Reads.{Reads, tree_uses, entries_use, used_inodes, used_blocks}
 use Rattle.ice_reads.proofs.Frames.{times-other}
 use Rattle.ice_rules.specs.Walks.{IsSound, KindFits}
@@ -20,7 +20,7 @@ use Rattle.ice_check.proofs.MarkLaws.{marked_both, marked_as, marked_none}
 
 module _ (f : Form) (lot : LotView) (m : Map) where
   abbrev o : Table
-  o = own_in f m
+  o = own f m
 
   alone : (i j : ℕ) → 0 < times (i ∷ []) j → i ≡ j
   alone i j h =

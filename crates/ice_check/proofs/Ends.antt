@@ -8,13 +8,13 @@ use Rattle.ice_base.specs.declared.fault.Rule.TheVariants as rule
 use Rattle.ice_base.proofs.UsedLaws.{data_below}
 use Rattle.ice_map.specs.Maps.{times}
 use Rattle.ice_map.proofs.ListLaws.{has-times}
-use Rattle.ice_file.specs.Own.{mark}
+use Rattle.ice_map.specs.Own.{mark, own}
 use Rattle.tree_spec.specs.Answers.{is_dir}
 use Rattle.tree_spec.specs.Trees.{Tree, File, Dir}
 use Rattle.tree_spec.specs.Costs.{Form}
 use Rattle.ice_reads.specs.Reads.{Reads, used_blocks, used_inodes}
 use Rattle.ice_reads.specs.Recovers.{Holds}
-use Rattle.ice_reads.specs.Tables.{Map, Table, own_in}
+use Rattle.ice_reads.specs.Tables.{Map, Table}
 use Rattle.ice_reads.proofs.Numbers.{Reads-number, Reads-data}
 use Rattle.ice_steps.proofs.Counts.{count-times, mark-same, mark-small}
 use Rattle.ice_rules.specs.Walks.{KindFits}
@@ -36,7 +36,7 @@ module _ (f : Form) (lot : LotView) (m : Map) where
 
   module _ (in0 in1 bl0 bl1 : List Bool) (none : Unmarked in0 × Unmarked bl0) (c : Checked f lot m 0 0 in0 in1 bl0 bl1) where
     abbrev o : Table
-    o = own_in f m
+    o = own f m
 
     inode-marks : (i : ℕ) → times (used_inodes f o 0 c.tree) i ≡ mark (marked in1 i)
     inode-marks i = omega (arith, c.inodes.each i, ap mark (none.0 i))

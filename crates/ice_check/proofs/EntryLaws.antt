@@ -11,13 +11,13 @@ use Rattle.ice_base.specs.declared.fault.Rule.TheVariants as rule
 use Rattle.ice_map.specs.Inodes.{inode_of}
 use Rattle.ice_map.specs.Maps.{nth_block, leads}
 use Rattle.ice_map.proofs.MapLaws.{nth-direct, leads-direct, leads-single}
-use Rattle.ice_file.specs.Own.{map_length}
+use Rattle.ice_map.specs.Own.{map_length, own}
 use Rattle.ice_dir.specs.Faults.{IsEntryFault}
 use Rattle.ice_dir.specs.Rows.{Row, rows_of, HasEntry}
 use Rattle.ice_dir.proofs.DirLaws.{row-below}
 use Rattle.tree_spec.specs.Costs.{form_one}
 use Rattle.tree_spec.specs.Names.{is_name}
-use Rattle.ice_reads.specs.Tables.{Map, own_in, rows_in}
+use Rattle.ice_reads.specs.Tables.{Map, rows_in}
 use Rattle.ice_reads.proofs.Losses.{length-rows_in}
 use Rattle.ice_rules.specs.Walks.{KindFits, LooksInto}
 use Rattle.ice_rules.specs.Rules.{Breaks}
@@ -47,18 +47,18 @@ few_entries : (lot : LotView) (i : ℕ) (k : ℕ) (m : Map) → KindFits form_on
 few_entries lot i k m (inl h) two = absurd (let one = h.0 in omega arith)
 few_entries lot i k m (inr h) two = h.1
 
-module _ (lot : LotView) (m : Map) (w : List ℕ) (dir k : ℕ) (looks : LooksInto form_one lot m w dir) (below : k < length (rows_in form_one (own_in form_one m dir))) where
+module _ (lot : LotView) (m : Map) (w : List ℕ) (dir k : ℕ) (looks : LooksInto form_one lot m w dir) (below : k < length (rows_in form_one (own form_one m dir))) where
   short : k < (inode_of m dir).size
-  short = omega (arith, below, length-rows_in form_one (own_in form_one m dir))
+  short = omega (arith, below, length-rows_in form_one (own form_one m dir))
 
   entry-there : HasEntry lot k (inode_of m dir)
   entry-there = record { is = record { kind = looks.dir.dir; few = few_entries lot dir k m looks.dir.sound.kind looks.dir.dir }; below = short }
 
-  inside : k / 16 < map_length 64 (inode_of m dir)
-  inside = row-below 64 (inode_of m dir) k refl looks.dir.dir short
+  inside : k / 16 < map_length form_one (inode_of m dir)
+  inside = row-below form_one (inode_of m dir) k refl looks.dir.dir short
 
   place-there : is_data lot (nth_block m (inode_of m dir) (k / 16)) ≡ true
-  place-there = looks.dir.sound.pointers.places _ (nth_used m (inode_of m dir) (map_length 64 (inode_of m dir)) (k / 16) inside)
+  place-there = looks.dir.sound.pointers.places _ (nth_used m (inode_of m dir) (map_length form_one (inode_of m dir)) (k / 16) inside)
 
   leads-there : leads lot m (inode_of m dir) (k / 16) ≡ true
   leads-there =
@@ -69,18 +69,18 @@ module _ (lot : LotView) (m : Map) (w : List ℕ) (dir k : ℕ) (looks : LooksIn
         | false ↦ λ t.
             let high : 12 ≤ k / 16 = grind (arith, nat_tests) in
             let at = inside in
-            let single = looks.dir.sound.pointers.places _ (single_used m (inode_of m dir) (map_length 64 (inode_of m dir)) (omega arith)) in
+            let single = looks.dir.sound.pointers.places _ (single_used m (inode_of m dir) (map_length form_one (inode_of m dir)) (omega arith)) in
             leads-single lot m (inode_of m dir) (k / 16) high single ∙ place-there
       ] refl
 
-  name_broken : IfSome (slice_get (rows_of 64 m dir) k) (λ row. is_name row.0 ≡ false) → Breaks form_one lot m rule.Name
+  name_broken : IfSome (slice_get (rows_of form_one m dir) k) (λ row. is_name row.0 ≡ false) → Breaks form_one lot m rule.Name
   name_broken bad =
-      let at = slice_get-get_or (rows_of 64 m dir) k ([], 0) below in
-      let out : is_name (get_or (rows_of 64 m dir) k ([], 0)).0 ≡ false = subst (λ o. IfSome o (λ (row : Row). is_name row.0 ≡ false)) at bad in
-      record { walk = w; dir = dir; entry = k; row = get_or (rows_of 64 m dir) k ([], 0); looks = looks; is = at; bad = λ f. no (sym f.is ∙ out) }
+      let at = slice_get-get_or (rows_of form_one m dir) k ([], 0) below in
+      let out : is_name (get_or (rows_of form_one m dir) k ([], 0)).0 ≡ false = subst (λ o. IfSome o (λ (row : Row). is_name row.0 ≡ false)) at bad in
+      record { walk = w; dir = dir; entry = k; row = get_or (rows_of form_one m dir) k ([], 0); looks = looks; is = at; bad = λ f. no (sym f.is ∙ out) }
 
   pub entry_broken : (e : OpFault) → IsEntryFault e → (e ≡ op.Damaged rule.Kind → ¬ HasEntry lot k (inode_of m dir)) → (e ≡ op.Damaged rule.Pointer → leads lot m (inode_of m dir) (k / 16) ≡ false)
-      → (e ≡ op.Damaged rule.Name → IfSome (slice_get (rows_of 64 m dir) k) (λ row. is_name row.0 ≡ false)) → Broke lot m (told_as e)
+      → (e ≡ op.Damaged rule.Name → IfSome (slice_get (rows_of form_one m dir) k) (λ row. is_name row.0 ≡ false)) → Broke lot m (told_as e)
   entry_broken op.Disk h a b c = tt
   entry_broken (op.Damaged rule.Kind) h a b c = absurd (a refl entry-there)
   entry_broken (op.Damaged rule.Pointer) h a b c = absurd (no (sym leads-there ∙ b refl))

@@ -12,9 +12,9 @@ use Rattle.ice_map.specs.Inodes.{inode_of}
 use Rattle.ice_map.specs.Maps.{nth_block, blocks_of, indirect_of, uses, longest}
 use Rattle.ice_map.proofs.ListLaws.{has-append, has-cons, has-none, has-left, has-right, has-head, has-range, map_range_same}
 use Rattle.ice_map.proofs.MapLaws.{nth-direct, nth-single}
-use Rattle.ice_file.specs.Own.{blocks_for, map_length, own_of}
+use Rattle.ice_map.specs.Own.{blocks_for, map_length, own_of, own, RestIsZero}
 use Rattle.tree_spec.specs.Costs.{form_one}
-use Rattle.ice_reads.specs.Tables.{Map, own_in, RestIsZero}
+use Rattle.ice_reads.specs.Tables.{Map}
 use Rattle.ice_rules.specs.Walks.{KindFits, PointersFit, WalksTo}
 use Rattle.ice_rules.specs.Rules.{Breaks}
 use Rattle.ice_check.proofs.MarkLaws.{indirect_none, indirect_one}
@@ -34,7 +34,7 @@ pub size_small : (lot : LotView) (i : ℕ) (inode : Inode) → length lot.groups
 size_small lot i inode few (inl h) = h.1
 size_small lot i inode few (inr h) = let lt = h.1 in omega arith
 
-pub map_short : (lot : LotView) (i : ℕ) (inode : Inode) → length lot.groups ≤ 64 → KindFits form_one lot i inode → map_length 64 inode ≤ longest
+pub map_short : (lot : LotView) (i : ℕ) (inode : Inode) → length lot.groups ≤ 64 → KindFits form_one lot i inode → map_length form_one inode ≤ longest
 map_short lot i inode few (inl h) =
     let t : (inode.kind == 2) ≡ false = (let one = h.0 in grind (arith, nat_tests)) in
     rw t (short-file inode.size h.1)
@@ -111,14 +111,14 @@ nth_used m inode count n h = has-right (indirect_of inode count) (blocks_of m in
 -- ---- pointers that fit, or don't
 
 module _ (lot : LotView) (m : Map) (i : ℕ) (inode : Inode) (is : inode ≡ inode_of m i) where
-  pub fits_here : (pointers : List ℕ) → (12 < map_length 64 inode → pointers ≡ m inode.single) → PointersFit form_one lot (own_of (λ _. pointers) inode (map_length 64 inode)) → PointersFit form_one lot (own_in form_one m i)
+  pub fits_here : (pointers : List ℕ) → (12 < map_length form_one inode → pointers ≡ m inode.single) → PointersFit form_one lot (own_of (λ _. pointers) inode (map_length form_one inode)) → PointersFit form_one lot (own form_one m i)
   fits_here pointers same p =
-      subst (λ (x : Inode). PointersFit form_one lot (own_of m x (map_length 64 x))) is (record {
-        places = λ b h. p.places b (subst (λ xs. has xs b ≡ true) (same_uses m inode pointers (map_length 64 inode) same) h);
+      subst (λ (x : Inode). PointersFit form_one lot (own_of m x (map_length form_one x))) is (record {
+        places = λ b h. p.places b (subst (λ xs. has xs b ≡ true) (same_uses m inode pointers (map_length form_one inode) same) h);
         rest = p.rest;
       })
 
-  pub kind_here : KindFits form_one lot i inode → KindFits form_one lot i (own_in form_one m i).inode
+  pub kind_here : KindFits form_one lot i inode → KindFits form_one lot i (own form_one m i).inode
   kind_here k = subst (λ (x : Inode). KindFits form_one lot i x) is k
 
   -- the walk that comes to it
@@ -126,15 +126,15 @@ module _ (lot : LotView) (m : Map) (i : ℕ) (inode : Inode) (is : inode ≡ ino
     pub kind_broken : ¬ KindFits form_one lot i inode → Breaks form_one lot m rule.Kind
     kind_broken bad = record { walk = w; inode = i; by = by; marked = used; bad = λ k. bad (subst (λ (x : Inode). KindFits form_one lot i x) (sym is) k) }
 
-    pointer_broken : KindFits form_one lot i inode → ¬ PointersFit form_one lot (own_of m inode (map_length 64 inode)) → Breaks form_one lot m rule.Pointer
-    pointer_broken k bad = record { walk = w; inode = i; by = by; marked = used; kind = kind_here k; bad = λ p. bad (subst (λ (x : Inode). PointersFit form_one lot (own_of m x (map_length 64 x))) (sym is) p) }
+    pointer_broken : KindFits form_one lot i inode → ¬ PointersFit form_one lot (own_of m inode (map_length form_one inode)) → Breaks form_one lot m rule.Pointer
+    pointer_broken k bad = record { walk = w; inode = i; by = by; marked = used; kind = kind_here k; bad = λ p. bad (subst (λ (x : Inode). PointersFit form_one lot (own_of m x (map_length form_one x))) (sym is) p) }
 
-    pub single_broken : KindFits form_one lot i inode → 12 < map_length 64 inode → is_data lot inode.single ≡ false → Breaks form_one lot m rule.Pointer
-    single_broken k h out = pointer_broken k (λ p. no (sym (p.places inode.single (single_used m inode (map_length 64 inode) h)) ∙ out))
+    pub single_broken : KindFits form_one lot i inode → 12 < map_length form_one inode → is_data lot inode.single ≡ false → Breaks form_one lot m rule.Pointer
+    single_broken k h out = pointer_broken k (λ p. no (sym (p.places inode.single (single_used m inode (map_length form_one inode) h)) ∙ out))
 
-    pub nth_broken : KindFits form_one lot i inode → (pointers : List ℕ) → (12 < map_length 64 inode → pointers ≡ m inode.single) → (n : ℕ) → n < map_length 64 inode → is_data lot (nth_block (λ _. pointers) inode n) ≡ false → Breaks form_one lot m rule.Pointer
+    pub nth_broken : KindFits form_one lot i inode → (pointers : List ℕ) → (12 < map_length form_one inode → pointers ≡ m inode.single) → (n : ℕ) → n < map_length form_one inode → is_data lot (nth_block (λ _. pointers) inode n) ≡ false → Breaks form_one lot m rule.Pointer
     nth_broken k pointers same n h out =
-        pointer_broken k (λ p. no (sym (p.places (nth_block m inode n) (nth_used m inode (map_length 64 inode) n h)) ∙ ap (is_data lot) (same_nth m inode pointers (map_length 64 inode) n same h) ∙ out))
+        pointer_broken k (λ p. no (sym (p.places (nth_block m inode n) (nth_used m inode (map_length form_one inode) n h)) ∙ ap (is_data lot) (same_nth m inode pointers (map_length form_one inode) n same h) ∙ out))
 
-    pub rest_broken : KindFits form_one lot i inode → ¬ RestIsZero inode (map_length 64 inode) → Breaks form_one lot m rule.Pointer
+    pub rest_broken : KindFits form_one lot i inode → ¬ RestIsZero inode (map_length form_one inode) → Breaks form_one lot m rule.Pointer
     rest_broken k bad = pointer_broken k (λ p. bad p.rest)

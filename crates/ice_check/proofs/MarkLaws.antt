@@ -6,7 +6,7 @@ use Rattle.std.proofs.lemmas.List.{get_or-set_same, get_or-set_other}
 use Rattle.ice_map.specs.declared.codec.Inode.{Inode}
 use Rattle.ice_map.specs.Maps.{times, nth_block, blocks_of, indirect_of, uses}
 use Rattle.ice_map.proofs.ListLaws.{times-append, range-append, has-range, has-times, has-left, has-right, has-head}
-use Rattle.ice_file.specs.Own.{mark}
+use Rattle.ice_map.specs.Own.{mark}
 use Rattle.ice_reads.proofs.Frames.{times-here, times-other}
 use Rattle.ice_check.specs.Marks.{marked, Marked, MarkedTwice}
 

@@ -16,12 +16,12 @@ use Rattle.std.proofs.lemmas.Option.{slice_get-get_or, slice_get_within}
 use Rattle.ice_base.specs.Lots.{LotView}
 use Rattle.ice_base.specs.declared.fault.Rule.TheVariants as rule
 use Rattle.ice_dir.specs.Rows.{Row}
-use Rattle.ice_file.specs.Own.{mark}
+use Rattle.ice_map.specs.Own.{mark, own}
 use Rattle.tree_spec.specs.Costs.{form_one}
 use Rattle.tree_spec.specs.Routes.{is_same_name}
 use Rattle.tree_spec.specs.Trees.{by_bytes}
 use Rattle.tree_spec.proofs.Trees.{same_name, is_same_name-refl}
-use Rattle.ice_reads.specs.Tables.{Map, own_in, rows_in, IsNameOf}
+use Rattle.ice_reads.specs.Tables.{Map, rows_in, IsNameOf}
 use Rattle.ice_reads.proofs.Focus.{same_Some}
 use Rattle.ice_rules.specs.Walks.{entry_of, LooksInto}
 use Rattle.ice_rules.specs.Rules.{Breaks}
@@ -189,9 +189,9 @@ none_taken c (r ∷ rs) zero h = refl
 none_taken c (r ∷ rs) (suc k) h =
     rw (h 0 r (omega arith) refl) (none_taken c rs k (λ i s lt at. h (suc i) s (omega arith) at))
 
-module _ (lot : LotView) (m : Map) (dir count : ℕ) (names cut : List (List ℕ)) (is : count ≡ length (rows_in form_one (own_in form_one m dir))) (long : length cut ≡ count) (same : (k : ℕ) → k < count → get_or cut k [] ≡ get_or names k []) (read : AreRead m dir count names) where
+module _ (lot : LotView) (m : Map) (dir count : ℕ) (names cut : List (List ℕ)) (is : count ≡ length (rows_in form_one (own form_one m dir))) (long : length cut ≡ count) (same : (k : ℕ) → k < count → get_or cut k [] ≡ get_or names k []) (read : AreRead m dir count names) where
   abbrev rs : List Row
-  rs = rows_in form_one (own_in form_one m dir)
+  rs = rows_in form_one (own form_one m dir)
 
   name-at : (k : ℕ) (row : Row) → k < count → entry_of form_one m dir k ≡ Some row → get_or cut k [] ≡ row.0
   name-at k row h at = same k h ∙ read.each k row h at

@@ -7,9 +7,9 @@ use Rattle.ice_base.specs.declared.fault.Rule.TheVariants as rule
 use Rattle.ice_map.specs.declared.codec.Inode.{Inode}
 use Rattle.ice_map.specs.Inodes.{inode_of}
 use Rattle.ice_map.specs.Maps.{times, uses}
-use Rattle.ice_file.specs.Own.{map_length, own_of}
+use Rattle.ice_map.specs.Own.{map_length, own_of, own}
 use Rattle.tree_spec.specs.Costs.{form_one}
-use Rattle.ice_reads.specs.Tables.{Map, own_in, rows_in, IsNameOf}
+use Rattle.ice_reads.specs.Tables.{Map, rows_in, IsNameOf}
 use Rattle.ice_reads.proofs.Losses.{length-rows_in}
 use Rattle.ice_rules.specs.Walks.{KindFits, PointersFit, IsSound, IsNamable, WalksTo, WalkUses, LooksInto, BlockReached, entry_of}
 use Rattle.ice_rules.specs.Rules.{Breaks, Differs}
@@ -25,25 +25,25 @@ pub dir_kind : (lot : LotView) (i : ℕ) (inode : Inode) → KindFits form_one l
 dir_kind lot i inode (inl h) other = absurd (other h.0)
 dir_kind lot i inode (inr h) other = h
 
-module _ (lot : LotView) (m : Map) (i : ℕ) (inode : Inode) (is : inode ≡ inode_of m i) (kind : KindFits form_one lot i inode) (pointers : List ℕ) (count : ℕ) (long : count ≡ map_length 64 inode)
-    (same : 12 < map_length 64 inode → pointers ≡ m inode.single) (fits : PointersFit form_one lot (own_of (λ _. pointers) inode (map_length 64 inode))) where
+module _ (lot : LotView) (m : Map) (i : ℕ) (inode : Inode) (is : inode ≡ inode_of m i) (kind : KindFits form_one lot i inode) (pointers : List ℕ) (count : ℕ) (long : count ≡ map_length form_one inode)
+    (same : 12 < map_length form_one inode → pointers ≡ m inode.single) (fits : PointersFit form_one lot (own_of (λ _. pointers) inode (map_length form_one inode))) where
   pub sound_here : used_inode m i ≡ true → IsSound form_one lot m i
   sound_here used = record { marked = used; kind = kind_here lot m i inode is kind; pointers = fits_here lot m i inode is pointers same fits }
 
-  pub uses_here : uses (λ _. pointers) inode count ≡ (own_in form_one m i).uses
+  pub uses_here : uses (λ _. pointers) inode count ≡ (own form_one m i).uses
   uses_here =
-      ap (uses (λ _. pointers) inode) long ∙ sym (same_uses m inode pointers (map_length 64 inode) same) ∙ ap (λ (x : Inode). uses m x (map_length 64 x)) is
+      ap (uses (λ _. pointers) inode) long ∙ sym (same_uses m inode pointers (map_length form_one inode) same) ∙ ap (λ (x : Inode). uses m x (map_length form_one x)) is
 
-  pub marks_here : (old new : List Bool) → Marked old new (uses (λ _. pointers) inode count) → Marked old new (own_in form_one m i).uses
+  pub marks_here : (old new : List Bool) → Marked old new (uses (λ _. pointers) inode count) → Marked old new (own form_one m i).uses
   marks_here old new a = subst (Marked old new) uses_here a
 
-  pub file_here : inode.kind ≡ 1 → (own_in form_one m i).inode.kind ≡ 1
+  pub file_here : inode.kind ≡ 1 → (own form_one m i).inode.kind ≡ 1
   file_here e = ap (λ (x : Inode). x.kind) (sym is) ∙ e
 
-  pub dir_here : inode.kind ≢ 1 → ((own_in form_one m i).inode.kind ≡ 2) × (inode.size ≡ length (rows_in form_one (own_in form_one m i)))
+  pub dir_here : inode.kind ≢ 1 → ((own form_one m i).inode.kind ≡ 2) × (inode.size ≡ length (rows_in form_one (own form_one m i)))
   dir_here other = (
     ap (λ (x : Inode). x.kind) (sym is) ∙ (dir_kind lot i inode kind other).0,
-    ap (λ (x : Inode). x.size) is ∙ sym (length-rows_in form_one (own_in form_one m i)),
+    ap (λ (x : Inode). x.size) is ∙ sym (length-rows_in form_one (own form_one m i)),
   )
 
   -- a block that is not marked used

@@ -7,10 +7,10 @@ use Rattle.ice_base.specs.Used.{used_inode}
 use Rattle.ice_base.specs.declared.fault.Rule.TheVariants as rule
 use Rattle.ice_map.specs.Maps.{times}
 use Rattle.ice_map.proofs.UsesLaws.{times-has}
-use Rattle.ice_file.specs.Own.{mark}
+use Rattle.ice_map.specs.Own.{mark, own}
 use Rattle.tree_spec.specs.Answers.{deepest}
 use Rattle.tree_spec.specs.Costs.{Form}
-use Rattle.ice_reads.specs.Tables.{Map, Table, own_in}
+use Rattle.ice_reads.specs.Tables.{Map, Table}
 use Rattle.ice_reads.proofs.Frames.{times-other}
 use Rattle.ice_rules.specs.Walks.{IsSound, IsOpen, GoesTo, WalksTo, LooksInto, InodeReached, Before, Within}
 use Rattle.ice_rules.specs.Rules.{Breaks, Differs}
@@ -24,7 +24,7 @@ was false b n e t = inr (omega (arith, e, ap mark t))
 
 module _ (f : Form) (lot : LotView) (m : Map) where
   abbrev o : Table
-  o = own_in f m
+  o = own f m
 
   seen_more : (P Q : List ℕ → Type 0) (ins bls : List Bool) → ((v : List ℕ) → P v → Q v) → Seen f lot m P ins bls → Seen f lot m Q ins bls
   seen_more P Q ins bls go s = record {

@@ -11,7 +11,8 @@ use Rattle.ice_layout.specs.Subs.{sub_rule, IsSub, sub_magic}
 use Rattle.ice_layout.specs.declared.sub.SubSuper.{SubSuper}
 use Rattle.tree_spec.specs.Trees.{Tree}
 use Rattle.tree_spec.specs.Costs.{Form, form_one, form_of, blocks}
-use Rattle.ice_reads.specs.Tables.{Map, own_in}
+use Rattle.ice_reads.specs.Tables.{Map}
+use Rattle.ice_map.specs.Own.{own}
 use Rattle.ice_reads.specs.Recovers.{MapRecovers}
 use Rattle.ice_reads.proofs.Focus.{same_Some}
 use Rattle.ice_rules.specs.Rules.{Breaks, MayName, form_in}
@@ -85,7 +86,7 @@ module _ (lot : LotView) (few : length lot.groups ≤ 64) (m : Map) (sub : SubSu
       holds = h.holds;
     });
     blocks_are = sym blocks-counted ∙ h.holds.block_count ∙ length-blocks lot few m 0 0 h.tree h.holds.reads ∙ ap (λ f. blocks f h.tree) (sym form-one);
-    nodes_are = sym nodes-counted ∙ h.holds.inode_count ∙ length-inodes form_one (own_in form_one m) 0 h.tree;
+    nodes_are = sym nodes-counted ∙ h.holds.inode_count ∙ length-inodes form_one (own form_one m) 0 h.tree;
   }
 
 -- what may be named of blocks that recover a tree

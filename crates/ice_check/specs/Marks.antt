@@ -9,11 +9,11 @@ use Rattle.ice_base.specs.Used.{used_block, used_inode, is_data, Reserved, count
 use Rattle.ice_base.specs.declared.fault.Rule.{Rule}
 use Rattle.ice_base.specs.declared.fault.Rule.TheVariants as rule
 use Rattle.ice_map.specs.Maps.{times}
-use Rattle.ice_file.specs.Own.{mark}
+use Rattle.ice_map.specs.Own.{mark, own}
 use Rattle.ice_dir.specs.Rows.{Row}
 use Rattle.tree_spec.specs.Trees.{Tree, Entries, by_bytes}
 use Rattle.tree_spec.specs.Costs.{Form, form_one}
-use Rattle.ice_reads.specs.Tables.{Map, own_in, rows_in, IsNameOf}
+use Rattle.ice_reads.specs.Tables.{Map, rows_in, IsNameOf}
 use Rattle.ice_reads.specs.Reads.{Reads, entries_use, used_inodes, used_blocks}
 use Rattle.ice_rules.specs.RowsRead.{RowsRead, names_in}
 use Rattle.ice_rules.specs.Walks.{IsSound, IsNamable, GoesTo, WalksTo, WalkUses, entry_of, Before, Within}
@@ -24,7 +24,7 @@ marked marks k = slice_index_or marks k false
 
 -- how many entries a directory has
 abbrev pub entry_count : Map → ℕ → ℕ
-entry_count m i = length (rows_in form_one (own_in form_one m i))
+entry_count m i = length (rows_in form_one (own form_one m i))
 
 -- each number got a mark for each time that it stands in the list
 pub record Marked (old new : List Bool) (xs : List ℕ) : Type 0 where
@@ -33,19 +33,19 @@ pub record Marked (old new : List Bool) (xs : List ℕ) : Type 0 where
 -- inode i stands for a tree, all its inodes are marked used in their bitmaps, none of them below is the root, and they and its blocks got marks
 pub record Checked (f : Form) (lot : LotView) (m : Map) (i h : ℕ) (in0 in1 bl0 bl1 : List Bool) : Type 0 where
   pub tree : Tree
-  pub reads : Reads f lot (own_in f m) i h tree
+  pub reads : Reads f lot (own f m) i h tree
   pub sound : IsSound f lot m i
-  pub used : (j : ℕ) → 0 < times (used_inodes f (own_in f m) i tree) j → used_inode m j ≡ true
-  pub inodes : Marked in0 in1 (used_inodes f (own_in f m) i tree)
-  pub blocks : Marked bl0 bl1 (used_blocks f (own_in f m) i tree)
+  pub used : (j : ℕ) → 0 < times (used_inodes f (own f m) i tree) j → used_inode m j ≡ true
+  pub inodes : Marked in0 in1 (used_inodes f (own f m) i tree)
+  pub blocks : Marked bl0 bl1 (used_blocks f (own f m) i tree)
 
 -- the first rows of a directory stand for entries, whose inodes and blocks got marks
 pub record CheckedRows (f : Form) (lot : LotView) (m : Map) (rs : List Row) (h done : ℕ) (in0 in1 bl0 bl1 : List Bool) : Type 0 where
   pub entries : Entries
-  pub rows : RowsRead f lot (own_in f m) rs h done entries
-  pub used : (j : ℕ) → 0 < times (entries_use f (own_in f m) (λ n. n ∷ []) rs entries) j → used_inode m j ≡ true
-  pub inodes : Marked in0 in1 (entries_use f (own_in f m) (λ n. n ∷ []) rs entries)
-  pub blocks : Marked bl0 bl1 (entries_use f (own_in f m) (λ n. (own_in f m n).uses) rs entries)
+  pub rows : RowsRead f lot (own f m) rs h done entries
+  pub used : (j : ℕ) → 0 < times (entries_use f (own f m) (λ n. n ∷ []) rs entries) j → used_inode m j ≡ true
+  pub inodes : Marked in0 in1 (entries_use f (own f m) (λ n. n ∷ []) rs entries)
+  pub blocks : Marked bl0 bl1 (entries_use f (own f m) (λ n. (own f m n).uses) rs entries)
 
 -- a row before row k has this name
 abbrev pub is_taken : List Row → ℕ → List ℕ → Bool
@@ -56,7 +56,7 @@ pub record IsGood (f : Form) (lot : LotView) (m : Map) (dir k j : ℕ) : Type 0 
   pub row : Row
   pub is : entry_of f m dir k ≡ Some row
   pub name : IsNameOf f row.0
-  pub new : is_taken (rows_in f (own_in f m dir)) k row.0 ≡ false
+  pub new : is_taken (rows_in f (own f m dir)) k row.0 ≡ false
   pub number : IsNamable lot row.1
   pub same : j ≡ row.1
 
@@ -118,7 +118,7 @@ pub record AreRead (m : Map) (dir count : ℕ) (names : List (List ℕ)) : Type 
 
 -- each entry of a directory has a name that no entry before it has
 pub record AllNew (m : Map) (dir : ℕ) : Type 0 where
-  pub each : (k : ℕ) (row : Row) → entry_of form_one m dir k ≡ Some row → is_taken (rows_in form_one (own_in form_one m dir)) k row.0 ≡ false
+  pub each : (k : ℕ) (row : Row) → entry_of form_one m dir k ≡ Some row → is_taken (rows_in form_one (own form_one m dir)) k row.0 ≡ false
 
 -- ---- bitmaps
 

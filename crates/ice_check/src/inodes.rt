@@ -6,19 +6,17 @@ ghost use Rattle.ice_base.specs.Used.{used_inode, is_data};
 ghost use Rattle.ice_base.specs.Views.{Looked};
 ghost use Rattle.ice_map.specs.Inodes.{inode_of};
 ghost use Rattle.ice_map.specs.Maps.{longest, nth_block};
-ghost use Rattle.ice_file.specs.Own.{map_length, own_of};
+ghost use Rattle.ice_map.specs.Own.{map_length, own_of, RestIsZero};
 ghost use Rattle.tree_spec.specs.Costs.{form_one};
-ghost use Rattle.ice_reads.specs.Tables.{Map, RestIsZero};
+ghost use Rattle.ice_reads.specs.Tables.{Map};
 ghost use Rattle.ice_rules.specs.Walks.{KindFits, PointersFit, WalksTo};
 ghost use Rattle.ice_check.specs.Shown.{Shows, IsDisk, IsCheckFault, Broke};
 ghost use Rattle.ice_check.specs.declared.fault.CheckFault.TheVariants.{Disk as FaultDisk};
 
 use crate::fault::CheckFault;
 use crate::reads::{read_block, read_inode};
-use ice_base::{Block, Disk, Lot, Rule, View, read_u32};
-use ice_map::Inode;
-
-const LONGEST_FILE: u32 = 274_432;
+use ice_base::{Block, Disk, FormOne, Lot, Rule, View, read_u32};
+use ice_map::{Inode, longest_file};
 
 #[tactic(auto, unfolding(ice_base::specs::Used::is_data))]
 fn is_data_place(lot: &Lot, at: u32) -> bool
@@ -33,15 +31,15 @@ fn kind_fits(lot: &Lot, number: u32, inode: &Inode) -> bool
     ensures no { result ≡ false → ¬ KindFits form_one lot.now number inode.now }
 {
     if inode.kind == 1 {
-        return inode.size <= LONGEST_FILE && number > 0;
+        return inode.size <= longest_file::<FormOne>() && number > 0;
     }
     inode.kind == 2 && inode.size < 64 * lot.len() as u32
 }
 
 /// How many blocks the map of an inode has.
 pub fn map_blocks(inode: &Inode) -> u32
-    requires { inode.now.size ≤ 274432 }
-    ensures { result ≡ map_length 64 inode.now }
+    requires { inode.now.size ≤ form_one.longest_file }
+    ensures { result ≡ map_length form_one inode.now }
 {
     if inode.kind == 2 {
         (64 * inode.size).div_ceil(1024)
@@ -148,9 +146,9 @@ pub fn look<D: Disk, V: View<D>>(
     requires number { number < 64 * length lot.now.groups }
     ensures value { (m : Map) → Shows V.View lot.now view.old disk.old m → IfOk result (λ inode. inode ≡ inode_of m number) }
     ensures kind { IfOk result (KindFits form_one lot.now number) }
-    ensures fits { IfOk result (λ inode. PointersFit form_one lot.now (own_of (λ _. pointers.new) inode (map_length 64 inode))) }
+    ensures fits { IfOk result (λ inode. PointersFit form_one lot.now (own_of (λ _. pointers.new) inode (map_length form_one inode))) }
     ensures content { (m : Map) → Shows V.View lot.now view.old disk.old m
-        → IfOk result (λ inode. 12 < map_length 64 inode → pointers.new ≡ m inode.single) }
+        → IfOk result (λ inode. 12 < map_length form_one inode → pointers.new ≡ m inode.single) }
     ensures broken { (m : Map) (w : List ℕ) → Shows V.View lot.now view.old disk.old m → WalksTo form_one lot.now m w number
         → used_inode m number ≡ true → IfErr result (Broke lot.now m) }
     ensures looked { Looked D.Disk V.View lot.now view.old disk.old view.new disk.new }

@@ -5,7 +5,8 @@ ghost use Rattle.ice_base.specs.Lots.{is_sited};
 ghost use Rattle.ice_base.specs.Used.{used_inode};
 ghost use Rattle.ice_base.specs.Views.{Looked};
 ghost use Rattle.tree_spec.specs.Costs.{form_one};
-ghost use Rattle.ice_reads.specs.Tables.{Map, own_in, rows_in};
+ghost use Rattle.ice_reads.specs.Tables.{Map, rows_in};
+ghost use Rattle.ice_map.specs.Own.{own};
 ghost use Rattle.ice_rules.specs.Walks.{WalksTo, LooksInto, IsSound, IsOpen, IsNamable};
 ghost use Rattle.ice_check.specs.Marks.{entry_count, Marked, Checked, CheckedRows, AllNew, IsGood, IsAt, SeenBefore, SeenWithin};
 ghost use Rattle.ice_check.specs.Shown.{Shows, IsCheckFault, Broke};
@@ -36,11 +37,11 @@ fn visit<D: Disk, V: View<D>>(
     ensures sound { (m : Map) → Shows V.View lot.now view.old disk.old m → used_inode m number ≡ true
         → OnOk result (IsSound form_one lot.now m number) }
     ensures marks { (m : Map) → Shows V.View lot.now view.old disk.old m
-        → OnOk result (Marked blocks.old blocks.new (own_in form_one m number).uses) }
+        → OnOk result (Marked blocks.old blocks.new (own form_one m number).uses) }
     ensures file { (m : Map) → Shows V.View lot.now view.old disk.old m
-        → IfOk result (λ o. IfNone o ((own_in form_one m number).inode.kind ≡ 1)) }
+        → IfOk result (λ o. IfNone o ((own form_one m number).inode.kind ≡ 1)) }
     ensures dir { (m : Map) → Shows V.View lot.now view.old disk.old m
-        → IfOk result (λ o. IfSome o (λ n. ((own_in form_one m number).inode.kind ≡ 2)
+        → IfOk result (λ o. IfSome o (λ n. ((own form_one m number).inode.kind ≡ 2)
         × (n ≡ entry_count m number))) }
     ensures broken { (m : Map) (w : List ℕ) (inodes : List Bool) → Shows V.View lot.now view.old disk.old m
         → WalksTo form_one lot.now m w number → used_inode m number ≡ true
@@ -171,7 +172,7 @@ fn check_rows<D: Disk, V: View<D>>(
     ensures room { length names.new ≡ length names.old }
     ensures checked { (m : Map) → Shows V.View lot.now view.old disk.old m → IsOpen form_one lot.now m number
         → count ≡ entry_count m number
-        → OnOk result (CheckedRows form_one lot.now m (rows_in form_one (own_in form_one m number)) (depth + 1) count
+        → OnOk result (CheckedRows form_one lot.now m (rows_in form_one (own form_one m number)) (depth + 1) count
         inodes.old inodes.new blocks.old blocks.new) }
     ensures broken { (m : Map) (w : List ℕ) → Shows V.View lot.now view.old disk.old m → IsOpen form_one lot.now m number
         → count ≡ entry_count m number

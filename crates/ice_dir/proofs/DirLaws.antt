@@ -12,8 +12,10 @@ use Rattle.std.specs.Option.{option_map}
 use Rattle.ice_map.specs.declared.codec.Inode.{Inode}
 use Rattle.ice_map.specs.Inodes.{inode_of}
 use Rattle.ice_map.specs.Maps.{nth_block}
-use Rattle.ice_file.specs.Own.{map_length, blocks_for}
-use Rattle.ice_dir.specs.Rows.{Row, per_block, place_of, row_at, row_of, dir_rows, rows_of, named, look_up, NoneNamed, FirstNamed}
+use Rattle.ice_map.specs.Own.{entry_size, Own, map_length, blocks_for}
+use Rattle.ice_map.proofs.OwnLaws.{own-short}
+use Rattle.tree_spec.specs.Costs.{Form, form_one}
+use Rattle.ice_dir.specs.Rows.{Row, entries_in, per_block, place_of, row_at, row_sized, row_of, dir_rows, rows_of, named, look_up, NoneNamed, FirstNamed}
 
 pub map-same : {X : Type 0} (f g : ℕ → X) (a n : ℕ) → ((k : ℕ) → a ≤ k → k < a + n → f k ≡ g k) → map f (range_with_len a n) ≡ map g (range_with_len a n)
 map-same f g a zero h = refl
@@ -22,8 +24,8 @@ map-same f g a (suc n) h =
     ∙ ap (λ xs. g a ∷ xs) (map-same f g (a + 1) n (λ k l m. h k (omega arith) (omega arith)))
 
 -- how many blocks a directory has
-pub dir-length : (entry : ℕ) (inode : Inode) → entry ≡ 64 → inode.kind ≡ 2 → map_length entry inode ≡ (inode.size + 15) / 16
-dir-length entry inode e k =
+pub dir-length : (f : Form) (inode : Inode) → f ≡ form_one → inode.kind ≡ 2 → map_length f inode ≡ (inode.size + 15) / 16
+dir-length f inode e k =
     let a = div-add-mod' (64 * inode.size + 1023) 1024 in
     let r = mod_below (64 * inode.size + 1023) 1024 (omega arith) in
     let b = div-add-mod' (inode.size + 15) 16 in
@@ -31,19 +33,19 @@ dir-length entry inode e k =
     let q : blocks_for (64 * inode.size) ≡ (inode.size + 15) / 16 = omega (arith, a, r, b, s) in
     rw (e, k) q
 
--- the block and the place of an entry
-pub per-sixteen : (entry : ℕ) → entry ≡ 64 → per_block entry ≡ 16
-per-sixteen entry e = rw e refl
+-- the block and the place of an f
+pub per-sixteen : (f : Form) → f ≡ form_one → per_block f ≡ 16
+per-sixteen f e = rw e refl
 
-pub row-below : (entry : ℕ) (inode : Inode) (k : ℕ) → entry ≡ 64 → inode.kind ≡ 2 → k < inode.size → k / per_block entry < map_length entry inode
-row-below entry inode k e kind h =
-    let l = dir-length entry inode e kind in
+pub row-below : (f : Form) (inode : Inode) (k : ℕ) → f ≡ form_one → inode.kind ≡ 2 → k < inode.size → k / per_block f < map_length f inode
+row-below f inode k e kind h =
+    let l = dir-length f inode e kind in
     let b = div-add-mod' (inode.size + 15) 16 in
     let s = mod_below (inode.size + 15) 16 (omega arith) in
     let c = div-add-mod' k 16 in
     let t = mod_below k 16 (omega arith) in
-    let q : k / 16 < map_length entry inode = omega (arith, l, b, s, c, t) in
-    rw (per-sixteen entry e) q
+    let q : k / 16 < map_length f inode = omega (arith, l, b, s, c, t) in
+    rw (per-sixteen f e) q
 
 mapped : (m : ℕ → List ℕ) (f : ℕ → ℕ) (count k : ℕ) → k < count → slice_index_or (map m (map f (range_with_len 0 count))) k [] ≡ m (f k)
 mapped m f count k h =
@@ -51,16 +53,22 @@ mapped m f count k h =
     get_or-map m (map f (range_with_len 0 count)) k 0 [] (omega arith) ∙ ap m (get_or-map-range_with_len f 0 count k k 0 h (omega arith))
 
 -- the rows of a directory are those of its blocks
-pub rows-all : (entry : ℕ) (m : ℕ → List ℕ) (number : ℕ) → entry ≡ 64 → (inode_of m number).kind ≡ 2
-    → rows_of entry m number ≡ map (row_of entry m (inode_of m number)) (range_with_len 0 (inode_of m number).size)
+pub rows-all : (f : Form) (m : ℕ → List ℕ) (number : ℕ) → f ≡ form_one → (inode_of m number).kind ≡ 2
+    → rows_of f m number ≡ map (row_of f m (inode_of m number)) (range_with_len 0 (inode_of m number).size)
 unfolding dir_rows
-rows-all entry m number e kind =
-    map-same _ (row_of entry m (inode_of m number)) 0 (inode_of m number).size (λ k l h.
-    ap (λ (b : List ℕ). row_at entry b (place_of entry k)) (mapped m (nth_block m (inode_of m number)) (map_length entry (inode_of m number)) (k / per_block entry) (row-below entry (inode_of m number) k e kind (omega arith))))
+rows-all f m number e kind =
+    ap (λ (o : Own). dir_rows f o) (own-short f e m number)
+    ∙ map-same _ (row_of f m (inode_of m number)) 0 (inode_of m number).size (λ k l h.
+    ap (λ (b : List ℕ). row_at (entry_size f) b (place_of (entry_size f) k)) (mapped m (nth_block m (inode_of m number)) (map_length f (inode_of m number)) (k / per_block f) (row-below f (inode_of m number) k e kind (omega arith))))
 
-pub length-rows : (entry : ℕ) (m : ℕ → List ℕ) (number : ℕ) → length (rows_of entry m number) ≡ (inode_of m number).size
+-- so they are where entries have just as many bytes
+pub rows-sized : (f : Form) (entry : ℕ) (m : ℕ → List ℕ) (number : ℕ) → f ≡ form_one → entry_size f ≡ entry → (inode_of m number).kind ≡ 2
+    → rows_of f m number ≡ map (row_sized entry m (inode_of m number)) (range_with_len 0 (inode_of m number).size)
+rows-sized f entry m number e same kind = rows-all f m number e kind ∙ ap (λ n. map (row_sized n m (inode_of m number)) (range_with_len 0 (inode_of m number).size)) same
+
+pub length-rows : (f : Form) (m : ℕ → List ℕ) (number : ℕ) → f ≡ form_one → length (rows_of f m number) ≡ (inode_of m number).size
 unfolding dir_rows
-length-rows entry m number = length-map-range_with_len _ 0 (inode_of m number).size
+length-rows f m number e = ap (λ (o : Own). length (dir_rows f o)) (own-short f e m number) ∙ length-map-range_with_len _ 0 (inode_of m number).size
 
 get-mapped : {X : Type 0} (f : ℕ → X) (a n k : ℕ) → k < n → slice_get (map f (range_with_len a n)) k ≡ Some (f (a + k))
 get-mapped f a zero k h = absurd (omega arith)
@@ -68,20 +76,21 @@ get-mapped f a (suc n) zero h = ap (λ x. Some (f x)) (omega arith)
 get-mapped f a (suc n) (suc k) h = get-mapped f (a + 1) n k (omega arith) ∙ ap (λ x. Some (f x)) (omega arith)
 
 -- row k
-pub get-row : (entry : ℕ) (m : ℕ → List ℕ) (number k : ℕ) → entry ≡ 64 → (inode_of m number).kind ≡ 2 → k < (inode_of m number).size → slice_get (rows_of entry m number) k ≡ Some (row_of entry m (inode_of m number) k)
-get-row entry m number k e kind h =
-    ap (λ (xs : List Row). slice_get xs k) (rows-all entry m number e kind)
-    ∙ get-mapped (row_of entry m (inode_of m number)) 0 (inode_of m number).size k h
-    ∙ ap (λ x. Some (row_of entry m (inode_of m number) x)) (omega arith)
+pub get-row : (f : Form) (m : ℕ → List ℕ) (number k : ℕ) → f ≡ form_one → (inode_of m number).kind ≡ 2 → k < (inode_of m number).size → slice_get (rows_of f m number) k ≡ Some (row_of f m (inode_of m number) k)
+get-row f m number k e kind h =
+    ap (λ (xs : List Row). slice_get xs k) (rows-all f m number e kind)
+    ∙ get-mapped (row_of f m (inode_of m number)) 0 (inode_of m number).size k h
+    ∙ ap (λ x. Some (row_of f m (inode_of m number) x)) (omega arith)
 
 -- a row that was read
-pub read-row : (entry : ℕ) (m : ℕ → List ℕ) (number k b at : ℕ) (inode : Inode) (block : List ℕ) → entry ≡ 64 → inode ≡ inode_of m number → inode.kind ≡ 2 → k < inode.size
-    → b ≡ k / per_block entry → at ≡ place_of entry k → block ≡ m (nth_block m inode b) → slice_get (rows_of entry m number) k ≡ Some (row_at entry block at)
-read-row entry m number k b at inode block e is kind h eb ep read =
+pub read-row : (f : Form) (entry : ℕ) (m : ℕ → List ℕ) (number k b at : ℕ) (inode : Inode) (block : List ℕ) → f ≡ form_one → entry_size f ≡ entry → inode ≡ inode_of m number → inode.kind ≡ 2 → k < inode.size
+    → b ≡ k / entries_in entry → at ≡ place_of entry k → block ≡ m (nth_block m inode b) → slice_get (rows_of f m number) k ≡ Some (row_at entry block at)
+read-row f entry m number k b at inode block e same is kind h eb ep read =
     let kind' : (inode_of m number).kind ≡ 2 = ap (λ (i : Inode). i.kind) (sym is) ∙ kind in
     let small : k < (inode_of m number).size = rw is at h in
-    get-row entry m number k e kind' small
-    ∙ ap (λ (i : Inode). Some (row_of entry m i k)) (sym is)
+    get-row f m number k e kind' small
+    ∙ ap (λ n. Some (row_sized n m (inode_of m number) k)) same
+    ∙ ap (λ (i : Inode). Some (row_sized entry m i k)) (sym is)
     ∙ ap (λ x. Some (row_at entry (m (nth_block m inode x)) (place_of entry k))) (sym eb)
     ∙ ap (λ (c : List ℕ). Some (row_at entry c (place_of entry k))) (sym read)
     ∙ ap (λ x. Some (row_at entry block x)) (sym ep)
@@ -137,9 +146,9 @@ look-none row name n f =
     ∙ slice_get_past (map row (range_with_len 0 n)) n (omega arith))
 
 -- the rows of an inode that was read
-pub rows-read : (entry : ℕ) (m m' : ℕ → List ℕ) (number : ℕ) (inode : Inode) → entry ≡ 64 → inode ≡ inode_of m number → inode.kind ≡ 2 → m' ≡ m
-    → rows_of entry m number ≡ map (row_of entry m' inode) (range_with_len 0 inode.size)
-rows-read entry m m' number inode e is kind same =
-    rows-all entry m number e (ap (λ (i : Inode). i.kind) (sym is) ∙ kind)
-    ∙ ap (λ (i : Inode). map (row_of entry m i) (range_with_len 0 i.size)) (sym is)
-    ∙ ap (λ (n : ℕ → List ℕ). map (row_of entry n inode) (range_with_len 0 inode.size)) (sym same)
+pub rows-read : (f : Form) (entry : ℕ) (m m' : ℕ → List ℕ) (number : ℕ) (inode : Inode) → f ≡ form_one → entry_size f ≡ entry → inode ≡ inode_of m number → inode.kind ≡ 2 → m' ≡ m
+    → rows_of f m number ≡ map (row_sized entry m' inode) (range_with_len 0 inode.size)
+rows-read f entry m m' number inode e same is kind looked =
+    rows-sized f entry m number e same (ap (λ (i : Inode). i.kind) (sym is) ∙ kind)
+    ∙ ap (λ (i : Inode). map (row_sized entry m i) (range_with_len 0 i.size)) (sym is)
+    ∙ ap (λ (n : ℕ → List ℕ). map (row_sized entry n inode) (range_with_len 0 inode.size)) (sym looked)

@@ -1,3 +1,4 @@
+pub mod SizeLaws
 pub mod RowLaws
 pub mod DirLaws
 pub mod SetLaws

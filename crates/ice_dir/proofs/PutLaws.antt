@@ -1,5 +1,5 @@
 -- What a write of one row does.
-use Rattle.std.proofs.Common.{◌≡◌, ◌≢◌, ◌≤◌, ◌<◌, ◌⊎◌, ◌+◌, ◌-◌, ◌*◌, ◌/◌, ◌%◌, ◌==◌, max, ℕ, true, false, List, [], ◌∷◌, ◌++◌, map, length, slice_index_or, slice_set, get_or, ◌∙◌, sym, refl, ap, subst, inl, inr, ⊎_elim, arith, length-take, length-set}
+use Rattle.std.proofs.Common.{◌≡◌, ◌≢◌, ◌≤◌, ◌<◌, ◌⊎◌, ◌+◌, ◌-◌, ◌*◌, ◌/◌, ◌%◌, ◌==◌, max, ℕ, true, false, cond, List, [], ◌∷◌, ◌++◌, map, length, slice_index_or, slice_set, get_or, ◌∙◌, sym, refl, ap, subst, inl, inr, ⊎_elim, arith, length-take, length-set}
 use Rattle.std.proofs.lemmas.Bool.Decides.{nat_tests}
 use Rattle.std.proofs.lemmas.List.{ext_get_or, get_or-take, get_or-set_same, get_or-set_other}
 use Rattle.std.proofs.lemmas.List.FromFn.{get_or-map-range_with_len, length-map-range_with_len, map-range_with_len_more}
@@ -10,19 +10,24 @@ use Rattle.ice_base.specs.Inodes.{inode_address}
 use Rattle.ice_base.specs.Lots.{LotView}
 use Rattle.ice_map.specs.declared.codec.Inode.{Inode}
 use Rattle.ice_map.specs.Inodes.{inode_of, InodeSet}
-use Rattle.ice_file.specs.Own.{MadeOf, WellMade, map_length, blocks_for}
-use Rattle.ice_file.specs.Writes.{Moved, Reached, content_of}
-use Rattle.ice_file.proofs.MoveLaws.{moved-then, put-moved, put-others, put-here}
-use Rattle.ice_dir.specs.Changes.{dir_blocks, RowPut, DirSet, TextAdded, TextTaken}
-use Rattle.ice_dir.specs.Rows.{Row, per_block, place_of, row_bytes, row_in, row_of, entry_bytes, texts_of, rows_of, IsText, IsDirectory}
-use Rattle.ice_dir.proofs.DirLaws.{map-same, rows-all, per-sixteen}
+use Rattle.ice_map.specs.Own.{entry_size, MadeOf, WellMade, map_length, blocks_for}
+use Rattle.ice_map.specs.Moves.{Moved, Reached, content_of}
+use Rattle.ice_map.proofs.MoveLaws.{moved-then, put-moved, put-others, put-here}
+use Rattle.ice_map.proofs.OwnLaws.{made-short}
+use Rattle.tree_spec.specs.Costs.{Form, form_one}
+use Rattle.ice_dir.specs.Changes.{blocks_sized, dir_blocks, RowPut, DirSet, TextAdded, TextTaken}
+use Rattle.ice_dir.specs.Rows.{Row, entries_in, place_of, row_bytes, row_in, row_sized, entry_bytes, texts_of, rows_of, IsText, IsDirectory}
+use Rattle.ice_dir.proofs.DirLaws.{map-same, rows-sized}
 use Rattle.ice_dir.proofs.RowLaws.{bytes-same}
-use Rattle.ice_file.proofs.SetLaws.{resized, own-set}
+use Rattle.ice_map.proofs.SetLaws.{resized, own-set}
 use Rattle.ice_dir.proofs.SetLaws.{set-content}
 
--- the blocks of a directory
-pub dir-sixteenth : (entry size : ℕ) → entry ≡ 64 → dir_blocks entry size ≡ (size + 15) / 16
-dir-sixteenth entry size e =
+-- how many entries of 64 bytes a block has, and how many blocks they have
+pub in-sixteen : (entry : ℕ) → entry ≡ 64 → entries_in entry ≡ 16
+in-sixteen entry e = rw e refl
+
+pub sized-sixteenth : (entry size : ℕ) → entry ≡ 64 → blocks_sized entry size ≡ (size + 15) / 16
+sized-sixteenth entry size e =
     let a = div-add-mod' (64 * size + 1023) 1024 in
     let r = mod_below (64 * size + 1023) 1024 (omega arith) in
     let b = div-add-mod' (size + 15) 16 in
@@ -30,32 +35,36 @@ dir-sixteenth entry size e =
     let q : blocks_for (64 * size) ≡ (size + 15) / 16 = omega (arith, a, r, b, s) in
     rw e q
 
-pub row-inside : (entry size j : ℕ) → entry ≡ 64 → j < size → j / per_block entry < dir_blocks entry size
+-- the blocks of a directory
+pub dir-sixteenth : (f : Form) (size : ℕ) → f ≡ form_one → dir_blocks f size ≡ (size + 15) / 16
+dir-sixteenth f size e = sized-sixteenth (entry_size f) size (ap entry_size e)
+
+pub row-inside : (entry size j : ℕ) → entry ≡ 64 → j < size → j / entries_in entry < blocks_sized entry size
 row-inside entry size j e h =
-    let l = dir-sixteenth entry size e in
+    let l = sized-sixteenth entry size e in
     let b = div-add-mod' (size + 15) 16 in
     let s = mod_below (size + 15) 16 (omega arith) in
     let c = div-add-mod' j 16 in
     let t = mod_below j 16 (omega arith) in
-    let q : j / 16 < dir_blocks entry size = omega (arith, l, b, s, c, t) in
-    rw (per-sixteen entry e) q
+    let q : j / 16 < blocks_sized entry size = omega (arith, l, b, s, c, t) in
+    rw (in-sixteen entry e) q
 
 -- the blocks of a directory with one entry more
-pub one-more : (entry size : ℕ) → entry ≡ 64 → max (dir_blocks entry size) (size / per_block entry + 1) ≡ dir_blocks entry (size + 1)
+pub one-more : (entry size : ℕ) → entry ≡ 64 → max (blocks_sized entry size) (size / entries_in entry + 1) ≡ blocks_sized entry (size + 1)
 one-more entry size e =
-    let l = dir-sixteenth entry size e in
-    let m = dir-sixteenth entry (size + 1) e in
+    let l = sized-sixteenth entry size e in
+    let m = sized-sixteenth entry (size + 1) e in
     let a = div-add-mod' (size + 15) 16 in
     let b = mod_below (size + 15) 16 (omega arith) in
     let c = div-add-mod' (size + 1 + 15) 16 in
     let d = mod_below (size + 1 + 15) 16 (omega arith) in
     let f = div-add-mod' size 16 in
     let i = mod_below size 16 (omega arith) in
-    let q : max (dir_blocks entry size) (size / 16 + 1) ≡ dir_blocks entry (size + 1) = omega (arith, l, m, a, b, c, d, f, i) in
-    rw (per-sixteen entry e) q
+    let q : max (blocks_sized entry size) (size / 16 + 1) ≡ blocks_sized entry (size + 1) = omega (arith, l, m, a, b, c, d, f, i) in
+    rw (in-sixteen entry e) q
 
 -- two rows of a block
-pub rows-apart : (entry j k : ℕ) → entry ≡ 64 → j / per_block entry ≡ k / per_block entry → j ≢ k → (place_of entry j + entry ≤ place_of entry k) ⊎ (place_of entry k + entry ≤ place_of entry j)
+pub rows-apart : (entry j k : ℕ) → entry ≡ 64 → j / entries_in entry ≡ k / entries_in entry → j ≢ k → (place_of entry j + entry ≤ place_of entry k) ⊎ (place_of entry k + entry ≤ place_of entry j)
 rows-apart entry j k e = rw e (sixteen j k)
   where
     sixteen : (j k : ℕ) → j / 16 ≡ k / 16 → j ≢ k → (64 * (j % 16) + 64 ≤ 64 * (k % 16)) ⊎ (64 * (k % 16) + 64 ≤ 64 * (j % 16))
@@ -68,39 +77,39 @@ pub place-fits : (entry k : ℕ) → entry ≡ 64 → place_of entry k + entry �
 place-fits entry k e = rw e (let b = mod_below k 16 (omega arith) in omega (arith, b))
 
 -- a block of a map was put, in which one row was written
-module _ (lot : LotView) (entry : ℕ) (m0 m1 m2 : ℕ → List ℕ) (x y : Inode) (c d k at : ℕ) (old new bytes : List ℕ) (sixty : entry ≡ 64) (reached : Reached lot m0 m1 x y c (k / per_block entry) at) (few : length lot.groups ≤ 64)
-    (wide : max c (k / per_block entry + 1) ≡ d) (had : k / per_block entry < c → old ≡ content_of m0 x (k / per_block entry)) (long : length old ≡ 1024) (now_long : length new ≡ 1024) (beside : SameBeside (place_of entry k) entry old new)
+module _ (lot : LotView) (entry : ℕ) (m0 m1 m2 : ℕ → List ℕ) (x y : Inode) (c d k at : ℕ) (old new bytes : List ℕ) (sixty : entry ≡ 64) (reached : Reached lot m0 m1 x y c (k / entries_in entry) at) (few : length lot.groups ≤ 64)
+    (wide : max c (k / entries_in entry + 1) ≡ d) (had : k / entries_in entry < c → old ≡ content_of m0 x (k / entries_in entry)) (long : length old ≡ 1024) (now_long : length new ≡ 1024) (beside : SameBeside (place_of entry k) entry old new)
     (here : row_bytes entry new (place_of entry k) ≡ bytes) (put : m2 at ≡ new) (only : (b : ℕ) → b ≢ at → m2 b ≡ m1 b) where
   moved-one : Moved lot m0 m1 x y c d
   moved-one = subst (λ n. Moved lot m0 m1 x y c n) wide reached.moved
 
-  block-inside : k / per_block entry < d
+  block-inside : k / entries_in entry < d
   block-inside = omega arith
 
-  content-here : content_of m2 y (k / per_block entry) ≡ new
-  content-here = put-here lot m1 m2 y d (k / per_block entry) at moved-one.made few block-inside reached.here only ∙ put
+  content-here : content_of m2 y (k / entries_in entry) ≡ new
+  content-here = put-here lot m1 m2 y d (k / entries_in entry) at moved-one.made few block-inside reached.here only ∙ put
 
-  content-other : (n : ℕ) → n < c → n ≢ k / per_block entry → content_of m2 y n ≡ content_of m0 x n
-  content-other n h ne = put-others lot m1 m2 y d (k / per_block entry) at moved-one.made few block-inside reached.here only n (omega arith) ne ∙ reached.contents n h
+  content-other : (n : ℕ) → n < c → n ≢ k / entries_in entry → content_of m2 y n ≡ content_of m0 x n
+  content-other n h ne = put-others lot m1 m2 y d (k / entries_in entry) at moved-one.made few block-inside reached.here only n (omega arith) ne ∙ reached.contents n h
 
-  row-other : (j : ℕ) → j / per_block entry < c → j ≢ k → entry_bytes entry m2 y j ≡ entry_bytes entry m0 x j
+  row-other : (j : ℕ) → j / entries_in entry < c → j ≢ k → entry_bytes entry m2 y j ≡ entry_bytes entry m0 x j
   row-other j h ne =
-      elim (j / per_block entry == k / per_block entry) as (λ t. (j / per_block entry == k / per_block entry) ≡ t → entry_bytes entry m2 y j ≡ entry_bytes entry m0 x j) [
-        | true ↦ λ t. let e : j / per_block entry ≡ k / per_block entry = grind (arith, nat_tests) in
-            let inside : k / per_block entry < c = omega arith in
+      elim (j / entries_in entry == k / entries_in entry) as (λ t. (j / entries_in entry == k / entries_in entry) ≡ t → entry_bytes entry m2 y j ≡ entry_bytes entry m0 x j) [
+        | true ↦ λ t. let e : j / entries_in entry ≡ k / entries_in entry = grind (arith, nat_tests) in
+            let inside : k / entries_in entry < c = omega arith in
             let fit = place-fits entry j sixty in
             ap (λ n. row_bytes entry (content_of m2 y n) (place_of entry j)) e
             ∙ ap (λ (b : List ℕ). row_bytes entry b (place_of entry j)) content-here
             ∙ bytes-same entry old new (place_of entry j) (place_of entry j) (omega arith) (omega arith) (λ i l. beside (place_of entry j + i) (⊎_elim (λ q. inl (omega arith)) (λ q. inr (omega arith)) (rows-apart entry j k sixty e ne)))
             ∙ ap (λ (b : List ℕ). row_bytes entry b (place_of entry j)) (had inside)
             ∙ ap (λ n. row_bytes entry (content_of m0 x n) (place_of entry j)) (sym e)
-        | false ↦ λ t. let ne' : j / per_block entry ≢ k / per_block entry = grind (arith, nat_tests) in
-            ap (λ (b : List ℕ). row_bytes entry b (place_of entry j)) (content-other (j / per_block entry) h ne')
+        | false ↦ λ t. let ne' : j / entries_in entry ≢ k / entries_in entry = grind (arith, nat_tests) in
+            ap (λ (b : List ℕ). row_bytes entry b (place_of entry j)) (content-other (j / entries_in entry) h ne')
       ] refl
 
   pub row-put : RowPut lot entry m0 m2 x y c d k bytes
   row-put = record {
-    moved = moved-then lot m0 m1 m2 x y y c d d moved-one (put-moved lot m1 m2 y d (k / per_block entry) at moved-one.made few block-inside reached.here only);
+    moved = moved-then lot m0 m1 m2 x y y c d d moved-one (put-moved lot m1 m2 y d (k / entries_in entry) at moved-one.made few block-inside reached.here only);
     here = ap (λ (b : List ℕ). row_bytes entry b (place_of entry k)) content-here ∙ here;
     others = row-other;
   }
@@ -112,37 +121,43 @@ one-listed new old last n front end =
     ∙ ap (λ r. map new (range_with_len 0 n) ++ r ∷ []) end
     ∙ ap (λ rs. rs ++ last ∷ []) (map-same new old 0 n (λ j l h. front j (omega arith)))
 
+-- the texts of a directory where entries have just so many bytes
+pub texts-sized : (f : Form) (entry : ℕ) (m : ℕ → List ℕ) (number : ℕ) → entry_size f ≡ entry → texts_of f m number ≡ map (entry_bytes entry m (inode_of m number)) (range_with_len 0 (inode_of m number).size)
+texts-sized f entry m number same = ap (λ n. map (entry_bytes n m (inode_of m number)) (range_with_len 0 (inode_of m number).size)) same
+
 -- the entries of a directory to which one was added
-module _ (lot : LotView) (entry : ℕ) (m0 m1 m2 : ℕ → List ℕ) (x y z : Inode) (number : ℕ) (bytes : List ℕ) (e : entry ≡ 64) (put : RowPut lot entry m0 m1 x y (dir_blocks entry x.size) (dir_blocks entry (x.size + 1)) x.size bytes)
-    (before : inode_of m0 number ≡ x) (after : inode_of m2 number ≡ z) (more : z.size ≡ x.size + 1) (same : (n : ℕ) → n < dir_blocks entry (x.size + 1) → content_of m2 z n ≡ content_of m1 y n) where
+module _ (lot : LotView) (f : Form) (entry : ℕ) (m0 m1 m2 : ℕ → List ℕ) (x y z : Inode) (number : ℕ) (bytes : List ℕ) (one : f ≡ form_one) (same : entry_size f ≡ entry) (e : entry ≡ 64) (put : RowPut lot entry m0 m1 x y (blocks_sized entry x.size) (blocks_sized entry (x.size + 1)) x.size bytes)
+    (before : inode_of m0 number ≡ x) (after : inode_of m2 number ≡ z) (more : z.size ≡ x.size + 1) (content : (n : ℕ) → n < blocks_sized entry (x.size + 1) → content_of m2 z n ≡ content_of m1 y n) where
   entry-now : (j : ℕ) → j < x.size + 1 → entry_bytes entry m2 z j ≡ entry_bytes entry m1 y j
-  entry-now j h = ap (λ (b : List ℕ). row_bytes entry b (place_of entry j)) (same (j / per_block entry) (row-inside entry (x.size + 1) j e h))
+  entry-now j h = ap (λ (b : List ℕ). row_bytes entry b (place_of entry j)) (content (j / entries_in entry) (row-inside entry (x.size + 1) j e h))
 
   entry-had : (j : ℕ) → j < x.size → entry_bytes entry m2 z j ≡ entry_bytes entry m0 x j
   entry-had j h = entry-now j (omega arith) ∙ put.others j (row-inside entry x.size j e h) (λ q. omega arith)
 
-  pub texts-added : texts_of entry m2 number ≡ texts_of entry m0 number ++ bytes ∷ []
+  pub texts-added : texts_of f m2 number ≡ texts_of f m0 number ++ bytes ∷ []
   texts-added =
-      ap (λ (i : Inode). map (entry_bytes entry m2 i) (range_with_len 0 i.size)) after
+      texts-sized f entry m2 number same
+      ∙ ap (λ (i : Inode). map (entry_bytes entry m2 i) (range_with_len 0 i.size)) after
       ∙ ap (λ n. map (entry_bytes entry m2 z) (range_with_len 0 n)) more
       ∙ one-listed (entry_bytes entry m2 z) (entry_bytes entry m0 x) bytes x.size entry-had (entry-now x.size (omega arith) ∙ put.here)
       ∙ ap (λ (i : Inode). map (entry_bytes entry m0 i) (range_with_len 0 i.size) ++ bytes ∷ []) (sym before)
+      ∙ ap (λ texts. texts ++ bytes ∷ []) (sym (texts-sized f entry m0 number same))
 
-  pub rows-added : (row : Row) → row_in bytes ≡ row → x.kind ≡ 2 → z.kind ≡ 2 → rows_of entry m2 number ≡ rows_of entry m0 number ++ row ∷ []
+  pub rows-added : (row : Row) → row_in bytes ≡ row → x.kind ≡ 2 → z.kind ≡ 2 → rows_of f m2 number ≡ rows_of f m0 number ++ row ∷ []
   rows-added row reads kx kz =
-      rows-all entry m2 number e (ap (λ (i : Inode). i.kind) after ∙ kz)
-      ∙ ap (λ (i : Inode). map (row_of entry m2 i) (range_with_len 0 i.size)) after
-      ∙ ap (λ n. map (row_of entry m2 z) (range_with_len 0 n)) more
-      ∙ one-listed (row_of entry m2 z) (row_of entry m0 x) row x.size (λ j h. ap row_in (entry-had j h)) (ap row_in (entry-now x.size (omega arith) ∙ put.here) ∙ reads)
-      ∙ ap (λ (rs : List Row). rs ++ row ∷ []) (ap (λ (i : Inode). map (row_of entry m0 i) (range_with_len 0 i.size)) (sym before)
-      ∙ sym (rows-all entry m0 number e (ap (λ (i : Inode). i.kind) before ∙ kx)))
+      rows-sized f entry m2 number one same (ap (λ (i : Inode). i.kind) after ∙ kz)
+      ∙ ap (λ (i : Inode). map (row_sized entry m2 i) (range_with_len 0 i.size)) after
+      ∙ ap (λ n. map (row_sized entry m2 z) (range_with_len 0 n)) more
+      ∙ one-listed (row_sized entry m2 z) (row_sized entry m0 x) row x.size (λ j h. ap row_in (entry-had j h)) (ap row_in (entry-now x.size (omega arith) ∙ put.here) ∙ reads)
+      ∙ ap (λ (rs : List Row). rs ++ row ∷ []) (ap (λ (i : Inode). map (row_sized entry m0 i) (range_with_len 0 i.size)) (sym before)
+      ∙ sym (rows-sized f entry m0 number one same (ap (λ (i : Inode). i.kind) before ∙ kx)))
 
-dir-map : (entry : ℕ) (x : Inode) → x.kind ≡ 2 → map_length entry x ≡ dir_blocks entry x.size
-dir-map entry x k = rw k refl
+dir-map : (f : Form) (entry : ℕ) (x : Inode) → entry_size f ≡ entry → x.kind ≡ 2 → map_length f x ≡ blocks_sized entry x.size
+dir-map f entry x same k = ap (λ n. blocks_for (cond (n == 2) (entry_size f * x.size) x.size)) k ∙ ap (λ n. blocks_sized n x.size) same
 
 -- a directory to which a row was added and which was then put
-module _ (lot : LotView) (entry : ℕ) (m0 m1 m2 : ℕ → List ℕ) (x y : Inode) (number : ℕ) (row : Row) (bytes : List ℕ) (e : entry ≡ 64) (is : IsDirectory lot x) (room : x.size + 1 < 64 * length lot.groups) (before : inode_of m0 number ≡ x)
-    (put : RowPut lot entry m0 m1 x y (dir_blocks entry x.size) (dir_blocks entry (x.size + 1)) x.size bytes) (text : IsText row bytes) (set : InodeSet m1 m2 number (resized y (y.size + 1)))
+module _ (lot : LotView) (f : Form) (entry : ℕ) (m0 m1 m2 : ℕ → List ℕ) (x y : Inode) (number : ℕ) (row : Row) (bytes : List ℕ) (one : f ≡ form_one) (same : entry_size f ≡ entry) (e : entry ≡ 64) (is : IsDirectory lot x) (room : x.size + 1 < 64 * length lot.groups) (before : inode_of m0 number ≡ x)
+    (put : RowPut lot entry m0 m1 x y (blocks_sized entry x.size) (blocks_sized entry (x.size + 1)) x.size bytes) (text : IsText row bytes) (set : InodeSet m1 m2 number (resized y (y.size + 1)))
     (only : (b : ℕ) → b ≢ inode_address number → m2 b ≡ m1 b) where
   kind-put : y.kind ≡ 2
   kind-put = put.moved.kind ∙ is.kind
@@ -150,21 +165,22 @@ module _ (lot : LotView) (entry : ℕ) (m0 m1 m2 : ℕ → List ℕ) (x y : Inod
   size-put : y.size + 1 ≡ x.size + 1
   size-put = ap (λ n. n + 1) put.moved.size
 
-  content-put : (n : ℕ) → n < dir_blocks entry (x.size + 1) → content_of m2 (resized y (y.size + 1)) n ≡ content_of m1 y n
-  content-put = set-content lot m1 m2 y (y.size + 1) (dir_blocks entry (x.size + 1)) number put.moved.made only
+  content-put : (n : ℕ) → n < blocks_sized entry (x.size + 1) → content_of m2 (resized y (y.size + 1)) n ≡ content_of m1 y n
+  content-put = set-content lot m1 m2 y (y.size + 1) (blocks_sized entry (x.size + 1)) number put.moved.made only
 
-  pub text-added : TextAdded entry m0 m2 number row
-  text-added = (bytes, text, texts-added lot entry m0 m1 m2 x y (resized y (y.size + 1)) number bytes e put before set.value size-put content-put)
+  pub text-added : TextAdded f m0 m2 number row
+  text-added = (bytes, text, texts-added lot f entry m0 m1 m2 x y (resized y (y.size + 1)) number bytes one same e put before set.value size-put content-put)
 
-  pub dir-added : DirSet lot entry m0 m2 number (rows_of entry m0 number ++ row ∷ [])
+  pub dir-added : DirSet lot f m0 m2 number (rows_of f m0 number ++ row ∷ [])
   dir-added = record {
-    rows = rows-added lot entry m0 m1 m2 x y (resized y (y.size + 1)) number bytes e put before set.value size-put content-put row text.reads is.kind kind-put;
+    rows = rows-added lot f entry m0 m1 m2 x y (resized y (y.size + 1)) number bytes one same e put before set.value size-put content-put row text.reads is.kind kind-put;
     is = rw set.value (record { kind = kind-put; few = let s = size-put in omega arith });
-    set = own-set lot m0 m1 m2 x y (dir_blocks entry x.size) (dir_blocks entry (x.size + 1)) (y.size + 1) entry number before (dir-map entry x is.kind) put.moved set (dir-map entry (resized y (y.size + 1)) kind-put ∙ ap (dir_blocks entry) size-put) only;
+    set = own-set lot m0 m1 m2 x y (blocks_sized entry x.size) (blocks_sized entry (x.size + 1)) (y.size + 1) f one number before (dir-map f entry x same is.kind) put.moved set (dir-map f entry (resized y (y.size + 1)) same kind-put ∙ ap (blocks_sized entry) size-put) only;
   }
 
-pub made-dir : (lot : LotView) (entry : ℕ) (m : ℕ → List ℕ) (number : ℕ) (x : Inode) → inode_of m number ≡ x → x.kind ≡ 2 → WellMade lot entry m number → MadeOf lot m x (dir_blocks entry x.size)
-made-dir lot entry m number x before kind made = subst (λ n. MadeOf lot m x n) (dir-map entry x kind) (subst (λ i. MadeOf lot m i (map_length entry i)) before made)
+pub made-dir : (lot : LotView) (f : Form) (entry : ℕ) (m : ℕ → List ℕ) (number : ℕ) (x : Inode) → f ≡ form_one → entry_size f ≡ entry → inode_of m number ≡ x → x.kind ≡ 2 → WellMade lot f m number → MadeOf lot m x (blocks_sized entry x.size)
+made-dir lot f entry m number x one same before kind made =
+    subst (λ n. MadeOf lot m x n) (dir-map f entry x same kind) (subst (λ i. MadeOf lot m i (map_length f i)) before (made-short lot f one m number made))
 
 -- a list from which one element was taken
 module _ {X : Type 0} (none : X) where
@@ -204,40 +220,42 @@ module _ {X : Type 0} (none : X) where
       ] refl)
 
 -- a directory whose last row was moved to row k, which was then cut by one row and put
-module _ (lot : LotView) (entry : ℕ) (m0 m1 m2 m3 : ℕ → List ℕ) (x y : Inode) (number k : ℕ) (e : entry ≡ 64) (is : IsDirectory lot x) (below : k < x.size) (before : inode_of m0 number ≡ x)
-    (put : RowPut lot entry m0 m1 x x (dir_blocks entry x.size) (dir_blocks entry x.size) k (entry_bytes entry m0 x (x.size - 1)))
-    (moved : Moved lot m1 m2 x y (dir_blocks entry x.size) (dir_blocks entry (x.size - 1))) (contents : (n : ℕ) → n < dir_blocks entry (x.size - 1) → content_of m2 y n ≡ content_of m1 x n)
+module _ (lot : LotView) (f : Form) (entry : ℕ) (m0 m1 m2 m3 : ℕ → List ℕ) (x y : Inode) (number k : ℕ) (one : f ≡ form_one) (same : entry_size f ≡ entry) (e : entry ≡ 64) (is : IsDirectory lot x) (below : k < x.size) (before : inode_of m0 number ≡ x)
+    (put : RowPut lot entry m0 m1 x x (blocks_sized entry x.size) (blocks_sized entry x.size) k (entry_bytes entry m0 x (x.size - 1)))
+    (moved : Moved lot m1 m2 x y (blocks_sized entry x.size) (blocks_sized entry (x.size - 1))) (contents : (n : ℕ) → n < blocks_sized entry (x.size - 1) → content_of m2 y n ≡ content_of m1 x n)
     (set : InodeSet m2 m3 number (resized y (x.size - 1))) (only : (b : ℕ) → b ≢ inode_address number → m3 b ≡ m2 b) where
   kind-left : y.kind ≡ 2
   kind-left = moved.kind ∙ is.kind
 
   entry-left : (j : ℕ) → j < x.size - 1 → entry_bytes entry m3 (resized y (x.size - 1)) j ≡ entry_bytes entry m1 x j
   entry-left j h =
-      let n : j / per_block entry < dir_blocks entry (x.size - 1) = row-inside entry (x.size - 1) j e h in
-      ap (λ (b : List ℕ). row_bytes entry b (place_of entry j)) (set-content lot m2 m3 y (x.size - 1) (dir_blocks entry (x.size - 1)) number moved.made only (j / per_block entry) n ∙ contents (j / per_block entry) n)
+      let n : j / entries_in entry < blocks_sized entry (x.size - 1) = row-inside entry (x.size - 1) j e h in
+      ap (λ (b : List ℕ). row_bytes entry b (place_of entry j)) (set-content lot m2 m3 y (x.size - 1) (blocks_sized entry (x.size - 1)) number moved.made only (j / entries_in entry) n ∙ contents (j / entries_in entry) n)
 
   entry-other : (j : ℕ) → j < x.size - 1 → j ≢ k → entry_bytes entry m1 x j ≡ entry_bytes entry m0 x j
   entry-other j h ne = put.others j (row-inside entry x.size j e (omega arith)) ne
 
-  pub text-taken : TextTaken entry m0 m3 number k
+  pub text-taken : TextTaken f m0 m3 number k
   text-taken =
-      ap (λ (i : Inode). map (entry_bytes entry m3 i) (range_with_len 0 i.size)) set.value
+      texts-sized f entry m3 number same
+      ∙ ap (λ (i : Inode). map (entry_bytes entry m3 i) (range_with_len 0 i.size)) set.value
       ∙ map-same (entry_bytes entry m3 (resized y (x.size - 1))) (entry_bytes entry m1 x) 0 (x.size - 1) (λ j l h. entry-left j (omega arith))
       ∙ swapped [] (entry_bytes entry m0 x) (entry_bytes entry m1 x) x.size k below put.here entry-other
       ∙ ap (λ (i : Inode). swap_remove (map (entry_bytes entry m0 i) (range_with_len 0 i.size)) k []) (sym before)
+      ∙ ap (λ texts. swap_remove texts k []) (sym (texts-sized f entry m0 number same))
 
-  pub dir-taken : DirSet lot entry m0 m3 number (swap_remove (rows_of entry m0 number) k ([], 0))
+  pub dir-taken : DirSet lot f m0 m3 number (swap_remove (rows_of f m0 number) k ([], 0))
   dir-taken =
       let few = is.few in
-      let all = moved-then lot m0 m1 m2 x x y (dir_blocks entry x.size) (dir_blocks entry x.size) (dir_blocks entry (x.size - 1)) put.moved moved in
+      let all = moved-then lot m0 m1 m2 x x y (blocks_sized entry x.size) (blocks_sized entry x.size) (blocks_sized entry (x.size - 1)) put.moved moved in
       let k0 : (inode_of m0 number).kind ≡ 2 = ap (λ (i : Inode). i.kind) before ∙ is.kind in
-      let now : rows_of entry m3 number ≡ map (row_of entry m3 (resized y (x.size - 1))) (range_with_len 0 (x.size - 1)) =
-      rows-all entry m3 number e (ap (λ (i : Inode). i.kind) set.value ∙ kind-left) ∙ ap (λ (i : Inode). map (row_of entry m3 i) (range_with_len 0 i.size)) set.value in
-      let old : rows_of entry m0 number ≡ map (row_of entry m0 x) (range_with_len 0 x.size) = rows-all entry m0 number e k0 ∙ ap (λ (i : Inode). map (row_of entry m0 i) (range_with_len 0 i.size)) before in
+      let now : rows_of f m3 number ≡ map (row_sized entry m3 (resized y (x.size - 1))) (range_with_len 0 (x.size - 1)) =
+      rows-sized f entry m3 number one same (ap (λ (i : Inode). i.kind) set.value ∙ kind-left) ∙ ap (λ (i : Inode). map (row_sized entry m3 i) (range_with_len 0 i.size)) set.value in
+      let old : rows_of f m0 number ≡ map (row_sized entry m0 x) (range_with_len 0 x.size) = rows-sized f entry m0 number one same k0 ∙ ap (λ (i : Inode). map (row_sized entry m0 i) (range_with_len 0 i.size)) before in
       record {
-        rows = now ∙ map-same (row_of entry m3 (resized y (x.size - 1))) (row_of entry m1 x) 0 (x.size - 1) (λ j l h. ap row_in (entry-left j (omega arith)))
-            ∙ swapped ([], 0) (row_of entry m0 x) (row_of entry m1 x) x.size k below (ap row_in put.here) (λ j h ne. ap row_in (entry-other j h ne))
+        rows = now ∙ map-same (row_sized entry m3 (resized y (x.size - 1))) (row_sized entry m1 x) 0 (x.size - 1) (λ j l h. ap row_in (entry-left j (omega arith)))
+            ∙ swapped ([], 0) (row_sized entry m0 x) (row_sized entry m1 x) x.size k below (ap row_in put.here) (λ j h ne. ap row_in (entry-other j h ne))
             ∙ ap (λ (rs : List Row). swap_remove rs k ([], 0)) (sym old);
         is = rw set.value (record { kind = kind-left; few = omega arith });
-        set = own-set lot m0 m2 m3 x y (dir_blocks entry x.size) (dir_blocks entry (x.size - 1)) (x.size - 1) entry number before (dir-map entry x is.kind) all set (dir-map entry (resized y (x.size - 1)) kind-left) only;
+        set = own-set lot m0 m2 m3 x y (blocks_sized entry x.size) (blocks_sized entry (x.size - 1)) (x.size - 1) f one number before (dir-map f entry x same is.kind) all set (dir-map f entry (resized y (x.size - 1)) same kind-left) only;
       }

@@ -6,10 +6,10 @@ use Rattle.ice_base.specs.Used.{is_data}
 use Rattle.ice_map.specs.declared.codec.Inode.{Inode}
 use Rattle.ice_map.specs.Maps.{nth_block}
 use Rattle.ice_map.proofs.GrowLaws.{inode_not_data}
-use Rattle.ice_file.specs.Own.{MadeOf}
-use Rattle.ice_file.specs.Writes.{content_of}
-use Rattle.ice_file.proofs.OwnLaws.{nth-moves, uses-nth, uses-single}
-use Rattle.ice_file.proofs.SetLaws.{resized, nth-resized}
+use Rattle.ice_map.specs.Own.{MadeOf}
+use Rattle.ice_map.specs.Moves.{content_of}
+use Rattle.ice_map.proofs.OwnLaws.{nth-moves, uses-nth, uses-single}
+use Rattle.ice_map.proofs.SetLaws.{resized, nth-resized}
 
 -- a block of the map of an inode that was put with another size
 pub set-content : (lot : LotView) (m0 m1 : ℕ → List ℕ) (y : Inode) (s d number : ℕ) → MadeOf lot m0 y d → ((b : ℕ) → b ≢ inode_address number → m1 b ≡ m0 b) → (n : ℕ) → n < d → content_of m1 (resized y s) n ≡ content_of m0 y n

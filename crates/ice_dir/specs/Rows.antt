@@ -8,19 +8,20 @@ use Rattle.ice_base.specs.Lots.{LotView}
 use Rattle.ice_map.specs.declared.codec.Inode.{Inode}
 use Rattle.ice_map.specs.Inodes.{inode_of}
 use Rattle.ice_map.specs.Maps.{nth_block}
-use Rattle.ice_file.specs.Own.{Own, own}
+use Rattle.ice_map.specs.Own.{entry_size, Own, own}
+use Rattle.tree_spec.specs.Costs.{Form}
 
 -- one entry of a directory: a name, and the inode that it names
 abbrev pub Row : Type 0
 Row = List ℕ × ℕ
 
 -- how many entries of this many bytes a block has
-abbrev pub per_block : ℕ → ℕ
-per_block entry = 1024 / entry
+abbrev pub entries_in : ℕ → ℕ
+entries_in entry = 1024 / entry
 
 -- where entry k of a directory stands in its block
 abbrev pub place_of : ℕ → ℕ → ℕ
-place_of entry k = entry * (k % per_block entry)
+place_of entry k = entry * (k % entries_in entry)
 
 -- the bytes of the entry at a place of a block
 abbrev pub row_bytes : ℕ → List ℕ → ℕ → List ℕ
@@ -38,17 +39,25 @@ row_in bytes = (name_in bytes, word_at bytes 0)
 abbrev pub row_at : ℕ → List ℕ → ℕ → Row
 row_at entry block at = row_in (row_bytes entry block at)
 
--- row k of the blocks of a map
-abbrev pub row_of : ℕ → (ℕ → List ℕ) → Inode → ℕ → Row
-row_of entry m inode k = row_at entry (m (nth_block m inode (k / per_block entry))) (place_of entry k)
+-- row k of the blocks of a map whose entries have this many bytes
+abbrev pub row_sized : ℕ → (ℕ → List ℕ) → Inode → ℕ → Row
+row_sized entry m inode k = row_at entry (m (nth_block m inode (k / entries_in entry))) (place_of entry k)
 
--- the bytes of entry k of the blocks of a map
+-- the bytes of entry k of the blocks of such a map
 abbrev pub entry_bytes : ℕ → (ℕ → List ℕ) → Inode → ℕ → List ℕ
-entry_bytes entry m inode k = row_bytes entry (m (nth_block m inode (k / per_block entry))) (place_of entry k)
+entry_bytes entry m inode k = row_bytes entry (m (nth_block m inode (k / entries_in entry))) (place_of entry k)
+
+-- how many entries a block has in a cube of the form
+abbrev pub per_block : Form → ℕ
+per_block f = entries_in (entry_size f)
+
+-- row k of the blocks of a map in such a cube
+abbrev pub row_of : Form → (ℕ → List ℕ) → Inode → ℕ → Row
+row_of f = row_sized (entry_size f)
 
 -- the bytes of each entry of the directory of a number, in their order
-abbrev pub texts_of : ℕ → (ℕ → List ℕ) → ℕ → List (List ℕ)
-texts_of entry m number = map (entry_bytes entry m (inode_of m number)) (range_with_len 0 (inode_of m number).size)
+abbrev pub texts_of : Form → (ℕ → List ℕ) → ℕ → List (List ℕ)
+texts_of f m number = map (entry_bytes (entry_size f) m (inode_of m number)) (range_with_len 0 (inode_of m number).size)
 
 -- an entry's bytes are the one text of a row: they read as it, and are zeros past the name
 pub record IsText (row : Row) (bytes : List ℕ) : Type 0 where
@@ -56,12 +65,12 @@ pub record IsText (row : Row) (bytes : List ℕ) : Type 0 where
   pub blank : (k : ℕ) → 5 + length row.0 ≤ k → k < length bytes → slice_index bytes k ≡ 0
 
 -- the rows of a directory, in the order of its entries
-unfoldable pub dir_rows : ℕ → Own → List Row
-dir_rows entry o = map (λ k. row_at entry (slice_index_or o.contents (k / per_block entry) []) (place_of entry k)) (range_with_len 0 o.inode.size)
+unfoldable pub dir_rows : Form → Own → List Row
+dir_rows f o = map (λ k. row_at (entry_size f) (slice_index_or o.contents (k / per_block f) []) (place_of (entry_size f) k)) (range_with_len 0 o.inode.size)
 
 -- the rows of the directory of a number
-abbrev pub rows_of : ℕ → (ℕ → List ℕ) → ℕ → List Row
-rows_of entry m number = dir_rows entry (own entry m number)
+abbrev pub rows_of : Form → (ℕ → List ℕ) → ℕ → List Row
+rows_of f m number = dir_rows f (own f m number)
 
 -- whether a row has this name
 abbrev pub named : List ℕ → Row → Bool

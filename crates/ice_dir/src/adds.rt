@@ -11,19 +11,21 @@ ghost use Rattle.ice_base.specs.declared.fault.Rule.TheVariants.{Counts, Kind, P
 ghost use Rattle.ice_map.specs.Faults.{IsGrowFault};
 ghost use Rattle.ice_map.specs.Inodes.{inode_of};
 ghost use Rattle.ice_map.specs.Maps.{longest, needs, Misleads};
-ghost use Rattle.ice_file.specs.Own.{MadeOf, WellMade};
-ghost use Rattle.ice_file.specs.Writes.{Reached, content_of, uses_of};
-ghost use Rattle.ice_dir.specs.Changes.{dir_blocks, HasRoom, DirSet, RowPut, TextAdded};
+ghost use Rattle.ice_map.specs.Own.{MadeOf, WellMade};
+ghost use Rattle.ice_map.specs.Moves.{Reached, content_of, uses_of};
+ghost use Rattle.ice_dir.specs.Changes.{FewFree, CountFull, blocks_sized, HasRoom, DirSet, RowPut, TextAdded, dir_blocks};
 ghost use Rattle.ice_dir.specs.Faults.{IsAddFault};
 ghost use Rattle.ice_dir.specs.Rows.{rows_of, IsText, IsDirectory};
+ghost use Rattle.tree_spec.specs.Costs.{form_of};
 
-use crate::looks::{dir_inode, read_block};
+use crate::looks::dir_inode;
 use crate::rows::{blocks_for_rows, row_place, rows_per_block, write_row};
-use ice_base::{Block, Disk, Form, Keep, Lot, OpFault, Pool, Rule, store};
-use ice_map::{Inode, extend, put_inode};
+use ice_base::{Block, Disk, Form, Keep, Lot, OpFault, Pool, Rule, fetch, store};
+use ice_map::{Inode, put_inode, reach};
 use tree_spec::Name;
 
 /// Block `k` of a map of `count` blocks with what it holds, or a new one where the map ends there: then `into` stays.
+#[tactic(auto, using(ice_base::proofs::LotLaws::address_laws, ice_base::proofs::UsedLaws::group_laws))]
 fn open_block<D: Disk, K: Keep<D>, P: Pool<D, K>, F: Form>(
     keep: &mut K,
     pool: &mut P,
@@ -65,12 +67,12 @@ fn open_block<D: Disk, K: Keep<D>, P: Pool<D, K>, F: Form>(
     ensures faults { IfErr result IsGrowFault }
     ensures failed { IsErrOf result FaultDisk → Rose (D.state disk.old).faults (D.state disk.new).faults }
 {
+    let at = reach::<D, K, P, F>(keep, pool, disk, lot, inode, count, k)?;
     if k < count {
-        let at = read_block::<D, K, F>(keep, disk, lot, inode, k, into)?;
+        fetch(keep, disk, lot, at, into)?;
         return Ok(at);
     }
-    let taken = extend::<D, K, P, F>(keep, pool, disk, lot, inode, count)?;
-    Ok(taken)
+    Ok(at)
 }
 
 /// Writes an entry behind the last of a directory, in a new block where the last one is full. The inode is the caller's to put.
@@ -89,20 +91,20 @@ fn append<D: Disk, K: Keep<D>, P: Pool<D, K>, F: Form>(
     requires short { dir.old.size < 4096 }
     requires fits { length name.now ≤ F.NAME }
     ensures put { AsShown K.View lot.now keep.old disk.old keep.new disk.new (λ old new.
-        MadeOf lot.now old dir.old (dir_blocks F.ENTRY dir.old.size)
+        MadeOf lot.now old dir.old (blocks_sized F.ENTRY dir.old.size)
         → OnOk result ((bytes : List ℕ) × IsText (name.now, inode) bytes
-        × RowPut lot.now F.ENTRY old new dir.old dir.new (dir_blocks F.ENTRY dir.old.size) (dir_blocks F.ENTRY (dir.old.size + 1)) dir.old.size bytes)) }
+        × RowPut lot.now F.ENTRY old new dir.old dir.new (blocks_sized F.ENTRY dir.old.size) (blocks_sized F.ENTRY (dir.old.size + 1)) dir.old.size bytes)) }
     ensures kind { OnOk result (dir.new.kind ≡ dir.old.kind) }
     ensures size { OnOk result (dir.new.size ≡ dir.old.size) }
     ensures spent { Spent D.Disk K.View lot.now 7 keep.old disk.old keep.new disk.new }
     ensures none { IsErrOf result NoSpace → IfShown K.View lot.now keep.old disk.old (λ old.
-        free_count false lot.now old + uses_of (dir_blocks F.ENTRY dir.old.size) < uses_of (dir_blocks F.ENTRY (dir.old.size + 1))) }
+        free_count false lot.now old + uses_of (blocks_sized F.ENTRY dir.old.size) < uses_of (blocks_sized F.ENTRY (dir.old.size + 1))) }
     ensures full { IsErrOf result (Damaged Counts) → IfShown K.View lot.now keep.old disk.old (λ old.
-        2 ^ 32 + uses_of (dir_blocks F.ENTRY dir.old.size) ≤ counted false old + uses_of (dir_blocks F.ENTRY (dir.old.size + 1))) }
+        2 ^ 32 + uses_of (blocks_sized F.ENTRY dir.old.size) ≤ counted false old + uses_of (blocks_sized F.ENTRY (dir.old.size + 1))) }
     ensures unreserved { IsErrOf result (Damaged Bitmap)
         → IfShown K.View lot.now keep.old disk.old (λ old. ¬ Reserved lot.now old) }
     ensures misled { IsErrOf result (Damaged Pointer) → IfShown K.View lot.now keep.old disk.old (λ old.
-        Misleads lot.now old dir.old (dir_blocks F.ENTRY dir.old.size)) }
+        Misleads lot.now old dir.old (blocks_sized F.ENTRY dir.old.size)) }
     ensures looked { IsErrOf result NoSpace
         → Looked D.Disk K.View lot.now keep.old disk.old keep.new disk.new }
     ensures unmoved { IsErrOf result (Damaged Pointer)
@@ -125,6 +127,7 @@ fn append<D: Disk, K: Keep<D>, P: Pool<D, K>, F: Form>(
 /// Adds an entry at the end of a directory, which has none of this name.
 /// NoSpace: the directory's new block, with its indirect block, needs more blocks than are free.
 /// Damaged: the inode is no directory that can have one entry more, its map is not well made, the count of used blocks can't grow so far, or the least free block is no data place.
+#[tactic(auto, using(crate::proofs::SizeLaws::size_laws))]
 pub fn add<D: Disk, K: Keep<D>, P: Pool<D, K>, F: Form>(
     keep: &mut K,
     pool: &mut P,
@@ -140,24 +143,24 @@ pub fn add<D: Disk, K: Keep<D>, P: Pool<D, K>, F: Form>(
     requires fits { length name.now ≤ F.NAME }
     requires room { 8 ≤ K.room keep.old }
     ensures added { AsShown K.View lot.now keep.old disk.old keep.new disk.new (λ old new.
-        WellMade lot.now F.ENTRY old number
-        → OnOk result (DirSet lot.now F.ENTRY old new number (rows_of F.ENTRY old number ++ (name.now, inode) ∷ []))) }
+        WellMade lot.now (form_of F.VERSION) old number
+        → OnOk result (DirSet lot.now (form_of F.VERSION) old new number (rows_of (form_of F.VERSION) old number ++ (name.now, inode) ∷ []))) }
     ensures text { AsShown K.View lot.now keep.old disk.old keep.new disk.new (λ old new.
-        WellMade lot.now F.ENTRY old number
-        → OnOk result (TextAdded F.ENTRY old new number (name.now, inode))) }
+        WellMade lot.now (form_of F.VERSION) old number
+        → OnOk result (TextAdded (form_of F.VERSION) old new number (name.now, inode))) }
     ensures is { IfShown K.View lot.now keep.old disk.old (λ old.
         OnOk result (HasRoom lot.now (inode_of old number))) }
     ensures spent { Spent D.Disk K.View lot.now 8 keep.old disk.old keep.new disk.new }
     ensures none { IsErrOf result NoSpace → IfShown K.View lot.now keep.old disk.old (λ old.
-        free_count false lot.now old + uses_of (dir_blocks F.ENTRY (inode_of old number).size) < uses_of (dir_blocks F.ENTRY ((inode_of old number).size + 1))) }
+        FewFree lot.now (form_of F.VERSION) old (inode_of old number).size) }
     ensures full { IsErrOf result (Damaged Counts) → IfShown K.View lot.now keep.old disk.old (λ old.
-        2 ^ 32 + uses_of (dir_blocks F.ENTRY (inode_of old number).size) ≤ counted false old + uses_of (dir_blocks F.ENTRY ((inode_of old number).size + 1))) }
+        CountFull (form_of F.VERSION) old (inode_of old number).size) }
     ensures kind { IsErrOf result (Damaged Kind) → IfShown K.View lot.now keep.old disk.old (λ old.
         ¬ HasRoom lot.now (inode_of old number)) }
     ensures unreserved { IsErrOf result (Damaged Bitmap)
         → IfShown K.View lot.now keep.old disk.old (λ old. ¬ Reserved lot.now old) }
     ensures misled { IsErrOf result (Damaged Pointer) → IfShown K.View lot.now keep.old disk.old (λ old.
-        Misleads lot.now old (inode_of old number) (dir_blocks F.ENTRY (inode_of old number).size)) }
+        Misleads lot.now old (inode_of old number) (dir_blocks (form_of F.VERSION) (inode_of old number).size)) }
     ensures is_dir { (rule : Rule) → IsErrOf result (Damaged rule) → rule ≢ Kind
         → IfShown K.View lot.now keep.old disk.old (λ old. IsDirectory lot.now (inode_of old number)) }
     ensures looked { IsErrOf result NoSpace

@@ -11,7 +11,8 @@ ghost use Rattle.ice_map.specs.Inodes.{inode_of};
 ghost use Rattle.ice_map.specs.Maps.{longest, nth_block, leads};
 ghost use Rattle.tree_spec.specs.Names.{is_name};
 ghost use Rattle.ice_dir.specs.Faults.{IsKindFault, IsFindFault, IsEntryFault};
-ghost use Rattle.ice_dir.specs.Rows.{per_block, rows_of, row_at, row_of, look_up, NoneNamed, FirstNamed, IsDirectory, HasEntry};
+ghost use Rattle.ice_dir.specs.Rows.{entries_in, rows_of, row_at, row_sized, look_up, NoneNamed, FirstNamed, IsDirectory, HasEntry, per_block};
+ghost use Rattle.tree_spec.specs.Costs.{form_of};
 
 use crate::rows::{read_name, read_number, row_place, rows_per_block};
 use ice_base::{Block, Disk, Form, Lot, OpFault, Rule, View, fetch};
@@ -81,7 +82,7 @@ pub fn len<D: Disk, V: View<D>, F: Form>(
     requires sited { is_sited lot.now (D.state disk.old).size ≡ true }
     requires number { number < 64 * length lot.now.groups }
     ensures rows { IfShown V.View lot.now view.old disk.old (λ old.
-        IfOk result (λ n. n ≡ length (rows_of F.ENTRY old number))) }
+        IfOk result (λ n. n ≡ length (rows_of (form_of F.VERSION) old number))) }
     ensures few { IfOk result (λ n. n < 64 * length lot.now.groups) }
     ensures is { IfShown V.View lot.now view.old disk.old (λ old.
         OnOk result (IsDirectory lot.now (inode_of old number))) }
@@ -96,7 +97,7 @@ pub fn len<D: Disk, V: View<D>, F: Form>(
 
 /// Entry `k`: its name goes into `into`, and its inode is answered.
 /// Damaged: the inode is no directory with such an entry, a pointer to the entry's block is no data place, or the entry's name is none of the form.
-#[tactic(auto, using(ice_base::proofs::LotLaws::sited_laws))]
+#[tactic(auto, using(ice_base::proofs::LotLaws::sited_laws, crate::proofs::SizeLaws::size_laws))]
 pub fn entry<D: Disk, V: View<D>, F: Form>(
     view: &mut V,
     disk: &mut D,
@@ -108,7 +109,7 @@ pub fn entry<D: Disk, V: View<D>, F: Form>(
     requires sited { is_sited lot.now (D.state disk.old).size ≡ true }
     requires number { number < 64 * length lot.now.groups }
     ensures row { IfShown V.View lot.now view.old disk.old (λ old.
-        IfOk result (λ inode. slice_get (rows_of F.ENTRY old number) k ≡ Some (into.new, inode))) }
+        IfOk result (λ inode. slice_get (rows_of (form_of F.VERSION) old number) k ≡ Some (into.new, inode))) }
     ensures fits { OnOk result (length into.new ≤ F.NAME) }
     ensures kept { OnErr result (into.new ≡ into.old) }
     ensures is { IfShown V.View lot.now view.old disk.old (λ old.
@@ -116,9 +117,9 @@ pub fn entry<D: Disk, V: View<D>, F: Form>(
     ensures kind { IsErrOf result (Damaged Kind) → IfShown V.View lot.now view.old disk.old (λ old.
         ¬ HasEntry lot.now k (inode_of old number)) }
     ensures pointer { IsErrOf result (Damaged Pointer) → IfShown V.View lot.now view.old disk.old (λ old.
-        leads lot.now old (inode_of old number) (k / per_block F.ENTRY) ≡ false) }
+        leads lot.now old (inode_of old number) (k / per_block (form_of F.VERSION)) ≡ false) }
     ensures name { IsErrOf result (Damaged BadName) → IfShown V.View lot.now view.old disk.old (λ old.
-        IfSome (slice_get (rows_of F.ENTRY old number) k) (λ row. is_name row.0 ≡ false)) }
+        IfSome (slice_get (rows_of (form_of F.VERSION) old number) k) (λ row. is_name row.0 ≡ false)) }
     ensures looked { Looked D.Disk V.View lot.now view.old disk.old view.new disk.new }
     ensures faults { IfErr result IsEntryFault }
     ensures failed { IsErrOf result FaultDisk → Rose (D.state disk.old).faults (D.state disk.new).faults }
@@ -148,8 +149,9 @@ pub fn entry<D: Disk, V: View<D>, F: Form>(
 
 /// The first of the first `count` entries of a block that has this name.
 fn seek_in<F: Form>(block: &Block, count: u32, name: &[u8]) -> Option<u32>
-    requires { count ≤ per_block F.ENTRY }
-    ensures found { MatchOption result (NoneNamed (λ k. row_at F.ENTRY block.now (F.ENTRY * k)) name.now 0 count) (FirstNamed (λ k. row_at F.ENTRY block.now (F.ENTRY * k)) name.now 0 count) }
+    requires { count ≤ entries_in F.ENTRY }
+    ensures found { MatchOption result (NoneNamed (λ k. row_at F.ENTRY block.now (F.ENTRY * k)) name.now 0 count)
+        (FirstNamed (λ k. row_at F.ENTRY block.now (F.ENTRY * k)) name.now 0 count) }
 {
     for k in 0..count {
         if *read_name::<F>(block, (F::ENTRY * k) as usize) == *name {
@@ -170,9 +172,12 @@ fn seek_block<D: Disk, V: View<D>, F: Form>(
 ) -> Result<Option<(u32, u32)>, OpFault>
     requires sited { is_sited lot.now (D.state disk.old).size ≡ true }
     requires short { inode.now.size ≤ 4096 }
-    requires below { n * per_block F.ENTRY < inode.now.size }
+    requires below { n * entries_in F.ENTRY < inode.now.size }
     ensures found { IfShown V.View lot.now view.old disk.old (λ old.
-        IfOk result (λ o. MatchOption o (NoneNamed (row_of F.ENTRY old inode.now) name.now (n * per_block F.ENTRY) (min inode.now.size (n * per_block F.ENTRY + per_block F.ENTRY))) (λ p. FirstNamed (row_of F.ENTRY old inode.now) name.now (n * per_block F.ENTRY) inode.now.size p.0 × (p.1 ≡ (row_of F.ENTRY old inode.now p.0).1)))) }
+        IfOk result (λ o. MatchOption o
+        (NoneNamed (row_sized F.ENTRY old inode.now) name.now (n * entries_in F.ENTRY) (min inode.now.size (n * entries_in F.ENTRY + entries_in F.ENTRY)))
+        (λ p. FirstNamed (row_sized F.ENTRY old inode.now) name.now (n * entries_in F.ENTRY) inode.now.size p.0
+        × (p.1 ≡ (row_sized F.ENTRY old inode.now p.0).1)))) }
     ensures below { IfOk result (λ o. IfSome o (λ p. p.0 < inode.now.size)) }
     ensures pointer { IsErrOf result (Damaged Pointer) → IfShown V.View lot.now view.old disk.old (λ old.
         leads lot.now old inode.now n ≡ false) }
@@ -201,10 +206,12 @@ pub fn seek<D: Disk, V: View<D>, F: Form>(
     requires sited { is_sited lot.now (D.state disk.old).size ≡ true }
     requires short { inode.now.size ≤ 4096 }
     ensures found { IfShown V.View lot.now view.old disk.old (λ old.
-        IfOk result (λ o. MatchOption o (NoneNamed (row_of F.ENTRY old inode.now) name.now 0 inode.now.size) (λ p. FirstNamed (row_of F.ENTRY old inode.now) name.now 0 inode.now.size p.0 × (p.1 ≡ (row_of F.ENTRY old inode.now p.0).1)))) }
+        IfOk result (λ o. MatchOption o (NoneNamed (row_sized F.ENTRY old inode.now) name.now 0 inode.now.size)
+        (λ p. FirstNamed (row_sized F.ENTRY old inode.now) name.now 0 inode.now.size p.0
+        × (p.1 ≡ (row_sized F.ENTRY old inode.now p.0).1)))) }
     ensures below { IfOk result (λ o. IfSome o (λ p. p.0 < inode.now.size)) }
     ensures pointer { IsErrOf result (Damaged Pointer) → IfShown V.View lot.now view.old disk.old (λ old.
-        (n : ℕ) × (n * per_block F.ENTRY < inode.now.size) × (leads lot.now old inode.now n ≡ false)) }
+        (n : ℕ) × (n * entries_in F.ENTRY < inode.now.size) × (leads lot.now old inode.now n ≡ false)) }
     ensures looked { Looked D.Disk V.View lot.now view.old disk.old view.new disk.new }
     ensures faults { IfErr result IsLookFault }
     ensures failed { IsErrOf result FaultDisk → Rose (D.state disk.old).faults (D.state disk.new).faults }
@@ -220,6 +227,7 @@ pub fn seek<D: Disk, V: View<D>, F: Form>(
 
 /// The inode that a directory names so, None exactly where no entry has the name.
 /// Damaged: the inode is no directory, or a pointer to one of its blocks is no data place.
+#[tactic(auto, using(crate::proofs::SizeLaws::size_laws))]
 pub fn find<D: Disk, V: View<D>, F: Form>(
     view: &mut V,
     disk: &mut D,
@@ -230,13 +238,13 @@ pub fn find<D: Disk, V: View<D>, F: Form>(
     requires sited { is_sited lot.now (D.state disk.old).size ≡ true }
     requires number { number < 64 * length lot.now.groups }
     ensures found { IfShown V.View lot.now view.old disk.old (λ old.
-        IfOk result (λ o. o ≡ look_up name.now (rows_of F.ENTRY old number))) }
+        IfOk result (λ o. o ≡ look_up name.now (rows_of (form_of F.VERSION) old number))) }
     ensures is { IfShown V.View lot.now view.old disk.old (λ old.
         OnOk result (IsDirectory lot.now (inode_of old number))) }
     ensures kind { IsErrOf result (Damaged Kind) → IfShown V.View lot.now view.old disk.old (λ old.
         ¬ IsDirectory lot.now (inode_of old number)) }
     ensures pointer { IsErrOf result (Damaged Pointer) → IfShown V.View lot.now view.old disk.old (λ old.
-        (n : ℕ) × (n * per_block F.ENTRY < (inode_of old number).size)
+        (n : ℕ) × (n * per_block (form_of F.VERSION) < (inode_of old number).size)
         × (leads lot.now old (inode_of old number) n ≡ false)) }
     ensures looked { Looked D.Disk V.View lot.now view.old disk.old view.new disk.new }
     ensures faults { IfErr result IsFindFault }

@@ -1,14 +1,14 @@
 //! Entries of directories as bytes.
 ghost use Rattle.std.specs.Prelude.{◌≡◌, ◌≤◌, ◌<◌, ◌+◌, ◌/◌, ℕ, length, slice_index};
 ghost use Rattle.ice_base.specs.Fields.{SameBeside};
-ghost use Rattle.ice_dir.specs.Changes.{dir_blocks};
-ghost use Rattle.ice_dir.specs.Rows.{per_block, place_of, row_bytes, row_at, IsText};
+ghost use Rattle.ice_dir.specs.Changes.{blocks_sized};
+ghost use Rattle.ice_dir.specs.Rows.{entries_in, place_of, row_bytes, row_at, IsText};
 
 use ice_base::{Block, Form, read_u32, write_u32};
 
 /// How many entries a block has.
 pub fn rows_per_block<F: Form>() -> u32
-    ensures value { result ≡ per_block F.ENTRY }
+    ensures value { result ≡ entries_in F.ENTRY }
     ensures sixteen { result ≡ 16 }
 {
     1024 / F::ENTRY
@@ -17,7 +17,7 @@ pub fn rows_per_block<F: Form>() -> u32
 /// How many blocks a directory of so many entries has.
 pub fn blocks_for_rows<F: Form>(size: u32) -> u32
     requires { size ≤ 4096 }
-    ensures value { result ≡ dir_blocks F.ENTRY size }
+    ensures value { result ≡ blocks_sized F.ENTRY size }
     ensures sixteenth { result ≡ (size + 15) / 16 }
 {
     (F::ENTRY * size).div_ceil(1024)

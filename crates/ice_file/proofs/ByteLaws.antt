@@ -9,7 +9,9 @@ use Rattle.ice_map.specs.declared.codec.Inode.{Inode}
 use Rattle.ice_map.specs.Inodes.{inode_of}
 use Rattle.ice_map.specs.Maps.{nth_block}
 use Rattle.ice_map.proofs.ListLaws.{map_range_same, range-append}
-use Rattle.ice_file.specs.Own.{own, own_of, file_bytes, map_length, blocks_for}
+use Rattle.ice_map.proofs.OwnLaws.{own-short}
+use Rattle.ice_map.specs.Own.{Own, own, own_of, file_bytes, map_length, blocks_for}
+use Rattle.tree_spec.specs.Costs.{Form, form_one}
 use Rattle.ice_file.specs.Files.{byte_of, bytes_from}
 
 -- where a byte stands
@@ -50,8 +52,8 @@ pub none : (m : ℕ → List ℕ) (inode : Inode) (at : ℕ) → [] ≡ bytes_fr
 none m inode at = let e : at - at ≡ 0 = omega arith in ap (bytes_from m inode at) (sym e)
 
 -- the number of blocks of a file
-pub file_length : (entry : ℕ) (inode : Inode) → inode.kind ≡ 1 → map_length entry inode ≡ blocks_for inode.size
-file_length entry inode k = rw k refl
+pub file_length : (f : Form) (inode : Inode) → inode.kind ≡ 1 → map_length f inode ≡ blocks_for inode.size
+file_length f inode k = rw k refl
 
 mapped : (m : ℕ → List ℕ) (f : ℕ → ℕ) (count k : ℕ) → k < count → slice_index_or (map m (map f (range_with_len 0 count))) k [] ≡ m (f k)
 mapped m f count k h =
@@ -66,11 +68,12 @@ file_byte m inode count i h =
     ap (λ (x : List ℕ). slice_index x (i % 1024)) (mapped m (nth_block m inode) count (i / 1024) below)
 
 -- the bytes of a file are the first of its blocks
-pub all_bytes : (entry : ℕ) (m : ℕ → List ℕ) (number : ℕ) → (inode_of m number).kind ≡ 1 → file_bytes (own entry m number) ≡ bytes_from m (inode_of m number) 0 (inode_of m number).size
+pub all_bytes : (f : Form) → f ≡ form_one → (m : ℕ → List ℕ) (number : ℕ) → (inode_of m number).kind ≡ 1 → file_bytes (own f m number) ≡ bytes_from m (inode_of m number) 0 (inode_of m number).size
 unfolding file_bytes
-all_bytes entry m number k =
-    let count = file_length entry (inode_of m number) k in
-    map_range_same _ (byte_of m (inode_of m number)) 0 (inode_of m number).size (λ i l h. file_byte m (inode_of m number) (map_length entry (inode_of m number)) i (omega (arith, count)))
+all_bytes f one m number k =
+    let count = file_length f (inode_of m number) k in
+    ap (λ (o : Own). map (λ i. slice_index (slice_index_or o.contents (i / 1024) []) (i % 1024)) (range_with_len 0 o.inode.size)) (own-short f one m number)
+    ∙ map_range_same _ (byte_of m (inode_of m number)) 0 (inode_of m number).size (λ i l h. file_byte m (inode_of m number) (map_length f (inode_of m number)) i (omega (arith, count)))
 
 -- some of them
 pub some_bytes : (m : ℕ → List ℕ) (inode : Inode) (size at len end : ℕ) → at ≤ size → end ≡ min size (at + len) → bytes_from m inode at (end - at) ≡ take len (drop at (bytes_from m inode 0 size))
@@ -86,10 +89,10 @@ some_bytes m inode size at len end h e =
     ∙ sym (get_or-take len (drop at (bytes_from m inode 0 size)) j 0 (omega arith)))
 
 -- what a read gives
-pub read_bytes : (entry : ℕ) (m : ℕ → List ℕ) (number at len end : ℕ) (inode : Inode) → inode ≡ inode_of m number → inode.kind ≡ 1 → at ≤ inode.size → end ≡ min inode.size (at + len)
-    → (held : List ℕ) (from : ℕ) → from ≡ end → held ≡ bytes_from m inode at (from - at) → held ≡ take len (drop at (file_bytes (own entry m number)))
-read_bytes entry m number at len end inode is k h e held from f b =
+pub read_bytes : (f : Form) → f ≡ form_one → (m : ℕ → List ℕ) (number at len end : ℕ) (inode : Inode) → inode ≡ inode_of m number → inode.kind ≡ 1 → at ≤ inode.size → end ≡ min inode.size (at + len)
+    → (held : List ℕ) (from : ℕ) → from ≡ end → held ≡ bytes_from m inode at (from - at) → held ≡ take len (drop at (file_bytes (own f m number)))
+read_bytes f one m number at len end inode is k h e held from e1 b =
     let kind : (inode_of m number).kind ≡ 1 = ap (λ (x : Inode). x.kind) (sym is) ∙ k in
-    b ∙ ap (λ x. bytes_from m inode at (x - at)) f ∙ some_bytes m inode inode.size at len end h e
+    b ∙ ap (λ x. bytes_from m inode at (x - at)) e1 ∙ some_bytes m inode inode.size at len end h e
     ∙ ap (λ (x : Inode). take len (drop at (bytes_from m x 0 x.size))) is
-    ∙ ap (λ (x : List ℕ). take len (drop at x)) (sym (all_bytes entry m number kind))
+    ∙ ap (λ (x : List ℕ). take len (drop at x)) (sym (all_bytes f one m number kind))

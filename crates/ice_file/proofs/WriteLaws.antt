@@ -1,15 +1,19 @@
 -- One piece of a write after another.
-use Rattle.std.proofs.Common.{◌≡◌, ◌≢◌, ◌≤◌, ◌<◌, ◌⊎◌, ◌+◌, ◌-◌, ◌*◌, ◌/◌, ◌%◌, ◌==◌, min, max, ℕ, true, false, List, length, slice_index, slice_range, ◌∙◌, sym, refl, ap, subst, inl, inr, ⊎_elim, arith, ltb}
+use Rattle.std.proofs.Common.{◌≡◌, ◌≢◌, ◌≤◌, ◌<◌, ◌⊎◌, ◌+◌, ◌-◌, ◌*◌, ◌^◌, ◌/◌, ◌%◌, ◌==◌, min, max, ℕ, true, false, List, length, slice_index, slice_range, ◌∙◌, sym, refl, ap, subst, inl, inr, ⊎_elim, arith, ltb}
 use Rattle.std.proofs.lemmas.Bool.Decides.{nat_tests}
 use Rattle.std.proofs.lemmas.Nat.{div-add-mod', mod_below}
 use Rattle.std.proofs.lemmas.List.Edits.{length-between, get_or-between}
 use Rattle.ice_base.specs.Lots.{LotView}
 use Rattle.ice_map.specs.declared.codec.Inode.{Inode}
+use Rattle.ice_base.specs.Used.{counted, free_count}
 use Rattle.ice_map.specs.Maps.{needs}
-use Rattle.ice_file.specs.Own.{MadeOf, blocks_for}
+use Rattle.ice_map.specs.Growth.{Grew}
+use Rattle.ice_map.proofs.GrowthLaws.{uses-less, uses-needs}
+use Rattle.ice_map.specs.Own.{MadeOf, blocks_for}
 use Rattle.ice_file.specs.Files.{byte_of}
-use Rattle.ice_file.specs.Writes.{PutPiece, Written, content_of, up_to, blocks_with, uses_of}
-use Rattle.ice_file.proofs.MoveLaws.{moved-then, moved-refl}
+use Rattle.ice_file.specs.Writes.{PutPiece, Written, up_to, blocks_with}
+use Rattle.ice_map.specs.Moves.{content_of, uses_of}
+use Rattle.ice_map.proofs.MoveLaws.{moved-then, moved-refl}
 
 -- nothing written yet
 pub written-none : (lot : LotView) (m : ℕ → List ℕ) (x : Inode) (c at : ℕ) (bytes : List ℕ) → MadeOf lot m x c → Written lot m m x x c c at at bytes
@@ -135,15 +139,40 @@ written-step lot m0 m1 m2 x y z size at end k from to count bytes part w f t n s
     written-at lot m0 m2 x z (blocks_for size) (max count (k + 1)) (blocks_with size (up_to at end (k + 1))) at (from + length part) (up_to at end (k + 1)) bytes
     (ap (λ d. max d (k + 1)) (sym c) ∙ count-next size at end k first last o) (omega arith) all
 
--- how many blocks are used
-pub uses-less : (c d : ℕ) → c ≤ d → uses_of c ≤ uses_of d
-uses-less c d h = grind (arith, nat_tests)
-
-pub uses-needs : (c : ℕ) → needs c + uses_of c ≡ uses_of (c + 1)
-uses-needs c = grind (arith, nat_tests)
-
 -- fewer bytes have no more blocks
 pub count-less : (len size : ℕ) → len ≤ size → blocks_for len ≤ blocks_for size
 count-less len size h =
     let q = div-add-mod' (len + 1023) 1024 in let r = mod_below (len + 1023) 1024 (omega arith) in
     let s = div-add-mod' (size + 1023) 1024 in let t = mod_below (size + 1023) 1024 (omega arith) in omega arith
+
+-- too few blocks are free, or can be counted
+pub none-grew : (lot : LotView) (m0 m1 : ℕ → List ℕ) (x y : Inode) (size end k count : ℕ) → Grew lot m0 m1 x y (blocks_for size) count → blocks_for size ≤ count → k ≡ count → k < blocks_for end
+    → free_count false lot m1 < needs count → free_count false lot m0 + uses_of (blocks_for size) < uses_of (blocks_with size end)
+none-grew lot m0 m1 x y size end k count g o e l f =
+    let w = g.marked.free in
+    let n = uses-needs count in
+    let q = uses-less (blocks_for size) count o in
+    let grows = count-grows end size in
+    let same : blocks_with end size ≡ blocks_with size end = ap blocks_for (omega arith) in
+    let u = uses-less (count + 1) (blocks_with size end) (omega arith) in
+    omega arith
+
+pub full-grew : (lot : LotView) (m0 m1 : ℕ → List ℕ) (x y : Inode) (size end k count : ℕ) → Grew lot m0 m1 x y (blocks_for size) count → blocks_for size ≤ count → k ≡ count → k < blocks_for end
+    → 4294967296 ≤ counted false m1 + needs count → 4294967296 + uses_of (blocks_for size) ≤ counted false m0 + uses_of (blocks_with size end)
+full-grew lot m0 m1 x y size end k count g o e l f =
+    let w = g.marked.counts in
+    let n = uses-needs count in
+    let q = uses-less (blocks_for size) count o in
+    let grows = count-grows end size in
+    let same : blocks_with end size ≡ blocks_with size end = ap blocks_for (omega arith) in
+    let u = uses-less (count + 1) (blocks_with size end) (omega arith) in
+    omega arith
+
+-- a block that a file has before a piece of a write, it had before the write
+pub count-had : (size at k from count : ℕ) → at ≤ size → from ≡ max at (1024 * k) → count ≡ blocks_for (max size from) → k < count → k < blocks_for size
+count-had size at k from count r f e h =
+    let q = div-add-mod' (max size from + 1023) 1024 in
+    let d = mod_below (max size from + 1023) 1024 (omega arith) in
+    let q' = div-add-mod' (size + 1023) 1024 in
+    let d' = mod_below (size + 1023) 1024 (omega arith) in
+    omega arith

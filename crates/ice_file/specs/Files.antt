@@ -8,20 +8,13 @@ use Rattle.ice_base.specs.declared.fault.Rule.TheVariants.{Counts, Kind, Pointer
 use Rattle.ice_map.specs.declared.codec.Inode.{Inode}
 use Rattle.ice_map.specs.Inodes.{inode_of}
 use Rattle.ice_map.specs.Maps.{nth_block}
-use Rattle.ice_file.specs.Own.{own, file_bytes, OwnSet}
+use Rattle.tree_spec.specs.Costs.{Form}
+use Rattle.ice_map.specs.Own.{own, file_bytes, OwnSet}
 
--- the most bytes of a file: 268 blocks
-abbrev pub longest_file : ℕ
-longest_file = 274432
-
--- the most bytes of one read or write
-abbrev pub most_at_once : ℕ
-most_at_once = 16384
-
--- an inode is a file of at least `at` bytes
-pub record ReachesTo (at : ℕ) (inode : Inode) : Type 0 where
+-- an inode is a file of the form of at least `at` bytes
+pub record ReachesTo (f : Form) (at : ℕ) (inode : Inode) : Type 0 where
   pub kind : inode.kind ≡ 1
-  pub small : inode.size ≤ longest_file
+  pub small : inode.size ≤ f.longest_file
   pub reaches : at ≤ inode.size
 
 -- bytes in place of those from `at` on, and past the end where there are more
@@ -29,10 +22,10 @@ abbrev pub overwritten : List ℕ → ℕ → List ℕ → List ℕ
 overwritten old at bytes = take at old ++ bytes ++ drop (at + length bytes) old
 
 -- A file's bytes were set: its map is well made, the marks follow what it uses, and every other inode is as it was and says what it said.
-pub record FileSet (lot : LotView) (entry : ℕ) (old new : ℕ → List ℕ) (number : ℕ) (now : List ℕ) : Type 0 where
-  pub bytes : file_bytes (own entry new number) ≡ now
+pub record FileSet (lot : LotView) (f : Form) (old new : ℕ → List ℕ) (number : ℕ) (now : List ℕ) : Type 0 where
+  pub bytes : file_bytes (own f new number) ≡ now
   pub kind : (inode_of new number).kind ≡ 1
-  pub set : OwnSet lot entry old new number
+  pub set : OwnSet lot f old new number
 
 -- byte i of the blocks of a map
 abbrev pub byte_of : (ℕ → List ℕ) → Inode → ℕ → ℕ

@@ -1,4 +1,2 @@
-pub mod Own
 pub mod Files
 pub mod Writes
-pub mod Growth

@@ -10,16 +10,18 @@ ghost use Rattle.ice_base.specs.declared.fault.Rule.{Rule};
 ghost use Rattle.ice_base.specs.declared.fault.Rule.TheVariants.{Counts, Kind, Pointer, Bitmap};
 ghost use Rattle.ice_map.specs.Inodes.{inode_of};
 ghost use Rattle.ice_map.specs.Maps.{cut_off, FreeOrTwice, Misleads};
-ghost use Rattle.ice_file.specs.Files.{longest_file, ReachesTo, FileSet, IsCutToFault};
-ghost use Rattle.ice_file.specs.Own.{own, file_bytes, blocks_for, WellMade};
-ghost use Rattle.ice_file.specs.Writes.{uses_of};
+ghost use Rattle.ice_file.specs.Files.{ReachesTo, FileSet, IsCutToFault};
+ghost use Rattle.ice_map.specs.Own.{own, file_bytes, blocks_for, WellMade};
+ghost use Rattle.ice_map.specs.Moves.{uses_of};
+ghost use Rattle.tree_spec.specs.Costs.{form_of};
 
-use crate::inode::{file_inode, map_length};
+use crate::inode::file_inode;
 use ice_base::{Disk, Form, Keep, Lot, OpFault, Pool};
-use ice_map::{cut, put_inode};
+use ice_map::{cut, map_length, put_inode};
 
 /// Keeps the first `len` bytes of a file, and gives back the blocks that hold none of them.
 /// After a fault some of them may have been given back. Damaged: the inode is no file of at least `len` bytes, or what a cut of its map says.
+#[tactic(auto, using(ice_map::proofs::SizeLaws::size_laws))]
 pub fn cut_to<D: Disk, K: Keep<D>, P: Pool<D, K>, F: Form>(
     keep: &mut K,
     pool: &mut P,
@@ -32,13 +34,13 @@ pub fn cut_to<D: Disk, K: Keep<D>, P: Pool<D, K>, F: Form>(
     requires number { number < 64 * length lot.now.groups }
     requires room { 72 ≤ K.room keep.old }
     ensures cut { AsShown K.View lot.now keep.old disk.old keep.new disk.new (λ old new.
-        WellMade lot.now F.ENTRY old number
-        → OnOk result (FileSet lot.now F.ENTRY old new number (take len (file_bytes (own F.ENTRY old number))))) }
+        WellMade lot.now (form_of F.VERSION) old number
+        → OnOk result (FileSet lot.now (form_of F.VERSION) old new number (take len (file_bytes (own (form_of F.VERSION) old number))))) }
     ensures reaches { IfShown K.View lot.now keep.old disk.old (λ old.
-        OnOk result (ReachesTo len (inode_of old number))) }
+        OnOk result (ReachesTo (form_of F.VERSION) len (inode_of old number))) }
     ensures spent { Spent D.Disk K.View lot.now 72 keep.old disk.old keep.new disk.new }
     ensures kind { IsErrOf result (Damaged Kind) → IfShown K.View lot.now keep.old disk.old (λ old.
-        ¬ ReachesTo len (inode_of old number)) }
+        ¬ ReachesTo (form_of F.VERSION) len (inode_of old number)) }
     ensures looked { IsErrOf result (Damaged Kind)
         → Looked D.Disk K.View lot.now keep.old disk.old keep.new disk.new }
     ensures zero { IsErrOf result (Damaged Counts) → IfShown K.View lot.now keep.old disk.old (λ old.
@@ -58,13 +60,13 @@ pub fn cut_to<D: Disk, K: Keep<D>, P: Pool<D, K>, F: Form>(
     ensures sub { AsShown K.View lot.now keep.old disk.old keep.new disk.new (λ old new.
         OnOk result (SameBeside (count_place false) 4 (old sub_address) (new sub_address))) }
     ensures file { IfErr result (λ e. (rule : Rule) → e ≡ Damaged rule → rule ≢ Kind
-        → IfShown K.View lot.now keep.old disk.old (λ old. ReachesTo len (inode_of old number))) }
+        → IfShown K.View lot.now keep.old disk.old (λ old. ReachesTo (form_of F.VERSION) len (inode_of old number))) }
     ensures faults { IfErr result IsCutToFault }
     ensures failed { IsErrOf result FaultDisk → Rose (D.state disk.old).faults (D.state disk.new).faults }
 {
     let mut inode = file_inode::<D, K, F>(keep, disk, lot, number, len)?;
-    let count = map_length(inode.size);
-    let rest = map_length(len);
+    let count = map_length::<F>(inode.size);
+    let rest = map_length::<F>(len);
     cut::<D, K, P, F>(keep, pool, disk, lot, &mut inode, count, rest)?;
     inode.size = len;
     put_inode::<D, K, P, F>(keep, pool, disk, lot, number, &inode)?;

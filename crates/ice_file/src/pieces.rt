@@ -9,57 +9,13 @@ ghost use Rattle.ice_base.specs.declared.fault.OpFault.TheVariants.{Disk as Faul
 ghost use Rattle.ice_base.specs.declared.fault.Rule.TheVariants.{Counts, Pointer, Bitmap};
 ghost use Rattle.ice_map.specs.Faults.{IsGrowFault};
 ghost use Rattle.ice_map.specs.Maps.{longest, needs, nth_block};
-ghost use Rattle.ice_file.specs.Growth.{Grew, InodesStay, Strays};
-ghost use Rattle.ice_file.specs.Own.{MadeOf};
-ghost use Rattle.ice_file.specs.Writes.{Reached, PutPiece, due};
+ghost use Rattle.ice_map.specs.Growth.{Grew, InodesStay, Strays};
+ghost use Rattle.ice_map.specs.Own.{MadeOf};
+ghost use Rattle.ice_map.specs.Moves.{Reached, due};
+ghost use Rattle.ice_file.specs.Writes.{PutPiece};
 
 use ice_base::{Disk, Form, Keep, Lot, OpFault, Pool, View, fetch, store};
-use ice_map::{Inode, extend, nth};
-
-/// Block `k` of a map of `count` blocks, or a new one where the map ends there.
-#[tactic(auto, using(crate::proofs::DueLaws::due_laws))]
-fn reach<D: Disk, K: Keep<D>, P: Pool<D, K>, F: Form>(
-    keep: &mut K,
-    pool: &mut P,
-    disk: &mut D,
-    lot: &Lot,
-    inode: &mut Inode,
-    count: u32,
-    k: u32,
-) -> Result<u32, OpFault>
-    requires sited { is_sited lot.now (D.state disk.old).size ≡ true }
-    requires room { 6 ≤ K.room keep.old }
-    requires order { k ≤ count }
-    requires short { k < longest }
-    ensures reached { AsShown K.View lot.now keep.old disk.old keep.new disk.new (λ old new.
-        MadeOf lot.now old inode.old count
-        → IfOk result (Reached lot.now old new inode.old inode.new count k)) }
-    ensures data { IfOk result (λ a. is_data lot.now a ≡ true) }
-    ensures grew { AsShown K.View lot.now keep.old disk.old keep.new disk.new (λ old new.
-        OnOk result (Grew lot.now old new inode.old inode.new count (max count (k + 1)))) }
-    ensures stays { AsShown K.View lot.now keep.old disk.old keep.new disk.new (λ old new. InodesStay old new) }
-    ensures pays { OnOk result (K.room keep.old + due (K.held keep.new) inode.new.single (max count (k + 1)) ≤ K.room keep.new + due (K.held keep.old) inode.old.single count + 1) }
-    ensures spent { Spent D.Disk K.View lot.now 6 keep.old disk.old keep.new disk.new }
-    ensures none { IsErrOf result NoSpace → IfShown K.View lot.now keep.old disk.old (λ old.
-        (k ≡ count) × (free_count false lot.now old < needs count)) }
-    ensures full { IsErrOf result (Damaged Counts) → IfShown K.View lot.now keep.old disk.old (λ old.
-        (k ≡ count) × (2 ^ 32 ≤ counted false old + needs count)) }
-    ensures unreserved { IsErrOf result (Damaged Bitmap)
-        → IfShown K.View lot.now keep.old disk.old (λ old. ¬ Reserved lot.now old) }
-    ensures strays { IsErrOf result (Damaged Pointer) → IfShown K.View lot.now keep.old disk.old (λ old.
-        Strays lot.now old inode.old count k) }
-    ensures had { AsShown K.View lot.now keep.old disk.old keep.new disk.new (λ old new.
-        k < count → IfOk result (λ a. (a ≡ nth_block old inode.old k) × (new ≡ old))) }
-    ensures faults { IfErr result IsGrowFault }
-    ensures failed { IsErrOf result FaultDisk → Rose (D.state disk.old).faults (D.state disk.new).faults }
-{
-    if k < count {
-        let at = nth::<D, K, F>(keep, disk, lot, inode, k)?;
-        return Ok(at);
-    }
-    let taken = extend::<D, K, P, F>(keep, pool, disk, lot, inode, count)?;
-    Ok(taken)
-}
+use ice_map::{Inode, reach};
 
 fn copy_into(block: &mut [u8; 1024], start: usize, bytes: &[u8])
     requires { start + length bytes.now ≤ 1024 }
@@ -107,7 +63,7 @@ fn fill<D: Disk, K: Keep<D>>(
 }
 
 /// Puts bytes into block `k` of a map of `count` blocks from its byte `start` on, as a new block where the map ends there.
-#[tactic(auto, using(crate::proofs::DueLaws::due_laws))]
+#[tactic(auto, using(ice_map::proofs::DueLaws::due_laws))]
 pub fn put_piece<D: Disk, K: Keep<D>, P: Pool<D, K>, F: Form>(
     keep: &mut K,
     pool: &mut P,
@@ -130,7 +86,8 @@ pub fn put_piece<D: Disk, K: Keep<D>, P: Pool<D, K>, F: Form>(
     ensures grew { AsShown K.View lot.now keep.old disk.old keep.new disk.new (λ old new.
         OnOk result (Grew lot.now old new inode.old inode.new count (max count (k + 1)))) }
     ensures stays { AsShown K.View lot.now keep.old disk.old keep.new disk.new (λ old new. InodesStay old new) }
-    ensures pays { OnOk result (K.room keep.old + due (K.held keep.new) inode.new.single (max count (k + 1)) ≤ K.room keep.new + due (K.held keep.old) inode.old.single count + 2) }
+    ensures pays { OnOk result (K.room keep.old + due (K.held keep.new) inode.new.single (max count (k + 1))
+        ≤ K.room keep.new + due (K.held keep.old) inode.old.single count + 2) }
     ensures spent { Spent D.Disk K.View lot.now 7 keep.old disk.old keep.new disk.new }
     ensures none { IsErrOf result NoSpace → IfShown K.View lot.now keep.old disk.old (λ old.
         (k ≡ count) × (free_count false lot.now old < needs count)) }

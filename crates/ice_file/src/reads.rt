@@ -8,8 +8,10 @@ ghost use Rattle.ice_base.specs.declared.fault.Rule.TheVariants.{Kind, Pointer};
 ghost use Rattle.ice_map.specs.Faults.{IsLookFault};
 ghost use Rattle.ice_map.specs.Inodes.{inode_of};
 ghost use Rattle.ice_map.specs.Maps.{leads};
-ghost use Rattle.ice_file.specs.Files.{longest_file, most_at_once, ReachesTo, bytes_from, IsReadFault};
-ghost use Rattle.ice_file.specs.Own.{own, file_bytes, WellMade};
+ghost use Rattle.ice_file.specs.Files.{ReachesTo, bytes_from, IsReadFault};
+ghost use Rattle.tree_spec.specs.Held.{most_bytes};
+ghost use Rattle.ice_map.specs.Own.{own, file_bytes, WellMade};
+ghost use Rattle.tree_spec.specs.Costs.{form_of};
 
 use crate::inode::file_inode;
 use ice_base::{Disk, Form, Lot, OpFault, View, fetch};
@@ -17,7 +19,7 @@ use ice_map::{Inode, nth};
 use tree_spec::Room;
 
 /// Adds the bytes from `from` on, up to the end of their block or to `end`, and says how many these are.
-#[tactic(auto, using(ice_base::proofs::LotLaws::address_laws, ice_base::proofs::UsedLaws::group_laws))]
+#[tactic(auto, using(ice_base::proofs::LotLaws::address_laws, ice_base::proofs::UsedLaws::group_laws, ice_map::proofs::SizeLaws::size_laws))]
 fn read_piece<D: Disk, V: View<D>, F: Form>(
     view: &mut V,
     disk: &mut D,
@@ -29,8 +31,8 @@ fn read_piece<D: Disk, V: View<D>, F: Form>(
 ) -> Result<u32, OpFault>
     requires sited { is_sited lot.now (D.state disk.old).size ≡ true }
     requires some { from < end }
-    requires short { end ≤ longest_file }
-    requires fits { length room.old.bytes + (end - from) ≤ most_at_once }
+    requires short { end ≤ (form_of F.VERSION).longest_file }
+    requires fits { length room.old.bytes + (end - from) ≤ most_bytes }
     ensures bytes { IfShown V.View lot.now view.old disk.old (λ old.
         IfOk result (λ n. room.new.bytes ≡ room.old.bytes ++ bytes_from old inode.now from n)) }
     ensures long { IfOk result (λ n. length room.new.bytes ≡ length room.old.bytes + n) }
@@ -55,6 +57,7 @@ fn read_piece<D: Disk, V: View<D>, F: Form>(
 
 /// Puts the bytes of a file from `at` on into the room: `len` of them, or as many as there are.
 /// After an `Err` any bytes may stand in the room. Damaged: the inode is no file of at least `at` bytes, or a pointer to one of its blocks is no data place.
+#[tactic(auto, using(ice_map::proofs::SizeLaws::size_laws))]
 pub fn read_at<D: Disk, V: View<D>, F: Form>(
     view: &mut V,
     disk: &mut D,
@@ -66,22 +69,22 @@ pub fn read_at<D: Disk, V: View<D>, F: Form>(
 ) -> Result<(), OpFault>
     requires sited { is_sited lot.now (D.state disk.old).size ≡ true }
     requires number { number < 64 * length lot.now.groups }
-    requires few { len ≤ most_at_once }
+    requires few { len ≤ most_bytes }
     requires empty { room.old.bytes ≡ [] }
     ensures bytes { IfShown V.View lot.now view.old disk.old (λ old.
-        OnOk result (room.new.bytes ≡ take len (drop at (file_bytes (own F.ENTRY old number))))) }
+        OnOk result (room.new.bytes ≡ take len (drop at (file_bytes (own (form_of F.VERSION) old number))))) }
     ensures most { length room.new.bytes ≤ len }
     ensures entries { room.new.entries ≡ room.old.entries }
     ensures rows { room.new.rows ≡ room.old.rows }
     ensures reaches { IfShown V.View lot.now view.old disk.old (λ old.
-        OnOk result (ReachesTo at (inode_of old number))) }
+        OnOk result (ReachesTo (form_of F.VERSION) at (inode_of old number))) }
     ensures kind { IsErrOf result (Damaged Kind) → IfShown V.View lot.now view.old disk.old (λ old.
-        ¬ ReachesTo at (inode_of old number)) }
+        ¬ ReachesTo (form_of F.VERSION) at (inode_of old number)) }
     ensures pointer { IsErrOf result (Damaged Pointer) → IfShown V.View lot.now view.old disk.old (λ old.
         (k : ℕ) × (1024 * k < (inode_of old number).size)
         × (leads lot.now old (inode_of old number) k ≡ false)) }
     ensures unmade { IsErrOf result (Damaged Pointer) → IfShown V.View lot.now view.old disk.old (λ old.
-        ¬ WellMade lot.now F.ENTRY old number) }
+        ¬ WellMade lot.now (form_of F.VERSION) old number) }
     ensures looked { Looked D.Disk V.View lot.now view.old disk.old view.new disk.new }
     ensures faults { IfErr result IsReadFault }
     ensures failed { IsErrOf result FaultDisk → Rose (D.state disk.old).faults (D.state disk.new).faults }

@@ -10,3 +10,11 @@ pub mod DamageLaws
 pub mod UsesLaws
 pub mod GrowLaws
 pub mod ShortLaws
+pub mod SizeLaws
+pub mod OwnLaws
+pub mod MoveLaws
+pub mod ShrinkLaws
+pub mod MadeLaws
+pub mod DueLaws
+pub mod GrowthLaws
+pub mod SetLaws

@@ -151,10 +151,6 @@ pub record FreeOrTwice (m : ℕ → List ℕ) (blocks : List ℕ) : Type 0 where
 abbrev pub HasTwice : List ℕ → Type 0
 HasTwice blocks = (b : ℕ) × (2 ≤ times blocks b)
 
--- every block that a map uses is a data place
-abbrev pub Placed : LotView → (ℕ → List ℕ) → Inode → ℕ → Type 0
-Placed lot m inode count = (b : ℕ) → has (uses m inode count) b ≡ true → is_data lot b ≡ true
-
 -- A map of `count` blocks was cut to its first `rest`: they stayed, and what it uses no more was given back.
 pub record Cut (lot : LotView) (old new : ℕ → List ℕ) (before after : Inode) (count rest : ℕ) : Type 0 where
   pub blocks : blocks_of new after rest ≡ blocks_of old before rest

@@ -6,7 +6,7 @@ use Rattle.std.specs.FinMap.{find}
 use Rattle.ice_base.specs.Lots.{LotView}
 use Rattle.ice_map.specs.Maps.{times}
 use Rattle.ice_map.proofs.ListLaws.{times-append}
-use Rattle.ice_file.specs.Own.{Own}
+use Rattle.ice_map.specs.Own.{Own}
 use Rattle.ice_dir.specs.Rows.{Row}
 use Rattle.tree_spec.specs.Trees.{Tree, File, Dir, Entries, Nil, Entry, rows, by_bytes, walk, and_on, found_or_not, Found, NotFound, NotDir, at, over_entry}
 use Rattle.tree_spec.specs.Costs.{Form}

@@ -17,11 +17,11 @@ use Rattle.ice_map.specs.declared.codec.Inode.{Inode}
 use Rattle.ice_map.specs.Inodes.{inode_of, inode_at}
 use Rattle.ice_map.specs.Maps.{times, uses}
 use Rattle.ice_map.proofs.ListLaws.{has-none}
-use Rattle.ice_file.specs.Own.{map_length, blocks_for, mark}
+use Rattle.ice_map.specs.Own.{map_length, blocks_for, mark, own, RestIsZero}
 use Rattle.ice_dir.specs.Rows.{Row}
 use Rattle.tree_spec.specs.Trees.{Dir, Nil, by_bytes}
 use Rattle.tree_spec.specs.Costs.{form_one}
-use Rattle.ice_reads.specs.Tables.{Map, own_in, rows_in, RestIsZero, IsInode, IsNameOf, IsDirInode}
+use Rattle.ice_reads.specs.Tables.{Map, rows_in, IsInode, IsNameOf, IsDirInode}
 use Rattle.ice_reads.specs.Reads.{Reads, used_blocks}
 use Rattle.ice_reads.specs.Recovers.{MapRecovers}
 use Rattle.ice_reads.specs.Fresh.{IsFreshLot}
@@ -44,14 +44,14 @@ module _ (lot : LotView) (m : Map) (fresh : IsFreshLot lot m) where
   size-is : root.size ≡ 0
   size-is = ap (λ x. x.size) root-is ∙ root-size
 
-  no-blocks : map_length 64 root ≡ 0
+  no-blocks : map_length form_one root ≡ 0
   no-blocks = ap (λ k. blocks_for (cond (k == 2) (64 * root.size) root.size)) kind-is ∙ ap (λ s. blocks_for (64 * s)) size-is
 
-  no-uses : (own_in form_one m 0).uses ≡ []
+  no-uses : (own form_one m 0).uses ≡ []
   no-uses = ap (uses m root) no-blocks
 
-  no-rows : rows_in form_one (own_in form_one m 0) ≡ []
-  no-rows = empty (rows_in form_one (own_in form_one m 0)) (length-rows_in form_one (own_in form_one m 0) ∙ size-is)
+  no-rows : rows_in form_one (own form_one m 0) ≡ []
+  no-rows = empty (rows_in form_one (own form_one m 0)) (length-rows_in form_one (own form_one m 0) ∙ size-is)
     where
       empty : (rs : List Row) → length rs ≡ 0 → rs ≡ []
       empty [] h = refl
@@ -70,7 +70,7 @@ module _ (lot : LotView) (m : Map) (fresh : IsFreshLot lot m) where
       no : false ≡ true → ⊥
       no e = cc
 
-  root-inode : IsInode form_one lot (own_in form_one m 0) 0 0
+  root-inode : IsInode form_one lot (own form_one m 0) 0 0
   root-inode = record {
     depth = omega arith;
     number = omega (arith, fresh.some);
@@ -82,7 +82,7 @@ module _ (lot : LotView) (m : Map) (fresh : IsFreshLot lot m) where
   unfolding IsDistinct
   distinct-none = tt
 
-  root-dir : IsDirInode form_one lot (own_in form_one m 0) Nil
+  root-dir : IsDirInode form_one lot (own form_one m 0) Nil
   root-dir = record {
     is_dir = kind-is;
     within = omega (arith, fresh.some, size-is);
@@ -93,10 +93,10 @@ module _ (lot : LotView) (m : Map) (fresh : IsFreshLot lot m) where
     count = sym size-is;
   }
 
-  root-reads : Reads form_one lot (own_in form_one m) 0 0 (Dir Nil)
+  root-reads : Reads form_one lot (own form_one m) 0 0 (Dir Nil)
   root-reads = (root-inode, root-dir, tt)
 
-  no-used : used_blocks form_one (own_in form_one m) 0 (Dir Nil) ≡ []
+  no-used : used_blocks form_one (own form_one m) 0 (Dir Nil) ≡ []
   no-used = ap (λ xs. xs ++ []) no-uses
 
   -- ---- the marks

@@ -7,7 +7,7 @@ use Rattle.std.specs.FinMap.{find, is_sorted}
 use Rattle.std.specs.FinMap.Entries.{is_sorted-where_key}
 use Rattle.std.proofs.lemmas.List.FromFn.{length-map-range_with_len}
 use Rattle.ice_base.specs.Lots.{LotView}
-use Rattle.ice_file.specs.Own.{Own}
+use Rattle.ice_map.specs.Own.{Own}
 use Rattle.ice_dir.specs.Rows.{Row, dir_rows, look_up}
 use Rattle.ice_dir.specs.Rows as dir
 use Rattle.tree_spec.specs.Trees.{Tree, File, Dir, Entries, Nil, Entry, rows, from_rows, by_bytes, without, without_entry, height, height_in}

@@ -16,10 +16,10 @@ use Rattle.ice_layout.specs.Subs.{sub_rule, sub_magic}
 use Rattle.ice_map.specs.Maps.{times}
 use Rattle.ice_map.proofs.ListLaws.{has-times}
 use Rattle.ice_map.proofs.UsesLaws.{times-has}
-use Rattle.ice_file.specs.Own.{mark}
+use Rattle.ice_map.specs.Own.{mark, own}
 use Rattle.tree_spec.specs.Trees.{Tree}
 use Rattle.tree_spec.specs.Costs.{Form}
-use Rattle.ice_reads.specs.Tables.{Map, own_in}
+use Rattle.ice_reads.specs.Tables.{Map}
 use Rattle.ice_reads.specs.Reads.{used_blocks, used_inodes}
 use Rattle.ice_reads.specs.Recovers.{Holds, MapRecovers}
 use Rattle.ice_reads.proofs.Frames.{SameAt, Reads-frame, uses-frame}
@@ -31,7 +31,7 @@ use Rattle.ice_reads.proofs.Unique.{Reads-unique}
 
 pub recovers_one : (f : Form) (mode other : ℕ) (lot : LotView) (m : Map) (t u : Tree) (j k : ℕ) → MapRecovers f mode lot m t j → MapRecovers f other lot m u k → (t ≡ u) × (j ≡ k) × (mode ≡ other)
 recovers_one f mode other lot m t u j k a b =
-    (Reads-unique f lot (own_in f m) t 0 0 0 u a.holds.reads b.holds.reads, sym a.sub.done ∙ b.sub.done, sym a.sub.mode ∙ b.sub.mode)
+    (Reads-unique f lot (own f m) t 0 0 0 u a.holds.reads b.holds.reads, sym a.sub.done ∙ b.sub.done, sym a.sub.mode ∙ b.sub.mode)
 
 -- no rule is broken, so the last test passes too
 last_passes : (a b c d e : Bool) (v w x y z : Rule) → (if not a then Some v else if not b then Some w else if not c then Some x else if not d then Some y else if not e then Some z else None) ≡ None → e ≡ true
@@ -84,7 +84,7 @@ inode-place i =
 module _ (f : Form) (lot : LotView) (m n : Map) (t : Tree)
     (sub : n sub_address ≡ m sub_address)
     (fixed : (a : ℕ) → a < 256 * length lot.groups → a % 256 < 9 → n a ≡ m a)
-    (held : (a : ℕ) → 0 < times (used_blocks f (own_in f m) 0 t) a → n a ≡ m a) where
+    (held : (a : ℕ) → 0 < times (used_blocks f (own f m) 0 t) a → n a ≡ m a) where
   used-rests : (inodes : Bool) (i : ℕ) → i < bits_of inodes * length lot.groups → used inodes n i ≡ used inodes m i
   used-rests inodes i h =
       used-bit inodes n i
@@ -95,24 +95,24 @@ module _ (f : Form) (lot : LotView) (m n : Map) (t : Tree)
   counted-rests inodes = ap (λ (block : List ℕ). word_at block (count_place inodes)) sub
 
   module _ (h : Holds f lot m t) where
-    same : SameAt (own_in f m) (own_in f n) (used_inodes f (own_in f m) 0 t)
+    same : SameAt (own f m) (own f n) (used_inodes f (own f m) 0 t)
     same = record {
       at = λ k c.
-          let low = Reads-number f lot (own_in f m) k 0 0 t h.reads c in
+          let low = Reads-number f lot (own f m) k 0 0 t h.reads c in
           own-rests f m n k (fixed (inode_address k) (inode-inside k (length lot.groups) low) (inode-place k))
-          (λ a u. held a (omega (arith, has-times (own_in f m k).uses a u, used-one f (own_in f m) (λ i. (own_in f m i).uses) a k k 0 t c)));
+          (λ a u. held a (omega (arith, has-times (own f m k).uses a u, used-one f (own f m) (λ i. (own f m i).uses) a k k 0 t c)));
     }
 
-    blocks-rest : used_blocks f (own_in f n) 0 t ≡ used_blocks f (own_in f m) 0 t
-    blocks-rest = uses-frame f (own_in f m) (own_in f n) (λ i. (own_in f m i).uses) (λ i. (own_in f n i).uses) (λ k e. ap (λ x. x.uses) e) 0 t same
+    blocks-rest : used_blocks f (own f n) 0 t ≡ used_blocks f (own f m) 0 t
+    blocks-rest = uses-frame f (own f m) (own f n) (λ i. (own f m i).uses) (λ i. (own f n i).uses) (λ k e. ap (λ x. x.uses) e) 0 t same
 
-    inodes-rest : used_inodes f (own_in f n) 0 t ≡ used_inodes f (own_in f m) 0 t
-    inodes-rest = uses-frame f (own_in f m) (own_in f n) (λ i. i ∷ []) (λ i. i ∷ []) (λ k e. refl) 0 t same
+    inodes-rest : used_inodes f (own f n) 0 t ≡ used_inodes f (own f m) 0 t
+    inodes-rest = uses-frame f (own f m) (own f n) (λ i. i ∷ []) (λ i. i ∷ []) (λ k e. refl) 0 t same
 
     pub holds_rests : Holds f lot n t
     holds_rests = record {
       dir = h.dir;
-      reads = Reads-frame f lot (own_in f m) (own_in f n) 0 0 t same h.reads;
+      reads = Reads-frame f lot (own f m) (own f n) 0 0 t same h.reads;
       reserved = record { set = λ b low place. used-rests false b low ∙ h.reserved.set b low place };
       blocks = λ b d. ap (λ xs. times xs b) blocks-rest ∙ h.blocks b d ∙ ap mark (sym (used-rests false b (data_below lot b d)));
       inodes = λ i low. ap (λ xs. times xs i) inodes-rest ∙ h.inodes i low ∙ ap mark (sym (used-rests true i low));
@@ -124,7 +124,7 @@ module _ (f : Form) (lot : LotView) (m n : Map) (t : Tree)
 pub recovers_rests : (f : Form) (mode : ℕ) (lot : LotView) (m n : Map) (t : Tree) (k : ℕ)
     → n sub_address ≡ m sub_address
     → ((a : ℕ) → a < 256 * length lot.groups → a % 256 < 9 → n a ≡ m a)
-    → ((a : ℕ) → 0 < times (used_blocks f (own_in f m) 0 t) a → n a ≡ m a)
+    → ((a : ℕ) → 0 < times (used_blocks f (own f m) 0 t) a → n a ≡ m a)
     → MapRecovers f mode lot m t k → MapRecovers f mode lot n t k
 recovers_rests f mode lot m n t k sub fixed held r = record {
   sub = rw sub r.sub;

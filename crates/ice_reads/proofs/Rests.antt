@@ -11,10 +11,10 @@ use Rattle.ice_map.specs.declared.codec.Inode.{Inode}
 use Rattle.ice_map.specs.Inodes.{inode_of, inode_at}
 use Rattle.ice_map.specs.Maps.{nth_block, indirect_of, blocks_of, uses, longest}
 use Rattle.ice_map.proofs.ListLaws.{map_range_same, has-head, has-tail, has-left, has-right, has-range}
-use Rattle.ice_file.specs.Own.{Own, own_of, map_length}
-use Rattle.ice_file.proofs.OwnLaws.{uses-single, nth-moves}
+use Rattle.ice_map.specs.Own.{Own, own_of, map_length, entry_size, nth_long, indirects_long, own_long_of, own}
+use Rattle.ice_map.proofs.OwnLaws.{uses-single, nth-moves}
 use Rattle.tree_spec.specs.Costs.{Form, rounded_up}
-use Rattle.ice_reads.specs.Tables.{Map, entry_bytes, nth_long, indirects_long, own_long_of, own_in}
+use Rattle.ice_reads.specs.Tables.{Map}
 
 -- two maps hold the same at each address of a list
 abbrev pub Keep : Map → Map → List ℕ → Type 0
@@ -107,13 +107,13 @@ module _ (m n : Map) (x : Inode) (c : ℕ) where
         contents = each 0 c (omega arith)
 
 -- what an inode of a cube of either form says
-pub own-rests : (f : Form) (m n : Map) (number : ℕ) → n (inode_address number) ≡ m (inode_address number) → Keep m n (own_in f m number).uses → own_in f n number ≡ own_in f m number
+pub own-rests : (f : Form) (m n : Map) (number : ℕ) → n (inode_address number) ≡ m (inode_address number) → Keep m n (own f m number).uses → own f n number ≡ own f m number
 own-rests f m n number bytes keep =
     let same : inode_of n number ≡ inode_of m number = ap (λ (block : List ℕ). inode_at block (inode_index number)) bytes in
     elim (nat_eq f.version 2) as (λ b. Keep m n (said b m (inode_of m number)).uses → said b n (inode_of n number) ≡ said b m (inode_of m number)) [
-      | true ↦ λ k. ap (said true n) same ∙ long-rest m n (inode_of m number) (map_length (entry_bytes f) (inode_of m number)) k
-      | false ↦ λ k. ap (said false n) same ∙ short-rest m n (inode_of m number) (map_length (entry_bytes f) (inode_of m number)) k
+      | true ↦ λ k. ap (said true n) same ∙ long-rest m n (inode_of m number) (map_length f (inode_of m number)) k
+      | false ↦ λ k. ap (said false n) same ∙ short-rest m n (inode_of m number) (map_length f (inode_of m number)) k
     ] keep
   where
     said : Bool → Map → Inode → Own
-    said b k x = if b then own_long_of k x (map_length (entry_bytes f) x) else own_of k x (map_length (entry_bytes f) x)
+    said b k x = if b then own_long_of k x (map_length f x) else own_of k x (map_length f x)

@@ -13,7 +13,7 @@ use Rattle.std.proofs.lemmas.List.Elements.{All-append, All-cons, All-nil}
 use Rattle.std.proofs.lemmas.Map.Keys.{IsDistinct-push}
 use Rattle.ice_base.specs.Lots.{LotView}
 use Rattle.ice_map.specs.Maps.{times}
-use Rattle.ice_file.specs.Own.{Own}
+use Rattle.ice_map.specs.Own.{Own}
 use Rattle.ice_dir.specs.Rows.{Row}
 use Rattle.tree_spec.specs.Trees.{Tree, Dir, Entries, Nil, Entry, rows, from_rows, by_bytes, walk, Found, at, with_entry}
 use Rattle.tree_spec.specs.Costs.{Form}

@@ -9,13 +9,13 @@ use Rattle.ice_base.specs.Lots.{LotView}
 use Rattle.ice_map.specs.declared.codec.Inode.{Inode}
 use Rattle.ice_map.specs.Inodes.{inode_of}
 use Rattle.ice_map.specs.Maps.{indirect_of, longest}
-use Rattle.ice_file.specs.Own.{Own, blocks_for, map_length, file_bytes}
-use Rattle.ice_file.specs.Writes.{uses_of}
-use Rattle.ice_file.proofs.OwnLaws.{length-uses}
+use Rattle.ice_map.specs.Own.{Own, blocks_for, map_length, file_bytes, own, own_long_of, indirects_long, nth_long, entry_size}
+use Rattle.ice_map.specs.Moves.{uses_of}
+use Rattle.ice_map.proofs.OwnLaws.{length-uses}
 use Rattle.ice_dir.specs.Rows.{Row}
 use Rattle.tree_spec.specs.Trees.{Tree, File, Dir, Entries, Nil, Entry, rows, total_in}
 use Rattle.tree_spec.specs.Costs.{Form, form_one, form_two, form_of, map_cost, file_blocks, dir_blocks, blocks, rounded_up}
-use Rattle.ice_reads.specs.Tables.{Map, Table, rows_in, own_in, own_long_of, indirects_long, nth_long, inode_named, IsFileInode, IsDirInode}
+use Rattle.ice_reads.specs.Tables.{Map, Table, rows_in, inode_named, IsFileInode, IsDirInode}
 use Rattle.ice_reads.specs.Reads.{Reads, ReadsEach, entries_use, used_blocks}
 
 -- ---- maps
@@ -58,11 +58,11 @@ length-bytes : (o : Own) → length (file_bytes o) ≡ o.inode.size
 unfolding file_bytes
 length-bytes o = length-map-range_with_len _ 0 o.inode.size
 
-map-file : (entry : ℕ) (x : Inode) → x.kind ≡ 1 → map_length entry x ≡ file_blocks x.size
-map-file entry x kind = ap (λ k. blocks_for (cond (k == 2) (entry * x.size) x.size)) kind ∙ ap (λ n. n / 1024) (omega arith)
+map-file : (f : Form) (x : Inode) → x.kind ≡ 1 → map_length f x ≡ file_blocks x.size
+map-file f x kind = ap (λ k. blocks_for (cond (k == 2) (entry_size f * x.size) x.size)) kind ∙ ap (λ n. n / 1024) (omega arith)
 
-map-dir : (entry : ℕ) (x : Inode) → x.kind ≡ 2 → map_length entry x ≡ blocks_for (entry * x.size)
-map-dir entry x kind = ap (λ k. blocks_for (cond (k == 2) (entry * x.size) x.size)) kind
+map-dir : (f : Form) (x : Inode) → x.kind ≡ 2 → map_length f x ≡ blocks_for (entry_size f * x.size)
+map-dir f x kind = ap (λ k. blocks_for (cond (k == 2) (entry_size f * x.size) x.size)) kind
 
 -- sixteen entries of 64 bytes, or eight of 128, have one block
 sixteen : (n : ℕ) → blocks_for (64 * n) ≡ dir_blocks form_one n
@@ -97,37 +97,37 @@ module _ (f : Form) (lot : LotView) (o : Table) (file : (i : ℕ) (bytes : List 
         omega (arith, length-append (used_blocks f o (inode_named c rs) t) (entries_use f o (λ i. (o i).uses) rs es), used-tree (inode_named c rs) h t r.0, used-each rs h es r.1)
 
 module _ (lot : LotView) (m : Map) where
-  file-one : (i : ℕ) (bytes : List ℕ) → IsFileInode form_one (own_in form_one m i) bytes → length (own_in form_one m i).uses ≡ map_cost (file_blocks (length bytes))
+  file-one : (i : ℕ) (bytes : List ℕ) → IsFileInode form_one (own form_one m i) bytes → length (own form_one m i).uses ≡ map_cost (file_blocks (length bytes))
   file-one i bytes r =
-      let size = sym (length-bytes (own_in form_one m i)) ∙ ap length r.bytes_are in
-      let long = map-file 64 (inode_of m i) r.is_file in
-      let short : map_length 64 (inode_of m i) ≤ 268 = let d = div-add-mod' ((inode_of m i).size + 1024 - 1) 1024 in let w : (inode_of m i).size ≤ 274432 = r.within in omega arith in
-      length-uses m (inode_of m i) (map_length 64 (inode_of m i)) ∙ cost-short (map_length 64 (inode_of m i)) short ∙ ap map_cost (long ∙ ap file_blocks size)
+      let size = sym (length-bytes (own form_one m i)) ∙ ap length r.bytes_are in
+      let long = map-file form_one (inode_of m i) r.is_file in
+      let short : map_length form_one (inode_of m i) ≤ 268 = let d = div-add-mod' ((inode_of m i).size + 1024 - 1) 1024 in let w : (inode_of m i).size ≤ 274432 = r.within in omega arith in
+      length-uses m (inode_of m i) (map_length form_one (inode_of m i)) ∙ cost-short (map_length form_one (inode_of m i)) short ∙ ap map_cost (long ∙ ap file_blocks size)
 
-  dir-one : length lot.groups ≤ 64 → (i : ℕ) (es : Entries) → IsDirInode form_one lot (own_in form_one m i) es → length (own_in form_one m i).uses ≡ map_cost (dir_blocks form_one (length (rows es)))
+  dir-one : length lot.groups ≤ 64 → (i : ℕ) (es : Entries) → IsDirInode form_one lot (own form_one m i) es → length (own form_one m i).uses ≡ map_cost (dir_blocks form_one (length (rows es)))
   dir-one few i es r =
-      let long = map-dir 64 (inode_of m i) r.is_dir in
-      let short : map_length 64 (inode_of m i) ≤ 268 = let d = div-add-mod' (64 * (inode_of m i).size + 1023) 1024 in let w : (inode_of m i).size < 64 * length lot.groups = r.within in omega arith in
-      length-uses m (inode_of m i) (map_length 64 (inode_of m i)) ∙ cost-short (map_length 64 (inode_of m i)) short ∙ ap map_cost (long ∙ sixteen (inode_of m i).size ∙ ap (dir_blocks form_one) (sym r.count))
+      let long : map_length form_one (inode_of m i) ≡ blocks_for (64 * (inode_of m i).size) = map-dir form_one (inode_of m i) r.is_dir in
+      let short : map_length form_one (inode_of m i) ≤ 268 = let d = div-add-mod' (64 * (inode_of m i).size + 1023) 1024 in let w : (inode_of m i).size < 64 * length lot.groups = r.within in omega arith in
+      length-uses m (inode_of m i) (map_length form_one (inode_of m i)) ∙ cost-short (map_length form_one (inode_of m i)) short ∙ ap map_cost (long ∙ sixteen (inode_of m i).size ∙ ap (dir_blocks form_one) (sym r.count))
 
-  file-two : (i : ℕ) (bytes : List ℕ) → IsFileInode form_two (own_in form_two m i) bytes → length (own_in form_two m i).uses ≡ map_cost (file_blocks (length bytes))
+  file-two : (i : ℕ) (bytes : List ℕ) → IsFileInode form_two (own form_two m i) bytes → length (own form_two m i).uses ≡ map_cost (file_blocks (length bytes))
   file-two i bytes r =
-      length-long m (inode_of m i) (map_length 128 (inode_of m i))
-      ∙ ap map_cost (map-file 128 (inode_of m i) r.is_file ∙ ap file_blocks (sym (length-bytes (own_in form_two m i)) ∙ ap length r.bytes_are))
+      length-long m (inode_of m i) (map_length form_two (inode_of m i))
+      ∙ ap map_cost (map-file form_two (inode_of m i) r.is_file ∙ ap file_blocks (sym (length-bytes (own form_two m i)) ∙ ap length r.bytes_are))
 
-  dir-two : (i : ℕ) (es : Entries) → IsDirInode form_two lot (own_in form_two m i) es → length (own_in form_two m i).uses ≡ map_cost (dir_blocks form_two (length (rows es)))
+  dir-two : (i : ℕ) (es : Entries) → IsDirInode form_two lot (own form_two m i) es → length (own form_two m i).uses ≡ map_cost (dir_blocks form_two (length (rows es)))
   dir-two i es r =
-      length-long m (inode_of m i) (map_length 128 (inode_of m i))
-      ∙ ap map_cost (map-dir 128 (inode_of m i) r.is_dir ∙ eight (inode_of m i).size ∙ ap (dir_blocks form_two) (sym r.count))
+      length-long m (inode_of m i) (map_length form_two (inode_of m i))
+      ∙ ap map_cost (map-dir form_two (inode_of m i) r.is_dir ∙ eight (inode_of m i).size ∙ ap (dir_blocks form_two) (sym r.count))
 
 -- in the form of a version a tree uses as many blocks as it costs
-pub cost_is_used : (f : Form) (lot : LotView) (m : Map) (i h : ℕ) (t : Tree) → f ≡ form_of f.version → length lot.groups ≤ 64 → Reads f lot (own_in f m) i h t → length (used_blocks f (own_in f m) i t) ≡ blocks f t
-cost_is_used f lot m i h t is few = subst (λ g. Reads g lot (own_in g m) i h t → length (used_blocks g (own_in g m) i t) ≡ blocks g t) (sym is) (by (nat_eq f.version 2))
+pub cost_is_used : (f : Form) (lot : LotView) (m : Map) (i h : ℕ) (t : Tree) → f ≡ form_of f.version → length lot.groups ≤ 64 → Reads f lot (own f m) i h t → length (used_blocks f (own f m) i t) ≡ blocks f t
+cost_is_used f lot m i h t is few = subst (λ g. Reads g lot (own g m) i h t → length (used_blocks g (own g m) i t) ≡ blocks g t) (sym is) (by (nat_eq f.version 2))
   where
-    by : (b : Bool) → Reads (if b then form_two else form_one) lot (own_in (if b then form_two else form_one) m) i h t
-        → length (used_blocks (if b then form_two else form_one) (own_in (if b then form_two else form_one) m) i t) ≡ blocks (if b then form_two else form_one) t
-    by true r = used-tree form_two lot (own_in form_two m) (file-two lot m) (dir-two lot m) i h t r
-    by false r = used-tree form_one lot (own_in form_one m) (file-one lot m) (dir-one lot m few) i h t r
+    by : (b : Bool) → Reads (if b then form_two else form_one) lot (own (if b then form_two else form_one) m) i h t
+        → length (used_blocks (if b then form_two else form_one) (own (if b then form_two else form_one) m) i t) ≡ blocks (if b then form_two else form_one) t
+    by true r = used-tree form_two lot (own form_two m) (file-two lot m) (dir-two lot m) i h t r
+    by false r = used-tree form_one lot (own form_one m) (file-one lot m) (dir-one lot m few) i h t r
 
 -- ---- where the blocks of a long map stand
 

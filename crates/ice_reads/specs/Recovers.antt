@@ -4,11 +4,11 @@ use Rattle.ice_base.specs.Lots.{LotView, sub_address}
 use Rattle.ice_base.specs.Used.{used_block, used_inode, is_data, Reserved, counted}
 use Rattle.ice_layout.specs.Subs.{sub_rule, sub_of}
 use Rattle.ice_map.specs.Maps.{times}
-use Rattle.ice_file.specs.Own.{mark}
+use Rattle.ice_map.specs.Own.{mark, own}
 use Rattle.tree_spec.specs.Trees.{Tree}
 use Rattle.tree_spec.specs.Costs.{Form}
 use Rattle.tree_spec.specs.Answers.{is_dir}
-use Rattle.ice_reads.specs.Tables.{Map, own_in}
+use Rattle.ice_reads.specs.Tables.{Map}
 use Rattle.ice_reads.specs.Reads.{Reads, used_blocks, used_inodes}
 
 -- a sub-super block breaks no rule, and says this version, mode and count of accepted operations
@@ -22,12 +22,12 @@ pub record SubSays (f : Form) (strictness slot : ℕ) (bytes : List ℕ) (count 
 -- so that none is used twice and just the used ones are marked. The two counts are the numbers of used blocks and inodes.
 pub record Holds (f : Form) (lot : LotView) (m : Map) (t : Tree) : Type 0 where
   pub dir : is_dir t ≡ true
-  pub reads : Reads f lot (own_in f m) 0 0 t
+  pub reads : Reads f lot (own f m) 0 0 t
   pub reserved : Reserved lot m
-  pub blocks : (b : ℕ) → is_data lot b ≡ true → times (used_blocks f (own_in f m) 0 t) b ≡ mark (used_block m b)
-  pub inodes : (i : ℕ) → i < 64 * length lot.groups → times (used_inodes f (own_in f m) 0 t) i ≡ mark (used_inode m i)
-  pub block_count : counted false m ≡ length (used_blocks f (own_in f m) 0 t)
-  pub inode_count : counted true m ≡ length (used_inodes f (own_in f m) 0 t)
+  pub blocks : (b : ℕ) → is_data lot b ≡ true → times (used_blocks f (own f m) 0 t) b ≡ mark (used_block m b)
+  pub inodes : (i : ℕ) → i < 64 * length lot.groups → times (used_inodes f (own f m) 0 t) i ≡ mark (used_inode m i)
+  pub block_count : counted false m ≡ length (used_blocks f (own f m) 0 t)
+  pub inode_count : counted true m ≡ length (used_inodes f (own f m) 0 t)
 
 -- The map holds the tree, and its sub-super block says the form, the mode and the count.
 pub record MapRecovers (f : Form) (mode : ℕ) (lot : LotView) (m : Map) (t : Tree) (done : ℕ) : Type 0 where

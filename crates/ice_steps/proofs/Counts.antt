@@ -6,7 +6,7 @@ use Rattle.ice_base.specs.Spare.{has}
 use Rattle.ice_base.proofs.CountLaws.{count_below-same, count_below-gives, count_below-more, count_below-not, count_below-zero}
 use Rattle.ice_map.specs.Maps.{times}
 use Rattle.ice_map.proofs.ListLaws.{times-cons, count_none, has-head, has-tail}
-use Rattle.ice_file.specs.Own.{mark}
+use Rattle.ice_map.specs.Own.{mark}
 
 pub mark-small : (t : Bool) → mark t ≤ 1
 mark-small true = omega arith

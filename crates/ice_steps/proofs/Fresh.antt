@@ -16,7 +16,7 @@ use Rattle.ice_map.specs.Maps.{times, uses}
 use Rattle.ice_map.proofs.ListLaws.{has-none}
 use Rattle.ice_map.proofs.MarkLaws.{used-same}
 use Rattle.ice_map.proofs.GrowLaws.{inode_not_bitmap, inode_not_sub}
-use Rattle.ice_file.specs.Own.{own, mark, map_length, blocks_for, WellMade}
+use Rattle.ice_map.specs.Own.{own, mark, map_length, blocks_for, WellMade}
 use Rattle.ice_file.specs.Files.{bytes_from}
 use Rattle.ice_file.proofs.ByteLaws.{all_bytes}
 use Rattle.ice_dir.specs.Rows.{Row}
@@ -51,7 +51,7 @@ fresh_value kind x e = record {
   double = ap (λ (i : Inode). i.double) e;
 }
 
-pub no-map : (x : Inode) → x.size ≡ 0 → map_length 64 x ≡ 0
+pub no-map : (x : Inode) → x.size ≡ 0 → map_length form_one x ≡ 0
 no-map x e = ap blocks_for (none (x.kind == 2) x.size e)
   where
     none : (b : Bool) (n : ℕ) → n ≡ 0 → cond b (64 * n) n ≡ 0
@@ -59,16 +59,16 @@ no-map x e = ap blocks_for (none (x.kind == 2) x.size e)
     none false n e = e
 
 -- an inode of no bytes or entries uses no block
-pub fresh-uses : (m : Map) (j : ℕ) → map_length 64 (inode_of m j) ≡ 0 → (own 64 m j).uses ≡ []
+pub fresh-uses : (m : Map) (j : ℕ) → map_length form_one (inode_of m j) ≡ 0 → (own form_one m j).uses ≡ []
 fresh-uses m j e = ap (uses m (inode_of m j)) e
 
-fresh-inode : (lot : LotView) (m : Map) (j h kind : ℕ) → h ≤ deepest → j < 64 * length lot.groups → IsFresh kind (inode_of m j) → IsInode form_one lot (own 64 m j) j h
+fresh-inode : (lot : LotView) (m : Map) (j h kind : ℕ) → h ≤ deepest → j < 64 * length lot.groups → IsFresh kind (inode_of m j) → IsInode form_one lot (own form_one m j) j h
 fresh-inode lot m j h kind deep small f =
     let z = no-map (inode_of m j) f.none in
     record {
       depth = deep;
       number = small;
-      places = λ b u. let n = has-none b in let e : has (own 64 m j).uses b ≡ has [] b = ap (λ us. has us b) (fresh-uses m j z) in absurd cc;
+      places = λ b u. let n = has-none b in let e : has (own form_one m j).uses b ≡ has [] b = ap (λ us. has us b) (fresh-uses m j z) in absurd cc;
       rest = record { direct = λ n l h. f.direct n h; single = λ l. f.single; double = λ l. f.double };
     }
 
@@ -81,9 +81,9 @@ unfolding IsDistinct
 IsDistinct-nil = tt
 
 module _ (lot : LotView) (m : Map) (j h : ℕ) (deep : h ≤ deepest) (small : j < 64 * length lot.groups) where
-  pub fresh_dir : IsFresh 2 (inode_of m j) → Reads form_one lot (own 64 m) j h (Dir Nil)
+  pub fresh_dir : IsFresh 2 (inode_of m j) → Reads form_one lot (own form_one m) j h (Dir Nil)
   fresh_dir f =
-      let none : rows_in form_one (own 64 m j) ≡ [] = empty (rows_in form_one (own 64 m j)) (length-rows_in form_one (own 64 m j) ∙ f.none) in (
+      let none : rows_in form_one (own form_one m j) ≡ [] = empty (rows_in form_one (own form_one m j)) (length-rows_in form_one (own form_one m j) ∙ f.none) in (
         fresh-inode lot m j h 2 deep small f,
         record {
           is_dir = f.is;
@@ -97,40 +97,40 @@ module _ (lot : LotView) (m : Map) (j h : ℕ) (deep : h ≤ deepest) (small : j
         tt,
       )
 
-  pub fresh_file : IsFresh 1 (inode_of m j) → Reads form_one lot (own 64 m) j h (File [])
+  pub fresh_file : IsFresh 1 (inode_of m j) → Reads form_one lot (own form_one m) j h (File [])
   fresh_file f = (
     fresh-inode lot m j h 1 deep small f,
     record {
       is_file = f.is;
       within = let e = f.none in omega arith;
-      bytes_are = all_bytes 64 m j f.is ∙ ap (bytes_from m (inode_of m j) 0) f.none;
+      bytes_are = all_bytes form_one refl m j f.is ∙ ap (bytes_from m (inode_of m j) 0) f.none;
     },
   )
 
 -- it uses no block, and itself alone
-pub fresh_dir_blocks : (m : Map) (j : ℕ) → IsFresh 2 (inode_of m j) → used_blocks form_one (own 64 m) j (Dir Nil) ≡ []
+pub fresh_dir_blocks : (m : Map) (j : ℕ) → IsFresh 2 (inode_of m j) → used_blocks form_one (own form_one m) j (Dir Nil) ≡ []
 fresh_dir_blocks m j f = ap (λ us. us ++ []) (fresh-uses m j (no-map (inode_of m j) f.none))
 
-pub fresh_file_blocks : (m : Map) (j : ℕ) → IsFresh 1 (inode_of m j) → used_blocks form_one (own 64 m) j (File []) ≡ []
+pub fresh_file_blocks : (m : Map) (j : ℕ) → IsFresh 1 (inode_of m j) → used_blocks form_one (own form_one m) j (File []) ≡ []
 fresh_file_blocks m j f = fresh-uses m j (no-map (inode_of m j) f.none)
 
-pub fresh_dir_inodes : (m : Map) (j : ℕ) → used_inodes form_one (own 64 m) j (Dir Nil) ≡ j ∷ []
+pub fresh_dir_inodes : (m : Map) (j : ℕ) → used_inodes form_one (own form_one m) j (Dir Nil) ≡ j ∷ []
 fresh_dir_inodes m j = refl
 
-pub fresh_file_inodes : (m : Map) (j : ℕ) → used_inodes form_one (own 64 m) j (File []) ≡ j ∷ []
+pub fresh_file_inodes : (m : Map) (j : ℕ) → used_inodes form_one (own form_one m) j (File []) ≡ j ∷ []
 fresh_file_inodes m j = refl
 
-pub fresh_made : (lot : LotView) (m : Map) (j kind : ℕ) → IsFresh kind (inode_of m j) → WellMade lot 64 m j
+pub fresh_made : (lot : LotView) (m : Map) (j kind : ℕ) → IsFresh kind (inode_of m j) → WellMade lot form_one m j
 fresh_made lot m j kind f =
     let z = fresh-uses m j (no-map (inode_of m j) f.none) in
     record {
-      holds = λ b u. let n = has-none b in let e : has (own 64 m j).uses b ≡ has [] b = ap (λ us. has us b) z in absurd cc;
-      once = λ b. let e : times (own 64 m j).uses b ≡ 0 = ap (λ us. times us b) z in omega arith;
-      unused = record { direct = λ n l h. f.direct n h; single = λ l. f.single; double = f.double };
+      holds = λ b u. let n = has-none b in let e : has (own form_one m j).uses b ≡ has [] b = ap (λ us. has us b) z in absurd cc;
+      once = λ b. let e : times (own form_one m j).uses b ≡ 0 = ap (λ us. times us b) z in omega arith;
+      unused = record { direct = λ n l h. f.direct n h; single = λ l. f.single; double = λ few. f.double };
     }
 
 -- an inode that stands loose is put: those of the tree say what they said
-pub put_stays : (mode : ℕ) (lot : LotView) (m m' : Map) (t : Tree) (k : ℕ) (xs : List ℕ) (j : ℕ) (inode : Inode) → Beside form_one mode lot m t k xs (j ∷ []) → InodeSet m m' j inode → OnlyAt (inode_address j ∷ []) m m' → SameAt (own 64 m) (own 64 m') (used_inodes form_one (own 64 m) 0 t)
+pub put_stays : (mode : ℕ) (lot : LotView) (m m' : Map) (t : Tree) (k : ℕ) (xs : List ℕ) (j : ℕ) (inode : Inode) → Beside form_one mode lot m t k xs (j ∷ []) → InodeSet m m' j inode → OnlyAt (inode_address j ∷ []) m m' → SameAt (own form_one m) (own form_one m') (used_inodes form_one (own form_one m) 0 t)
 put_stays mode lot m m' t k xs j inode b set at = record {
   at = λ x h. put-own lot m m' j x (only-one (inode_address j) m m' at)
       (set.others x (λ e. let o = all-apart mode lot m t k xs (j ∷ []) b x in let n = ap (λ y. times (y ∷ []) x) (sym e) in let s = times-same x x [] refl in absurd (omega arith)))
@@ -156,8 +156,8 @@ put_loose mode lot m m' t k j inode b set at =
     })
 
 -- what stands beside the tree is then a tree of its own
-pub dir_beside : (mode : ℕ) (lot : LotView) (m : Map) (t : Tree) (k j : ℕ) → Beside form_one mode lot m t k [] (j ∷ []) → IsFresh 2 (inode_of m j) → Beside form_one mode lot m t k (used_blocks form_one (own 64 m) j (Dir Nil)) (used_inodes form_one (own 64 m) j (Dir Nil))
+pub dir_beside : (mode : ℕ) (lot : LotView) (m : Map) (t : Tree) (k j : ℕ) → Beside form_one mode lot m t k [] (j ∷ []) → IsFresh 2 (inode_of m j) → Beside form_one mode lot m t k (used_blocks form_one (own form_one m) j (Dir Nil)) (used_inodes form_one (own form_one m) j (Dir Nil))
 dir_beside mode lot m t k j b f = subst (λ us. Beside form_one mode lot m t k us (j ∷ [])) (sym (fresh_dir_blocks m j f)) b
 
-pub file_beside : (mode : ℕ) (lot : LotView) (m : Map) (t : Tree) (k j : ℕ) → Beside form_one mode lot m t k [] (j ∷ []) → IsFresh 1 (inode_of m j) → Beside form_one mode lot m t k (used_blocks form_one (own 64 m) j (File [])) (used_inodes form_one (own 64 m) j (File []))
+pub file_beside : (mode : ℕ) (lot : LotView) (m : Map) (t : Tree) (k j : ℕ) → Beside form_one mode lot m t k [] (j ∷ []) → IsFresh 1 (inode_of m j) → Beside form_one mode lot m t k (used_blocks form_one (own form_one m) j (File [])) (used_inodes form_one (own form_one m) j (File []))
 file_beside mode lot m t k j b f = subst (λ us. Beside form_one mode lot m t k us (j ∷ [])) (sym (fresh_file_blocks m j f)) b

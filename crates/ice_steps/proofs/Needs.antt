@@ -4,16 +4,16 @@ use Rattle.ice_base.specs.Lots.{LotView}
 use Rattle.ice_base.specs.Used.{counted, Reserved}
 use Rattle.ice_map.specs.declared.codec.Inode.{Inode}
 use Rattle.ice_map.specs.Inodes.{inode_of}
-use Rattle.ice_file.specs.Own.{own, blocks_for, map_length}
+use Rattle.ice_map.specs.Own.{own, blocks_for, map_length}
 use Rattle.ice_file.specs.Files.{ReachesTo}
-use Rattle.ice_file.specs.Writes.{uses_of}
+use Rattle.ice_map.specs.Moves.{uses_of}
 use Rattle.ice_file.proofs.ByteLaws.{file_length}
-use Rattle.ice_file.proofs.OwnLaws.{length-uses}
+use Rattle.ice_map.proofs.OwnLaws.{length-uses}
 use Rattle.ice_dir.specs.Changes.{HasRoom, dir_blocks}
 use Rattle.tree_spec.specs.Trees.{Tree, File, Dir, Entries, Nil, Entry, rows, walk, Found, at, total_in}
 use Rattle.tree_spec.specs.Costs.{form_one, nodes}
 use Rattle.tree_spec.proofs.Sums.{total-at}
-use Rattle.ice_reads.specs.Tables.{Map, own_in}
+use Rattle.ice_reads.specs.Tables.{Map}
 use Rattle.ice_reads.specs.Reads.{used_blocks, used_inodes, inode_on}
 use Rattle.ice_reads.proofs.Focus.{uses-part}
 use Rattle.ice_reads.proofs.Numbers.{uses-flat}
@@ -25,7 +25,7 @@ use Rattle.ice_steps.proofs.Quotas.{beside_free_nodes}
 use Rattle.ice_steps.proofs.Walks.{FileAt, beside_dir}
 
 -- a file of these bytes reaches to each place in them
-pub reaches_to : (m : Map) (i at : ℕ) (bytes : List ℕ) → FileAt m i bytes → at ≤ length bytes → ReachesTo at (inode_of m i)
+pub reaches_to : (m : Map) (i at : ℕ) (bytes : List ℕ) → FileAt m i bytes → at ≤ length bytes → ReachesTo form_one at (inode_of m i)
 reaches_to m i at bytes f h = record { kind = f.kind; small = f.within; reaches = (let e = f.size in omega arith) }
 
 -- a directory has fewer entries than its tree has files and directories
@@ -41,11 +41,11 @@ nodes-part : (q : List (List ℕ)) (t s : Tree) → walk q t ≡ Found s → nod
 nodes-part q t s found = let e = total-at (λ _. 1) (λ _. 1) q (λ _. File []) t s found in let n = nodes-some (at q (λ _. File []) t) in omega arith
 
 -- a loose tree has an inode at least
-pub loose_some : (m : Map) (j : ℕ) (v : Tree) → 1 ≤ length (used_inodes form_one (own 64 m) j v)
-loose_some m j v = let e = length-inodes form_one (own_in form_one m) j v in let n = nodes-some v in omega arith
+pub loose_some : (m : Map) (j : ℕ) (v : Tree) → 1 ≤ length (used_inodes form_one (own form_one m) j v)
+loose_some m j v = let e = length-inodes form_one (own form_one m) j v in let n = nodes-some v in omega arith
 
 -- where inodes stand loose, each directory has room for one entry more
-pub beside_room : (mode : ℕ) (lot : LotView) (m : Map) (t : Tree) (k : ℕ) (xs is : List ℕ) → Beside form_one mode lot m t k xs is → 1 ≤ length is → (q : List (List ℕ)) (es : Entries) → walk q t ≡ Found (Dir es) → HasRoom lot (inode_of m (inode_on form_one (own 64 m) 0 q))
+pub beside_room : (mode : ℕ) (lot : LotView) (m : Map) (t : Tree) (k : ℕ) (xs is : List ℕ) → Beside form_one mode lot m t k xs is → 1 ≤ length is → (q : List (List ℕ)) (es : Entries) → walk q t ≡ Found (Dir es) → HasRoom lot (inode_of m (inode_on form_one (own form_one m) 0 q))
 beside_room mode lot m t k xs is b some q es found =
     let d = beside_dir mode lot m t k xs is b q es found in
     let n = beside_free_nodes mode lot m t k xs is b in
@@ -55,34 +55,34 @@ beside_room mode lot m t k xs is b some q es found =
     record { is = d.is; room = omega arith }
 
 -- no inode of the tree uses more blocks than are counted
-pub beside_counted : (mode : ℕ) (lot : LotView) (m : Map) (t : Tree) (k : ℕ) (xs is : List ℕ) → Beside form_one mode lot m t k xs is → (q : List (List ℕ)) (s : Tree) → walk q t ≡ Found s → length (own 64 m (inode_on form_one (own 64 m) 0 q)).uses ≤ counted false m
+pub beside_counted : (mode : ℕ) (lot : LotView) (m : Map) (t : Tree) (k : ℕ) (xs is : List ℕ) → Beside form_one mode lot m t k xs is → (q : List (List ℕ)) (s : Tree) → walk q t ≡ Found s → length (own form_one m (inode_on form_one (own form_one m) 0 q)).uses ≤ counted false m
 beside_counted mode lot m t k xs is b q s found =
-    let p = uses-part form_one (own_in form_one m) (λ i. i ∷ []) (inode_on form_one (own 64 m) 0 q) q 0 t s found in
-    let f = inode-first form_one (own_in form_one m) (inode_on form_one (own 64 m) 0 q) s in
-    let l = length-one_of (λ i. (own 64 m i).uses) (inode_on form_one (own 64 m) 0 q) (used_inodes form_one (own_in form_one m) 0 t) (omega arith) in
-    let e = ap (λ (ys : List ℕ). length ys) (uses-flat form_one (own_in form_one m) (λ i. (own_in form_one m i).uses) 0 t) in
-    let a = length-append (used_blocks form_one (own_in form_one m) 0 t) xs in
+    let p = uses-part form_one (own form_one m) (λ i. i ∷ []) (inode_on form_one (own form_one m) 0 q) q 0 t s found in
+    let f = inode-first form_one (own form_one m) (inode_on form_one (own form_one m) 0 q) s in
+    let l = length-one_of (λ i. (own form_one m i).uses) (inode_on form_one (own form_one m) 0 q) (used_inodes form_one (own form_one m) 0 t) (omega arith) in
+    let e = ap (λ (ys : List ℕ). length ys) (uses-flat form_one (own form_one m) (λ i. (own form_one m i).uses) 0 t) in
+    let a = length-append (used_blocks form_one (own form_one m) 0 t) xs in
     let c = b.block_count in
     omega arith
 
 -- nor does the inode at the top of a loose tree
-pub loose_blocks_counted : (mode : ℕ) (lot : LotView) (m : Map) (t : Tree) (k j : ℕ) (v : Tree) (is : List ℕ) → Beside form_one mode lot m t k (used_blocks form_one (own 64 m) j v) is → length (own 64 m j).uses ≤ counted false m
+pub loose_blocks_counted : (mode : ℕ) (lot : LotView) (m : Map) (t : Tree) (k j : ℕ) (v : Tree) (is : List ℕ) → Beside form_one mode lot m t k (used_blocks form_one (own form_one m) j v) is → length (own form_one m j).uses ≤ counted false m
 loose_blocks_counted mode lot m t k j v is b =
-    let f = inode-first form_one (own_in form_one m) j v in
-    let l = length-one_of (λ i. (own 64 m i).uses) j (used_inodes form_one (own_in form_one m) j v) (omega arith) in
-    let e = ap (λ (ys : List ℕ). length ys) (uses-flat form_one (own_in form_one m) (λ i. (own_in form_one m i).uses) j v) in
-    let a = length-append (used_blocks form_one (own_in form_one m) 0 t) (used_blocks form_one (own_in form_one m) j v) in
+    let f = inode-first form_one (own form_one m) j v in
+    let l = length-one_of (λ i. (own form_one m i).uses) j (used_inodes form_one (own form_one m) j v) (omega arith) in
+    let e = ap (λ (ys : List ℕ). length ys) (uses-flat form_one (own form_one m) (λ i. (own form_one m i).uses) j v) in
+    let a = length-append (used_blocks form_one (own form_one m) 0 t) (used_blocks form_one (own form_one m) j v) in
     let c = b.block_count in
     omega arith
 
 -- how many these are
-pub file_uses : (m : Map) (i : ℕ) → (inode_of m i).kind ≡ 1 → length (own 64 m i).uses ≡ uses_of (blocks_for (inode_of m i).size)
-file_uses m i e = length-uses m (inode_of m i) (map_length 64 (inode_of m i)) ∙ ap uses_of (file_length 64 (inode_of m i) e)
+pub file_uses : (m : Map) (i : ℕ) → (inode_of m i).kind ≡ 1 → length (own form_one m i).uses ≡ uses_of (blocks_for (inode_of m i).size)
+file_uses m i e = length-uses m (inode_of m i) (map_length form_one (inode_of m i)) ∙ ap uses_of (file_length form_one (inode_of m i) e)
 
-pub dir_uses : (m : Map) (i : ℕ) → (inode_of m i).kind ≡ 2 → length (own 64 m i).uses ≡ uses_of (dir_blocks 64 (inode_of m i).size)
-dir_uses m i e = length-uses m (inode_of m i) (map_length 64 (inode_of m i)) ∙ ap uses_of (of-dir (inode_of m i) e)
+pub dir_uses : (m : Map) (i : ℕ) → (inode_of m i).kind ≡ 2 → length (own form_one m i).uses ≡ uses_of (dir_blocks form_one (inode_of m i).size)
+dir_uses m i e = length-uses m (inode_of m i) (map_length form_one (inode_of m i)) ∙ ap uses_of (of-dir (inode_of m i) e)
   where
-    of-dir : (x : Inode) → x.kind ≡ 2 → map_length 64 x ≡ dir_blocks 64 x.size
+    of-dir : (x : Inode) → x.kind ≡ 2 → map_length form_one x ≡ dir_blocks form_one x.size
     of-dir x e = rw e refl
 
 -- the reserved places are marked

@@ -8,11 +8,11 @@ use Rattle.ice_base.proofs.UsedLaws.{group_mod, data_of, data_place, data_below}
 use Rattle.ice_base.proofs.CountLaws.{count_below-not}
 use Rattle.ice_map.specs.Maps.{times}
 use Rattle.ice_map.proofs.ListLaws.{has-append, has-times}
-use Rattle.ice_file.specs.Own.{mark}
-use Rattle.ice_file.proofs.OwnLaws.{times-has}
+use Rattle.ice_map.specs.Own.{mark, own}
+use Rattle.ice_map.proofs.OwnLaws.{times-has}
 use Rattle.tree_spec.specs.Trees.{Tree}
 use Rattle.tree_spec.specs.Costs.{form_one, blocks, nodes, block_quota, node_quota}
-use Rattle.ice_reads.specs.Tables.{Map, own_in}
+use Rattle.ice_reads.specs.Tables.{Map}
 use Rattle.ice_reads.specs.Reads.{used_blocks, used_inodes}
 use Rattle.ice_reads.specs.Recovers.{MapRecovers}
 use Rattle.ice_reads.proofs.Numbers.{Reads-data}
@@ -68,26 +68,26 @@ module _ (lot : LotView) (m : Map) where
 module _ (mode : ℕ) (lot : LotView) (m : Map) (t : Tree) (k : ℕ) (xs is : List ℕ) (b : Beside form_one mode lot m t k xs is) where
   pub beside_free_nodes : free_count true lot m + (nodes t + length is) ≡ node_quota (length lot.groups)
   beside_free_nodes =
-      let e = length-inodes form_one (own_in form_one m) 0 t in
-      let a = length-append (used_inodes form_one (own_in form_one m) 0 t) is in
-      let c = inodes-counted lot m (used_inodes form_one (own_in form_one m) 0 t ++ is) (λ i h. all-small mode lot m t k xs is b i (has-times _ i h)) b.inodes in
+      let e = length-inodes form_one (own form_one m) 0 t in
+      let a = length-append (used_inodes form_one (own form_one m) 0 t) is in
+      let c = inodes-counted lot m (used_inodes form_one (own form_one m) 0 t ++ is) (λ i h. all-small mode lot m t k xs is b i (has-times _ i h)) b.inodes in
       omega arith
 
-  places : (a : ℕ) → has (used_blocks form_one (own_in form_one m) 0 t ++ xs) a ≡ true → is_data lot a ≡ true
+  places : (a : ℕ) → has (used_blocks form_one (own form_one m) 0 t ++ xs) a ≡ true → is_data lot a ≡ true
   places a h =
-      let e = has-append (used_blocks form_one (own_in form_one m) 0 t) xs a in
+      let e = has-append (used_blocks form_one (own form_one m) 0 t) xs a in
       elim (has xs a) as (λ u. has xs a ≡ u → is_data lot a ≡ true) [
         | true ↦ λ u. b.more_data a u
-        | false ↦ λ u. Reads-data form_one lot (own_in form_one m) a 0 0 t b.reads (has-times (used_blocks form_one (own_in form_one m) 0 t) a (grind arith))
+        | false ↦ λ u. Reads-data form_one lot (own form_one m) a 0 0 t b.reads (has-times (used_blocks form_one (own form_one m) 0 t) a (grind arith))
       ] refl
 
-  used_blocks_fill : free_count false lot m + length (used_blocks form_one (own_in form_one m) 0 t ++ xs) ≡ 247 * length lot.groups
-  used_blocks_fill = blocks-counted lot m (used_blocks form_one (own_in form_one m) 0 t ++ xs) b.reserved places b.blocks
+  used_blocks_fill : free_count false lot m + length (used_blocks form_one (own form_one m) 0 t ++ xs) ≡ 247 * length lot.groups
+  used_blocks_fill = blocks-counted lot m (used_blocks form_one (own form_one m) 0 t ++ xs) b.reserved places b.blocks
 
   pub beside_free_blocks : length lot.groups ≤ 64 → free_count false lot m + (blocks form_one t + length xs) ≡ block_quota (length lot.groups)
   beside_free_blocks few =
       let e = length-blocks lot few m 0 0 t b.reads in
-      let a = length-append (used_blocks form_one (own_in form_one m) 0 t) xs in
+      let a = length-append (used_blocks form_one (own form_one m) 0 t) xs in
       let c = used_blocks_fill in
       omega arith
 
@@ -96,8 +96,8 @@ module _ (mode : ℕ) (lot : LotView) (m : Map) (t : Tree) (k : ℕ) (xs is : Li
   beside_counts = (
     (let c = used_blocks_fill in let e = b.block_count in omega arith),
     (let e = b.inode_count in
-        let a = length-append (used_inodes form_one (own_in form_one m) 0 t) is in
-        let n = length-inodes form_one (own_in form_one m) 0 t in
+        let a = length-append (used_inodes form_one (own form_one m) 0 t) is in
+        let n = length-inodes form_one (own form_one m) 0 t in
         let c = beside_free_nodes in
         omega arith),
   )

@@ -6,15 +6,16 @@ use Rattle.ice_map.specs.Maps.{times}
 use Rattle.ice_map.proofs.ListLaws.{has-none}
 use Rattle.tree_spec.specs.Trees.{Tree}
 use Rattle.tree_spec.specs.Costs.{Form}
-use Rattle.ice_reads.specs.Tables.{Map, own_in}
+use Rattle.ice_reads.specs.Tables.{Map}
+use Rattle.ice_map.specs.Own.{own}
 use Rattle.ice_reads.specs.Reads.{used_blocks, used_inodes}
 use Rattle.ice_reads.specs.Recovers.{MapRecovers}
 use Rattle.ice_steps.specs.Beside.{Beside}
 
 pub beside_recovers : (f : Form) (mode : ℕ) (lot : LotView) (m : Map) (t : Tree) (k : ℕ) → Beside f mode lot m t k [] [] → MapRecovers f mode lot m t k
 beside_recovers f mode lot m t k b =
-    let xs = append-nil (used_blocks f (own_in f m) 0 t) in
-    let is = append-nil (used_inodes f (own_in f m) 0 t) in
+    let xs = append-nil (used_blocks f (own f m) 0 t) in
+    let is = append-nil (used_inodes f (own f m) 0 t) in
     record {
       sub = b.sub;
       holds = record {
@@ -30,8 +31,8 @@ beside_recovers f mode lot m t k b =
 
 pub recovers_beside : (f : Form) (mode : ℕ) (lot : LotView) (m : Map) (t : Tree) (k : ℕ) → MapRecovers f mode lot m t k → Beside f mode lot m t k [] []
 recovers_beside f mode lot m t k r =
-    let xs = append-nil (used_blocks f (own_in f m) 0 t) in
-    let is = append-nil (used_inodes f (own_in f m) 0 t) in
+    let xs = append-nil (used_blocks f (own f m) 0 t) in
+    let is = append-nil (used_inodes f (own f m) 0 t) in
     record {
       sub = r.sub;
       dir = r.holds.dir;

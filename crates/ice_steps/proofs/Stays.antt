@@ -2,11 +2,11 @@
 use Rattle.std.proofs.Common.{◌≡◌, ◌<◌, ℕ, List, [], ◌∷◌, None, Some, ◌∙◌, sym, refl, ap, arith}
 use Rattle.std.specs.FinMap.{find}
 use Rattle.ice_map.specs.Maps.{times}
-use Rattle.ice_file.specs.Own.{own}
+use Rattle.ice_map.specs.Own.{own}
 use Rattle.ice_dir.specs.Rows.{rows_of}
 use Rattle.tree_spec.specs.Trees.{Tree, File, Dir, rows, by_bytes, walk, and_on, found_or_not, Found}
 use Rattle.tree_spec.specs.Costs.{Form, form_one}
-use Rattle.ice_reads.specs.Tables.{Map, Table, own_in, rows_in, inode_named}
+use Rattle.ice_reads.specs.Tables.{Map, Table, rows_in, inode_named}
 use Rattle.ice_reads.specs.Reads.{used_inodes, entries_use, inode_on}
 use Rattle.ice_reads.proofs.Frames.{SameAt, times-there}
 use Rattle.ice_reads.proofs.Focus.{uses-part, uses-entry, Found≢NotFound, Found≢NotDir}
@@ -25,15 +25,15 @@ module _ (f : Form) (o p : Table) where
             (let g = uses-entry f o (λ i. i ∷ []) x (rows_in f (o i)) c es u e in let n = times-there x i (entries_use f o (λ i. i ∷ []) (rows_in f (o i)) es) in omega arith))
       ] refl found
 
-module _ (m m' : Map) (t : Tree) (same : SameAt (own 64 m) (own 64 m') (used_inodes form_one (own 64 m) 0 t)) (q : List (List ℕ)) (s : Tree) (found : walk q t ≡ Found s) where
-  pub stays_walk : inode_on form_one (own 64 m') 0 q ≡ inode_on form_one (own 64 m) 0 q
-  stays_walk = same_walk form_one (own_in form_one m) (own_in form_one m') q 0 t s found same.at
+module _ (m m' : Map) (t : Tree) (same : SameAt (own form_one m) (own form_one m') (used_inodes form_one (own form_one m) 0 t)) (q : List (List ℕ)) (s : Tree) (found : walk q t ≡ Found s) where
+  pub stays_walk : inode_on form_one (own form_one m') 0 q ≡ inode_on form_one (own form_one m) 0 q
+  stays_walk = same_walk form_one (own form_one m) (own form_one m') q 0 t s found same.at
 
-  pub stays_own : own 64 m' (inode_on form_one (own 64 m) 0 q) ≡ own 64 m (inode_on form_one (own 64 m) 0 q)
-  stays_own = same.at (inode_on form_one (own 64 m) 0 q)
-      (let g = uses-part form_one (own_in form_one m) (λ i. i ∷ []) (inode_on form_one (own 64 m) 0 q) q 0 t s found in
-      let n = inode-first form_one (own_in form_one m) (inode_on form_one (own 64 m) 0 q) s in
+  pub stays_own : own form_one m' (inode_on form_one (own form_one m) 0 q) ≡ own form_one m (inode_on form_one (own form_one m) 0 q)
+  stays_own = same.at (inode_on form_one (own form_one m) 0 q)
+      (let g = uses-part form_one (own form_one m) (λ i. i ∷ []) (inode_on form_one (own form_one m) 0 q) q 0 t s found in
+      let n = inode-first form_one (own form_one m) (inode_on form_one (own form_one m) 0 q) s in
       omega arith)
 
-  pub stays_rows : rows_of 64 m' (inode_on form_one (own 64 m) 0 q) ≡ rows_of 64 m (inode_on form_one (own 64 m) 0 q)
+  pub stays_rows : rows_of form_one m' (inode_on form_one (own form_one m) 0 q) ≡ rows_of form_one m (inode_on form_one (own form_one m) 0 q)
   stays_rows = ap (λ o. rows_in form_one o) stays_own

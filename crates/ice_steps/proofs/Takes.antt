@@ -7,10 +7,10 @@ use Rattle.ice_base.specs.Used.{used_inode, bitmap_of, counted}
 use Rattle.ice_map.specs.Maps.{times}
 use Rattle.ice_map.proofs.ListLaws.{has-none, has-one}
 use Rattle.ice_map.proofs.MarkLaws.{used-same}
-use Rattle.ice_file.specs.Own.{own, mark}
+use Rattle.ice_map.specs.Own.{own, mark}
 use Rattle.tree_spec.specs.Trees.{Tree}
 use Rattle.tree_spec.specs.Costs.{form_one}
-use Rattle.ice_reads.specs.Tables.{Map, own_in}
+use Rattle.ice_reads.specs.Tables.{Map}
 use Rattle.ice_reads.specs.Reads.{used_inodes}
 use Rattle.ice_reads.specs.Recovers.{MapRecovers}
 use Rattle.ice_reads.proofs.Frames.{SameAt}
@@ -29,10 +29,10 @@ mark-absent : (j i : ℕ) → i ≢ j → times (j ∷ []) i ≡ 0
 mark-absent j i e = times-other j i [] (λ q. e (sym q))
 
 -- the inodes of the tree say what they said
-pub took_stays : (mode : ℕ) (lot : LotView) (m m' : Map) (t : Tree) (k : ℕ) (xs is : List ℕ) (j : ℕ) → length lot.groups ≤ 64 → Beside form_one mode lot m t k xs is → OnlyAt (sub_address ∷ bitmap_of true j ∷ []) m m' → SameAt (own 64 m) (own 64 m') (used_inodes form_one (own 64 m) 0 t)
+pub took_stays : (mode : ℕ) (lot : LotView) (m m' : Map) (t : Tree) (k : ℕ) (xs is : List ℕ) (j : ℕ) → length lot.groups ≤ 64 → Beside form_one mode lot m t k xs is → OnlyAt (sub_address ∷ bitmap_of true j ∷ []) m m' → SameAt (own form_one m) (own form_one m') (used_inodes form_one (own form_one m) 0 t)
 took_stays mode lot m m' t k xs is j few b only = record { at = λ x h. marks-own lot few m m' (j / 64) (only-two sub_address (bitmap_of true j) m m' only) x (used-places lot m 0 0 t b.reads x h) }
 
-pub done_stays : (mode : ℕ) (lot : LotView) (m m' : Map) (t : Tree) (k done : ℕ) (xs is : List ℕ) → length lot.groups ≤ 64 → Beside form_one mode lot m t k xs is → DoneSet m m' done → SameAt (own 64 m) (own 64 m') (used_inodes form_one (own 64 m) 0 t)
+pub done_stays : (mode : ℕ) (lot : LotView) (m m' : Map) (t : Tree) (k done : ℕ) (xs is : List ℕ) → length lot.groups ≤ 64 → Beside form_one mode lot m t k xs is → DoneSet m m' done → SameAt (own form_one m) (own form_one m') (used_inodes form_one (own form_one m) 0 t)
 done_stays mode lot m m' t k done xs is few b set = record { at = λ x h. sub-own lot few m m' (only-one sub_address m m' set.others) x (used-places lot m 0 0 t b.reads x h) }
 
 pub took_inode : (mode : ℕ) (lot : LotView) (m m' : Map) (t : Tree) (k : ℕ) (xs : List ℕ) (j : ℕ) → length lot.groups ≤ 64 → Beside form_one mode lot m t k xs [] → TookInode m m' j → j < 64 * length lot.groups
@@ -93,7 +93,7 @@ gave_inode mode lot m m' t k j few b gave only =
       inode_count =
           let v = gave.counts.value in
           let c = b.inode_count in
-          let l = length-append (used_inodes form_one (own_in form_one m) 0 t) (j ∷ []) in
+          let l = length-append (used_inodes form_one (own form_one m) 0 t) (j ∷ []) in
           omega arith;
       more_data = b.more_data;
       others_small = λ i h. let n = has-none i in absurd cc;

@@ -1,5 +1,5 @@
 -- Which rule a refusal names, and that the lot breaks it.
-use Rattle.std.proofs.Common.{◌≡◌, ◌≤◌, ◌<◌, ◌+◌, ℕ, subst, arith, inl, inr, Bool, true, false, List, Some, None, Result, Ok, Err, IsErrOf, refl, ap, sym, ◌∙◌}
+use Rattle.std.proofs.Common.{◌≡◌, ◌≤◌, ◌<◌, ◌+◌, ℕ, subst, arith, inl, inr, Bool, true, false, List, Some, None, Result, Ok, Err, IsErrOf, refl, ap}
 use Rattle.std.specs.Prelude.{◌==◌, not, ◌^◌, nat_lt, slice_index, if◌then◌else◌, IfErr, ⊤}
 use Rattle.ice_base.specs.Fields.{word_at, long_at, SameBeside}
 use Rattle.ice_base.specs.Used.{count_place}
@@ -13,40 +13,15 @@ use Rattle.ice_layout.specs.Subs.{sub_rule, sub_magic}
 use Rattle.tree_spec.specs.declared.reply.Refusal.{Refusal}
 use Rattle.tree_spec.specs.declared.reply.Refusal.TheVariants as code
 use Rattle.ice_reads.proofs.Focus.{same_Some, None≢Some}
-use Rattle.ice_tree.specs.Broken.{IsBroken, IsBrokenBy, IsFaultBy}
+use Rattle.ice_look.specs.Broken.{IsBroken, IsBrokenBy, IsFaultBy}
 use Rattle.ice_rules.specs.Rules.{rule_number}
-use Rattle.ice_tree.specs.Outcomes.{refusal_by, IsNamedIn, sub_rules, IsCountFault}
-
--- a fault as a refusal names the fault's rule
-pub fault-names : (P : Rule → Type 0) (e : OpFault) (r : Refusal) → r ≡ refusal_by e → IsFaultBy P e → {A : Type 0} (n : ℕ) → IsErrOf {T = A} (Err r) (code.Damaged n) → (x : Rule) × (n ≡ rule_number x) × P x
-fault-names P e r is h {A} n named = by e h (sym is ∙ error named)
-  where
-    error : IsErrOf {T = A} (Err r) (code.Damaged n) → r ≡ code.Damaged n
-    error q = cc
-
-    same : (i j : ℕ) → code.Damaged i ≡ code.Damaged j → j ≡ i
-    same i j q = cc
-
-    no : code.Fault ≡ code.Damaged n → ⊥
-    no q = cc
-
-    by : (e : OpFault) → IsFaultBy P e → refusal_by e ≡ code.Damaged n → (x : Rule) × (n ≡ rule_number x) × P x
-    by Disk h q = absurd (no q)
-    by (Damaged x) h q = (x, same (rule_number x) n q, h)
-    by NoSpace h q = absurd h
-    by NoNodes h q = absurd h
+use Rattle.tree_spec.specs.Costs.{Form}
+use Rattle.ice_tree.specs.Outcomes.{IsNamedIn, sub_rules, IsCountFault}
 
 -- what a failed call says of its fault
 pub err-by : {T E : Type 0} (r : Result T E) (F G : E → Type 0) → IfErr r F → ((e : E) → r ≡ Err e → F e → G e) → IfErr r G
 err-by (Ok x) F G h go = tt
 err-by (Err e) F G h go = go e refl h
-
--- a fault of which more holds
-pub fault-weaker : (P Q : Rule → Type 0) → ((r : Rule) → P r → Q r) → (e : OpFault) → IsFaultBy P e → IsFaultBy Q e
-fault-weaker P Q go Disk h = tt
-fault-weaker P Q go (Damaged r) h = go r h
-fault-weaker P Q go NoSpace h = h
-fault-weaker P Q go NoNodes h = h
 
 -- the count of operations lies beside that of blocks
 pub done-beside : (old new : List ℕ) → SameBeside (count_place false) 4 old new → long_at new 16 ≡ long_at old 16
@@ -109,8 +84,8 @@ sub-named slot bytes r h = by r (sub-names slot bytes r h)
 no_true : false ≡ true → ⊥
 no_true h = cc
 
-module _ (entry : ℕ) (lot : LotView) (m : ℕ → List ℕ) where
-  sub-broken : (r : Rule) → sub_rule lot.slot (m sub_address) ≡ Some r → IsBroken entry lot m r
+module _ (form : Form) (lot : LotView) (m : ℕ → List ℕ) where
+  sub-broken : (r : Rule) → sub_rule lot.slot (m sub_address) ≡ Some r → IsBroken form lot m r
   sub-broken rule.Magic h = h
   sub-broken rule.Version h = h
   sub-broken rule.Slot h = h
@@ -128,7 +103,7 @@ module _ (entry : ℕ) (lot : LotView) (m : ℕ → List ℕ) where
   sub-broken rule.Header h = absurd (sub-names lot.slot (m sub_address) rule.Header h)
 
   -- a look at the sub-super block
-  pub sub-fault : (e : OpFault) → IsNamedIn sub_rules e → ((r : Rule) → e ≡ Damaged r → sub_rule lot.slot (m sub_address) ≡ Some r) → IsBrokenBy entry lot m e
+  pub sub-fault : (e : OpFault) → IsNamedIn sub_rules e → ((r : Rule) → e ≡ Damaged r → sub_rule lot.slot (m sub_address) ≡ Some r) → IsBrokenBy form lot m e
   sub-fault Disk h named = tt
   sub-fault (Damaged r) h named = sub-broken r (named r refl)
   sub-fault NoSpace h named = absurd (no_true h)

@@ -1,77 +1,68 @@
 -- Which rule a lot breaks where a file can't be written or cut after all.
-use Rattle.std.proofs.Common.{◌≡◌, ◌≤◌, ◌<◌, ◌+◌, ◌*◌, ◌^◌, ℕ, true, false, length, refl, arith, inl, inr}
+use Rattle.std.proofs.Common.{◌≡◌, ◌≤◌, ◌<◌, ◌+◌, ◌^◌, ℕ, true, false, length, refl, arith, inl, inr}
 use Rattle.std.specs.Prelude.{max}
-use Rattle.std.proofs.lemmas.Nat.{div-add-mod', mod_below}
 use Rattle.ice_base.specs.Lots.{LotView}
 use Rattle.ice_base.specs.Used.{is_data, counted, free_count, Reserved}
 use Rattle.ice_base.specs.declared.fault.OpFault.{OpFault}
 use Rattle.ice_base.specs.declared.fault.OpFault.TheVariants.{Disk, Damaged, NoSpace}
 use Rattle.ice_base.specs.declared.fault.Rule.TheVariants.{Counts, Kind, Pointer, Bitmap}
 use Rattle.ice_map.specs.Inodes.{inode_of}
-use Rattle.ice_map.specs.Maps.{leads, cut_off, FreeOrTwice, Misleads}
+use Rattle.ice_map.specs.Maps.{cut_off, FreeOrTwice, Misleads}
 use Rattle.ice_map.proofs.UsesLaws.{free-or, off-free}
 use Rattle.ice_file.proofs.WriteLaws.{count-less}
-use Rattle.ice_file.specs.Files.{longest_file, ReachesTo, IsReadFault, IsWriteFault, IsCutToFault}
-use Rattle.ice_file.specs.Own.{blocks_for, Confuses}
-use Rattle.ice_file.specs.Writes.{uses_of, blocks_with}
+use Rattle.ice_file.specs.Files.{ReachesTo, IsWriteFault, IsCutToFault}
+use Rattle.ice_map.specs.Own.{blocks_for, Confuses}
+use Rattle.ice_map.specs.Moves.{uses_of}
+use Rattle.ice_file.specs.Writes.{blocks_with}
 use Rattle.ice_reads.specs.Tables.{Map}
-use Rattle.ice_tree.specs.Broken.{IsBrokenBy, IsFaultBy}
-use Rattle.ice_tree.specs.Grounds.{BytesFit, LooseBroken}
-use Rattle.ice_tree.specs.Places.{IsReached}
-use Rattle.ice_tree.proofs.MapDamage.{map-file, file-few, few-counted, bad-pointer, bad-bitmap, bad-map}
+use Rattle.ice_look.specs.Broken.{IsBrokenBy, IsFaultBy}
+use Rattle.ice_tree.specs.Writes.{BytesFit}
+use Rattle.ice_tree.specs.Removes.{LooseBroken}
+use Rattle.ice_look.specs.Places.{IsReached}
+use Rattle.ice_look.proofs.MapDamage.{map-file, few-counted, bad-pointer, bad-bitmap, bad-map}
+use Rattle.tree_spec.specs.Costs.{Form, form_one}
+use Rattle.ice_tree.proofs.MapDamage.{file-few}
 
 -- bytes can't be put
-pub write-blamed : (entry : ℕ) (lot : LotView) (m : Map) (at end number : ℕ) → length lot.groups ≤ 64 → end ≤ longest_file → BytesFit entry lot m at end number → (e : OpFault) → IsWriteFault e
+pub write-blamed : (form : Form) → form ≡ form_one → (lot : LotView) (m : Map) (at end number : ℕ) → length lot.groups ≤ 64 → end ≤ form.longest_file → BytesFit form lot m at end number → (e : OpFault) → IsWriteFault e
     → (e ≡ NoSpace → free_count false lot m + uses_of (blocks_for (inode_of m number).size) < uses_of (blocks_with (inode_of m number).size end))
     → (e ≡ Damaged Counts → 2 ^ 32 + uses_of (blocks_for (inode_of m number).size) ≤ counted false m + uses_of (blocks_with (inode_of m number).size end))
-    → (e ≡ Damaged Kind → ¬ ReachesTo at (inode_of m number)) → (e ≡ Damaged Bitmap → ¬ Reserved lot m)
+    → (e ≡ Damaged Kind → ¬ ReachesTo form at (inode_of m number)) → (e ≡ Damaged Bitmap → ¬ Reserved lot m)
     → (e ≡ Damaged Pointer → Confuses lot m (inode_of m number) (blocks_for (inode_of m number).size))
-    → IsBrokenBy entry lot m e
-write-blamed entry lot m at end number few short fits Disk h none full kind bitmap pointer = tt
-write-blamed entry lot m at end number few short fits NoSpace h none full kind bitmap pointer = absurd (omega (arith, none refl, fits.blocks))
-write-blamed entry lot m at end number few short fits (Damaged Counts) h none full kind bitmap pointer =
+    → IsBrokenBy form lot m e
+write-blamed form one lot m at end number few short fits Disk h none full kind bitmap pointer = tt
+write-blamed form one lot m at end number few short fits NoSpace h none full kind bitmap pointer = absurd (omega (arith, none refl, fits.blocks))
+write-blamed form one lot m at end number few short fits (Damaged Counts) h none full kind bitmap pointer =
     let small = fits.file_is.reaches.small in
+    let long = ap (λ (g : Form). g.longest_file) one in
     inl (record { inodes = false; many = omega (arith, few, full refl, file-few (max (inode_of m number).size end) (omega arith)) })
-write-blamed entry lot m at end number few short fits (Damaged Kind) h none full kind bitmap pointer = absurd (kind refl fits.file_is.reaches)
-write-blamed entry lot m at end number few short fits (Damaged Pointer) h none full kind bitmap pointer =
+write-blamed form one lot m at end number few short fits (Damaged Kind) h none full kind bitmap pointer = absurd (kind refl fits.file_is.reaches)
+write-blamed form one lot m at end number few short fits (Damaged Pointer) h none full kind bitmap pointer =
     let is = fits.file_is.reaches in
-    bad-map entry lot m number (blocks_for (inode_of m number).size) fits.file_is.reached (inl (is.kind, is.small)) (map-file entry (inode_of m number) is.kind) (pointer refl)
-write-blamed entry lot m at end number few short fits (Damaged Bitmap) h none full kind bitmap pointer = inl (bitmap refl)
-write-blamed entry lot m at end number few short fits _ h none full kind bitmap pointer = absurd h
-
--- bytes can't be read
-pub read-blamed : (entry : ℕ) (lot : LotView) (m : Map) (at number : ℕ) → IsReached entry lot m number → ReachesTo at (inode_of m number) → (e : OpFault) → IsReadFault e → (e ≡ Damaged Kind → ¬ ReachesTo at (inode_of m number))
-    → (e ≡ Damaged Pointer → (k : ℕ) × (1024 * k < (inode_of m number).size) × (leads lot m (inode_of m number) k ≡ false)) → IsBrokenBy entry lot m e
-read-blamed entry lot m at number reached file Disk h kind pointer = tt
-read-blamed entry lot m at number reached file (Damaged Kind) h kind pointer = absurd (kind refl file)
-read-blamed entry lot m at number reached file (Damaged Pointer) h kind pointer =
-    let x = inode_of m number in
-    let p = pointer refl in
-    let q = div-add-mod' (x.size + 1023) 1024 in
-    let d = mod_below (x.size + 1023) 1024 (omega arith) in
-    inl (bad-pointer entry lot m number (blocks_for x.size) reached (inl (file.kind, file.small)) (map-file entry x file.kind) (record { block = p.0; below = omega (arith, p.1, q, d); bad = p.2 }))
-read-blamed entry lot m at number reached file _ h kind pointer = absurd h
+    bad-map form lot m number (blocks_for (inode_of m number).size) fits.file_is.reached (inl (is.kind, omega (arith, is.small, ap (λ (g : Form). g.longest_file) one))) (map-file form (inode_of m number) is.kind) (pointer refl)
+write-blamed form one lot m at end number few short fits (Damaged Bitmap) h none full kind bitmap pointer = inl (bitmap refl)
+write-blamed form one lot m at end number few short fits _ h none full kind bitmap pointer = absurd h
 
 -- a file can't be cut: what is damaged of it, whether or not a directory names it
-pub cut-loose : (lot : LotView) (m : Map) (len number : ℕ) → ReachesTo len (inode_of m number) → (e : OpFault) → IsCutToFault e
-    → (e ≡ Damaged Kind → ¬ ReachesTo len (inode_of m number)) → (e ≡ Damaged Counts → counted false m + uses_of (blocks_for len) < uses_of (blocks_for (inode_of m number).size))
+pub cut-loose : (form : Form) → form ≡ form_one → (lot : LotView) (m : Map) (len number : ℕ) → ReachesTo form len (inode_of m number) → (e : OpFault) → IsCutToFault e
+    → (e ≡ Damaged Kind → ¬ ReachesTo form len (inode_of m number)) → (e ≡ Damaged Counts → counted false m + uses_of (blocks_for len) < uses_of (blocks_for (inode_of m number).size))
     → (e ≡ Damaged Bitmap → FreeOrTwice m (cut_off m (inode_of m number) (blocks_for (inode_of m number).size) (blocks_for len))) → (e ≡ Damaged Bitmap → 12 < blocks_for (inode_of m number).size → is_data lot (inode_of m number).single ≡ true)
     → (e ≡ Damaged Pointer → Misleads lot m (inode_of m number) (blocks_for (inode_of m number).size)) → IsFaultBy (LooseBroken lot m number) e
-cut-loose lot m len number file Disk f kind zero unused placed misled = tt
-cut-loose lot m len number file (Damaged Counts) f kind zero unused placed misled = inl (file.kind, file.small, omega (arith, zero refl))
-cut-loose lot m len number file (Damaged Kind) f kind zero unused placed misled = absurd (kind refl file)
-cut-loose lot m len number file (Damaged Bitmap) f kind zero unused placed misled =
+cut-loose form one lot m len number file Disk f kind zero unused placed misled = tt
+cut-loose form one lot m len number file (Damaged Counts) f kind zero unused placed misled = inl (file.kind, omega (arith, file.small, ap (λ (g : Form). g.longest_file) one), omega (arith, zero refl))
+cut-loose form one lot m len number file (Damaged Kind) f kind zero unused placed misled = absurd (kind refl file)
+cut-loose form one lot m len number file (Damaged Bitmap) f kind zero unused placed misled =
     let x = inode_of m number in
-    inl (file.kind, file.small, placed refl, free-or m x (blocks_for x.size) (off-free m x (blocks_for x.size) (blocks_for len) (count-less len x.size file.reaches) (unused refl)))
-cut-loose lot m len number file (Damaged Pointer) f kind zero unused placed misled = (file.kind, file.small, misled refl)
-cut-loose lot m len number file _ f kind zero unused placed misled = absurd f
+    inl (file.kind, omega (arith, file.small, ap (λ (g : Form). g.longest_file) one), placed refl, free-or m x (blocks_for x.size) (off-free m x (blocks_for x.size) (blocks_for len) (count-less len x.size file.reaches) (unused refl)))
+cut-loose form one lot m len number file (Damaged Pointer) f kind zero unused placed misled = (file.kind, omega (arith, file.small, ap (λ (g : Form). g.longest_file) one), misled refl)
+cut-loose form one lot m len number file _ f kind zero unused placed misled = absurd f
 
 -- where one does, the lot breaks that rule
-pub loose-blamed : (entry : ℕ) (lot : LotView) (m : Map) (number : ℕ) → IsReached entry lot m number → (e : OpFault) → IsFaultBy (LooseBroken lot m number) e → IsBrokenBy entry lot m e
-loose-blamed entry lot m number reached Disk h = tt
-loose-blamed entry lot m number reached (Damaged Counts) (inl h) = inr (inr (few-counted entry lot m number (blocks_for (inode_of m number).size) reached (inl (h.0, h.1)) (map-file entry (inode_of m number) h.0) h.2))
-loose-blamed entry lot m number reached (Damaged Counts) (inr h) = inr (inl h)
-loose-blamed entry lot m number reached (Damaged Pointer) h = inl (bad-pointer entry lot m number (blocks_for (inode_of m number).size) reached (inl (h.0, h.1)) (map-file entry (inode_of m number) h.0) h.2)
-loose-blamed entry lot m number reached (Damaged Bitmap) (inl h) = bad-bitmap entry lot m number (blocks_for (inode_of m number).size) reached (inl (h.0, h.1)) (map-file entry (inode_of m number) h.0) h.3
-loose-blamed entry lot m number reached (Damaged Bitmap) (inr h) = inr (inr (inl (record { number = number; reached = reached; free = h })))
-loose-blamed entry lot m number reached _ h = absurd h
+pub loose-blamed : (form : Form) (lot : LotView) (m : Map) (number : ℕ) → IsReached form lot m number → (e : OpFault) → IsFaultBy (LooseBroken lot m number) e → IsBrokenBy form lot m e
+loose-blamed form lot m number reached Disk h = tt
+loose-blamed form lot m number reached (Damaged Counts) (inl h) = inr (inr (few-counted form lot m number (blocks_for (inode_of m number).size) reached (inl (h.0, h.1)) (map-file form (inode_of m number) h.0) h.2))
+loose-blamed form lot m number reached (Damaged Counts) (inr h) = inr (inl h)
+loose-blamed form lot m number reached (Damaged Pointer) h = inl (bad-pointer form lot m number (blocks_for (inode_of m number).size) reached (inl (h.0, h.1)) (map-file form (inode_of m number) h.0) h.2)
+loose-blamed form lot m number reached (Damaged Bitmap) (inl h) = bad-bitmap form lot m number (blocks_for (inode_of m number).size) reached (inl (h.0, h.1)) (map-file form (inode_of m number) h.0) h.3
+loose-blamed form lot m number reached (Damaged Bitmap) (inr h) = inr (inr (inl (record { number = number; reached = reached; free = h })))
+loose-blamed form lot m number reached _ h = absurd h

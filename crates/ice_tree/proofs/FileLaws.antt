@@ -10,9 +10,10 @@ use Rattle.ice_base.specs.declared.fault.OpFault.{OpFault}
 use Rattle.ice_base.specs.declared.fault.OpFault.TheVariants.{Disk, Damaged, NoSpace}
 use Rattle.ice_base.specs.declared.fault.Rule.TheVariants.{Counts, Kind, Pointer, Bitmap}
 use Rattle.ice_map.specs.Inodes.{inode_of}
-use Rattle.ice_file.specs.Own.{own, file_bytes, blocks_for, WellMade}
+use Rattle.ice_map.specs.Own.{own, file_bytes, blocks_for, WellMade}
 use Rattle.ice_file.specs.Files.{FileSet, ReachesTo, IsWriteFault, IsCutToFault, overwritten}
-use Rattle.ice_file.specs.Writes.{uses_of, blocks_with}
+use Rattle.ice_map.specs.Moves.{uses_of}
+use Rattle.ice_file.specs.Writes.{blocks_with}
 use Rattle.tree_spec.specs.Why.{Why}
 use Rattle.tree_spec.specs.Why as why
 use Rattle.tree_spec.specs.Trees.{Tree, File, Dir, Entries, Nil, Entry, rows, by_bytes, walk, and_on, found_or_not, Found, at, over_entry}
@@ -24,7 +25,7 @@ use Rattle.tree_spec.proofs.Accepted.{WritesFile, accepted-write, CutsFile, acce
 use Rattle.tree_spec.proofs.Changes.{total-file}
 use Rattle.tree_spec.proofs.Refusals.{blocks-next}
 use Rattle.tree_spec.proofs.Writes.{length-written}
-use Rattle.ice_reads.specs.Tables.{Map, own_in}
+use Rattle.ice_reads.specs.Tables.{Map}
 use Rattle.ice_reads.specs.Reads.{inode_on}
 use Rattle.ice_reads.specs.Recovers.{MapRecovers}
 use Rattle.ice_reads.proofs.Focus.{same_Some, Found≢NotFound, same_Found}
@@ -35,12 +36,13 @@ use Rattle.ice_steps.proofs.Needs.{reaches_to, beside_counted, file_uses}
 use Rattle.ice_steps.proofs.Recovers.{recovers_beside}
 use Rattle.ice_steps.proofs.Walks.{FileAt, walk_file, walk_made}
 use Rattle.ice_tree.specs.declared.quota.Need.{Need}
-use Rattle.ice_tree.specs.Changes.{Needs, TakesAt, reach_refusal}
-use Rattle.ice_tree.specs.Outcomes.{RefusedAs}
-use Rattle.ice_tree.specs.Stages.{or_else, paths_refusal, file_refusal, quota_refusal}
+use Rattle.ice_tree.specs.Quotas.{Needs, quota_refusal}
+use Rattle.ice_tree.specs.Writes.{TakesAt, reach_refusal}
+use Rattle.ice_look.specs.Outcomes.{RefusedAs}
+use Rattle.ice_look.specs.Stages.{or_else, paths_refusal, file_refusal}
 use Rattle.ice_tree.proofs.Chains.{refusal_write, refusal_trunc}
 use Rattle.ice_tree.proofs.SpotLaws.{chained}
-use Rattle.ice_tree.proofs.LookLaws.{later_stage}
+use Rattle.ice_look.proofs.LookLaws.{later_stage}
 use Rattle.ice_tree.proofs.StageLaws.{refused-now, refused-later}
 
 abbrev Names : Type 0
@@ -128,7 +130,7 @@ at-same (c ∷ p) g h (Dir es) s found same =
     ] refl found
 
 -- what was found before a look holds after it
-pub takes_at-after : (f : Form) (mode : ℕ) (lot : LotView) (m m' : Map) (t : Tree) (k : ℕ) (p : Names) (op : Operation) (number : ℕ) → m' ≡ m → MapRecovers f mode lot m t k → number ≡ inode_on f (own_in f m) 0 p → refusal t k (length lot.groups) f op ≡ None
+pub takes_at-after : (f : Form) (mode : ℕ) (lot : LotView) (m m' : Map) (t : Tree) (k : ℕ) (p : Names) (op : Operation) (number : ℕ) → m' ≡ m → MapRecovers f mode lot m t k → number ≡ inode_on f (own f m) 0 p → refusal t k (length lot.groups) f op ≡ None
     → TakesAt f mode lot m' t k p op number
 takes_at-after f mode lot m m' t k p op number same r is none = subst (λ (x : Map). TakesAt f mode lot x t k p op number) (sym same) (record { recovers = r; number_is = is; accepted = none })
 
@@ -152,9 +154,9 @@ cut-fails (Damaged Bitmap) h c k p b = absurd (b refl)
 cut-fails _ h c k p b = absurd h
 
 -- a file of the tree, at its inode
-module _ (mode : ℕ) (lot : LotView) (m : Map) (t : Tree) (k : ℕ) (p : Names) (number : ℕ) (few : length lot.groups ≤ 64) (r : MapRecovers form_one mode lot m t k) (is : number ≡ inode_on form_one (own 64 m) 0 p) (old : List ℕ) (found : walk p t ≡ Found (File old)) where
+module _ (mode : ℕ) (lot : LotView) (m : Map) (t : Tree) (k : ℕ) (p : Names) (number : ℕ) (few : length lot.groups ≤ 64) (r : MapRecovers form_one mode lot m t k) (is : number ≡ inode_on form_one (own form_one m) 0 p) (old : List ℕ) (found : walk p t ≡ Found (File old)) where
   abbrev here : ℕ
-  here = inode_on form_one (own 64 m) 0 p
+  here = inode_on form_one (own form_one m) 0 p
 
   file : FileAt m here old
   file = walk_file mode lot m t k r p old found
@@ -162,23 +164,23 @@ module _ (mode : ℕ) (lot : LotView) (m : Map) (t : Tree) (k : ℕ) (p : Names)
   whole : Beside form_one mode lot m t k [] []
   whole = recovers_beside form_one mode lot m t k r
 
-  made : WellMade lot 64 m number
-  made = subst (WellMade lot 64 m) (sym is) (walk_made mode lot m t k r p few (File old) found)
+  made : WellMade lot form_one m number
+  made = subst (WellMade lot form_one m) (sym is) (walk_made mode lot m t k r p few (File old) found)
 
-  reach : (at : ℕ) → at ≤ length old → ReachesTo at (inode_of m number)
-  reach at h = subst (λ i. ReachesTo at (inode_of m i)) (sym is) (reaches_to m here at old file h)
+  reach : (at : ℕ) → at ≤ length old → ReachesTo form_one at (inode_of m number)
+  reach at h = subst (λ i. ReachesTo form_one at (inode_of m i)) (sym is) (reaches_to m here at old file h)
 
   counts : uses_of (blocks_for (inode_of m number).size) ≤ counted false m
   counts = subst (λ i. uses_of (blocks_for (inode_of m i).size) ≤ counted false m) (sym is)
       (let c = beside_counted mode lot m t k [] [] whole p (File old) found in let u = file_uses m here file.kind in omega arith)
 
-  put : (m' : Map) (g : List ℕ → List ℕ) → length (g old) ≤ 274432 → FileSet lot 64 m m' number (g (file_bytes (own 64 m number))) → MapRecovers form_one mode lot m' (at p (λ u. File (g (bytes_of u))) t) k
+  put : (m' : Map) (g : List ℕ → List ℕ) → length (g old) ≤ 274432 → FileSet lot form_one m m' number (g (file_bytes (own form_one m number))) → MapRecovers form_one mode lot m' (at p (λ u. File (g (bytes_of u))) t) k
   put m' g short set =
-      let now : FileSet lot 64 m m' here (g old) = subst (λ bytes. FileSet lot 64 m m' here (g bytes)) file.bytes_are (subst (λ i. FileSet lot 64 m m' i (g (file_bytes (own 64 m i)))) is set) in
+      let now : FileSet lot form_one m m' here (g old) = subst (λ bytes. FileSet lot form_one m m' here (g bytes)) file.bytes_are (subst (λ i. FileSet lot form_one m m' i (g (file_bytes (own form_one m i)))) is set) in
       subst (λ u. MapRecovers form_one mode lot m' u k) (at-same p (λ s. File (g old)) (λ u. File (g (bytes_of u))) t (File old) found refl)
       (file_set mode lot m m' t k p old (g old) r found now short)
 
-module _ (f : Form) (one : f ≡ form_one) (entry : ℕ) (sized : entry ≡ 64) (mode : ℕ) (lot : LotView) (m : Map) (t : Tree) (k : ℕ) (p : Names) (number : ℕ) (few : length lot.groups ≤ 64) where
+module _ (f : Form) (one : f ≡ form_one) (form : Form) (sized : form ≡ form_one) (mode : ℕ) (lot : LotView) (m : Map) (t : Tree) (k : ℕ) (p : Names) (number : ℕ) (few : length lot.groups ≤ 64) where
   -- bytes are written
   module _ (off : ℕ) (bytes : List ℕ) (x : TakesAt f mode lot m t k p (Write p off bytes) number) where
     write-takes : TakesAt form_one mode lot m t k p (Write p off bytes) number
@@ -190,7 +192,7 @@ module _ (f : Form) (one : f ≡ form_one) (entry : ℕ) (sized : entry ≡ 64) 
     long : length (written writes.old off bytes) ≡ max (length writes.old) (off + length bytes)
     long = length-written writes.old off bytes writes.within
 
-    pub write-made : WellMade lot entry m number
+    pub write-made : WellMade lot form m number
     write-made = subst (λ s. WellMade lot s m number) (sym sized) (made mode lot m t k p number few write-takes.recovers write-takes.number_is writes.old writes.found)
 
     short : length (written writes.old off bytes) ≤ 274432
@@ -198,7 +200,7 @@ module _ (f : Form) (one : f ≡ form_one) (entry : ℕ) (sized : entry ≡ 64) 
         let d = file mode lot m t k p number few write-takes.recovers write-takes.number_is writes.old writes.found in
         let l = long in let a = d.size in let b = d.within in let c = writes.small in omega arith
 
-    pub write-recovers : (m' : Map) → FileSet lot entry m m' number (overwritten (file_bytes (own entry m number)) off bytes) → MapRecovers f mode lot m' (next (Write p off bytes) t) k
+    pub write-recovers : (m' : Map) → FileSet lot form m m' number (overwritten (file_bytes (own form m number)) off bytes) → MapRecovers f mode lot m' (next (Write p off bytes) t) k
     write-recovers m' set = subst (λ g. MapRecovers g mode lot m' (next (Write p off bytes) t) k) (sym one)
         (put mode lot m t k p number few write-takes.recovers write-takes.number_is writes.old writes.found m' (λ u. written u off bytes) short
         (subst (λ s. FileSet lot s m m' number (overwritten (file_bytes (own s m number)) off bytes)) sized set))
@@ -206,7 +208,7 @@ module _ (f : Form) (one : f ≡ form_one) (entry : ℕ) (sized : entry ≡ 64) 
     pub write-sound : (e : OpFault) → IsWriteFault e
         → (e ≡ NoSpace → free_count false lot m + uses_of (blocks_for (inode_of m number).size) < uses_of (blocks_with (inode_of m number).size (off + length bytes)))
         → (e ≡ Damaged Counts → 2 ^ 32 + uses_of (blocks_for (inode_of m number).size) ≤ counted false m + uses_of (blocks_with (inode_of m number).size (off + length bytes)))
-        → (e ≡ Damaged Kind → ¬ ReachesTo off (inode_of m number)) → (e ≡ Damaged Pointer → ¬ WellMade lot entry m number) → (e ≡ Damaged Bitmap → ¬ Reserved lot m) → e ≡ Disk
+        → (e ≡ Damaged Kind → ¬ ReachesTo form off (inode_of m number)) → (e ≡ Damaged Pointer → ¬ WellMade lot form m number) → (e ≡ Damaged Bitmap → ¬ Reserved lot m) → e ≡ Disk
     write-sound e h none full kind pointer unreserved =
         let b = whole mode lot m t k p number few write-takes.recovers write-takes.number_is writes.old writes.found in
         write-fails e h
@@ -217,7 +219,7 @@ module _ (f : Form) (one : f ≡ form_one) (entry : ℕ) (sized : entry ≡ 64) 
         (λ q. subst (λ i. ¬ (2 ^ 32 + uses_of (blocks_for (inode_of m i).size) ≤ counted false m + uses_of (blocks_with (inode_of m i).size (off + length bytes)))) (sym write-takes.number_is)
         (write_counts mode lot m t k few [] [] b p writes.old writes.found (off + length bytes) writes.small)
         (full q))
-        (λ q. kind q (reach mode lot m t k p number few write-takes.recovers write-takes.number_is writes.old writes.found off writes.within))
+        (λ q. kind q (subst (λ (s : Form). ReachesTo s off (inode_of m number)) (sym sized) (reach mode lot m t k p number few write-takes.recovers write-takes.number_is writes.old writes.found off writes.within)))
         (λ q. pointer q write-made)
         (λ q. unreserved q write-takes.recovers.holds.reserved)
 
@@ -229,19 +231,19 @@ module _ (f : Form) (one : f ≡ form_one) (entry : ℕ) (sized : entry ≡ 64) 
     cuts : CutsFile t k (length lot.groups) form_one p len
     cuts = accepted-trunc t k (length lot.groups) form_one p len cut-takes.accepted
 
-    pub cut-made : WellMade lot entry m number
+    pub cut-made : WellMade lot form m number
     cut-made = subst (λ s. WellMade lot s m number) (sym sized) (made mode lot m t k p number few cut-takes.recovers cut-takes.number_is cuts.old cuts.found)
 
-    pub cut-recovers : (m' : Map) → FileSet lot entry m m' number (take len (file_bytes (own entry m number))) → MapRecovers f mode lot m' (next (Trunc p len) t) k
+    pub cut-recovers : (m' : Map) → FileSet lot form m m' number (take len (file_bytes (own form m number))) → MapRecovers f mode lot m' (next (Trunc p len) t) k
     cut-recovers m' set = subst (λ g. MapRecovers g mode lot m' (next (Trunc p len) t) k) (sym one)
         (put mode lot m t k p number few cut-takes.recovers cut-takes.number_is cuts.old cuts.found m' (λ u. take len u)
         (let d = file mode lot m t k p number few cut-takes.recovers cut-takes.number_is cuts.old cuts.found in let l = length-take len cuts.old in let a = d.size in let b = d.within in omega arith)
         (subst (λ s. FileSet lot s m m' number (take len (file_bytes (own s m number)))) sized set))
 
-    pub cut-sound : (e : OpFault) → IsCutToFault e → (e ≡ Damaged Counts → counted false m < uses_of (blocks_for (inode_of m number).size)) → (e ≡ Damaged Kind → ¬ ReachesTo len (inode_of m number))
-        → (e ≡ Damaged Pointer → ¬ WellMade lot entry m number) → (e ≡ Damaged Bitmap → ¬ WellMade lot entry m number) → e ≡ Disk
+    pub cut-sound : (e : OpFault) → IsCutToFault e → (e ≡ Damaged Counts → counted false m < uses_of (blocks_for (inode_of m number).size)) → (e ≡ Damaged Kind → ¬ ReachesTo form len (inode_of m number))
+        → (e ≡ Damaged Pointer → ¬ WellMade lot form m number) → (e ≡ Damaged Bitmap → ¬ WellMade lot form m number) → e ≡ Disk
     cut-sound e h zero kind pointer unused = cut-fails e h
         (λ q. let n = zero q in let u = counts mode lot m t k p number few cut-takes.recovers cut-takes.number_is cuts.old cuts.found in omega arith)
-        (λ q. kind q (reach mode lot m t k p number few cut-takes.recovers cut-takes.number_is cuts.old cuts.found len cuts.within))
+        (λ q. kind q (subst (λ (s : Form). ReachesTo s len (inode_of m number)) (sym sized) (reach mode lot m t k p number few cut-takes.recovers cut-takes.number_is cuts.old cuts.found len cuts.within)))
         (λ q. pointer q cut-made)
         (λ q. unused q cut-made)

@@ -15,21 +15,23 @@ use Rattle.tree_spec.specs.declared.reply.Refusal.{Refusal}
 use Rattle.tree_spec.specs.declared.reply.Refusal.TheVariants as code
 use Rattle.tree_spec.proofs.Accepted.{HasEntry, has_entry, entry_walk}
 use Rattle.tree_spec.proofs.Changes.{total-removed, length-removed}
-use Rattle.ice_reads.specs.Tables.{Map, Table, own_in}
+use Rattle.ice_reads.specs.Tables.{Map, Table}
+use Rattle.ice_map.specs.Own.{own}
 use Rattle.ice_reads.specs.Reads.{inode_on}
 use Rattle.ice_reads.specs.Recovers.{MapRecovers}
 use Rattle.ice_reads.proofs.Sorted.{Reads-ordered}
-use Rattle.ice_tree.specs.declared.place.Place.{Place}
-use Rattle.ice_tree.specs.declared.place.Place.TheVariants.{File, Dir, Missing, Blocked}
-use Rattle.ice_tree.specs.declared.ends.Ends.{Ends}
-use Rattle.ice_tree.specs.declared.ends.Spot.{Spot}
+use Rattle.ice_look.specs.declared.place.Place.{Place}
+use Rattle.ice_look.specs.declared.place.Place.TheVariants.{File, Dir, Missing, Blocked}
+use Rattle.ice_look.specs.declared.ends.Ends.{Ends}
+use Rattle.ice_look.specs.declared.ends.Spot.{Spot}
 use Rattle.ice_tree.specs.declared.quota.Need.{Need}
 use Rattle.ice_tree.specs.declared.removes.Gone.{Gone}
-use Rattle.ice_tree.specs.Changes.{Needs, IsEnds, IsSpot}
-use Rattle.ice_tree.specs.Moves.{gone_refusal, IsGone}
-use Rattle.ice_tree.specs.Outcomes.{RefusedAs}
-use Rattle.ice_tree.specs.Places.{place_by, place_at}
-use Rattle.ice_tree.specs.Stages.{or_else, walk_refusal}
+use Rattle.ice_tree.specs.Quotas.{Needs}
+use Rattle.ice_look.specs.Ends.{IsEnds, IsSpot}
+use Rattle.ice_tree.specs.Removes.{gone_refusal, IsGone}
+use Rattle.ice_look.specs.Outcomes.{RefusedAs}
+use Rattle.ice_look.specs.Places.{place_by, place_at}
+use Rattle.ice_look.specs.Stages.{or_else, walk_refusal}
 
 abbrev Names : Type 0
 Names = List (List ℕ)
@@ -212,11 +214,11 @@ its-blocks (tree.Dir Nil) e = refl
 its-blocks (tree.Dir (Entry c t es)) e = absurd (subst T e tt)
 
 -- what its removal needs
-pub gone-needs : (f : Form) → f ≡ form_one → (mode : ℕ) (lot : LotView) (m : Map) (t : Tree) (k : ℕ) (p : Names) (gone : Gone) (need : Need) → MapRecovers f mode lot m t k → IsGone f (own_in f m) p t gone → gone_refusal p t ≡ None
+pub gone-needs : (f : Form) → f ≡ form_one → (mode : ℕ) (lot : LotView) (m : Map) (t : Tree) (k : ℕ) (p : Names) (gone : Gone) (need : Need) → MapRecovers f mode lot m t k → IsGone f (own f m) p t gone → gone_refusal p t ≡ None
     → need.nodes ≡ 0 → need.lost ≡ 1 → need.blocks ≡ map_cost (dir_blocks f (gone.spot.entries - 1)) → need.freed ≡ map_cost (dir_blocks f gone.spot.entries) + map_cost (file_blocks gone.bytes) → Needs f t (next (Remove p) t) need
 gone-needs f one mode lot m t k p gone need r is none n l b d =
     let g = removable p t none in
-    let o : T (is_ordered t) = Reads-ordered f lot (own_in f m) 0 0 t r.holds.reads in
+    let o : T (is_ordered t) = Reads-ordered f lot (own f m) 0 0 t r.holds.reads in
     let here : is.spot_is.inside ≡ g.entry.entries = same-entries _ _ (sym is.spot_is.there ∙ g.entry.there) in
     let count : gone.spot.entries ≡ length (rows g.entry.entries) = is.spot_is.count ∙ ap (λ es. length (rows es)) here in
     let fewer = length-removed p t g.gone o g.entry in

@@ -3,14 +3,14 @@ use Rattle.std.proofs.Common.{◌≡◌, ◌≢◌, ◌≤◌, ◌<◌, ◌+◌,
 use Rattle.ice_base.specs.Inodes.{inode_address}
 use Rattle.ice_base.specs.Lots.{LotView, sub_address}
 use Rattle.ice_base.specs.Pools.{TookInode}
-use Rattle.ice_base.specs.Faults.{IsDiskFault, IsTakeInodeFault}
+use Rattle.ice_base.specs.Faults.{IsTakeInodeFault}
 use Rattle.ice_base.specs.Used.{AllUsed, bitmap_of, used_inode, counted, free_count, Reserved}
 use Rattle.ice_base.specs.declared.fault.OpFault.{OpFault}
 use Rattle.ice_base.specs.declared.fault.OpFault.TheVariants.{Disk, Damaged, NoSpace, NoNodes}
 use Rattle.ice_base.specs.declared.fault.Rule.TheVariants.{Counts, Kind, Pointer, Bitmap}
 use Rattle.ice_map.specs.Inodes.{inode_of, InodeSet}
-use Rattle.ice_file.specs.Own.{own, WellMade}
-use Rattle.ice_file.specs.Writes.{uses_of}
+use Rattle.ice_map.specs.Own.{own, WellMade}
+use Rattle.ice_map.specs.Moves.{uses_of}
 use Rattle.ice_dir.specs.Changes.{DirSet, HasRoom, dir_blocks}
 use Rattle.ice_dir.specs.Faults.{IsAddFault}
 use Rattle.ice_dir.specs.Rows.{rows_of}
@@ -35,9 +35,9 @@ use Rattle.ice_steps.proofs.Needs.{beside_room, beside_reserved}
 use Rattle.ice_steps.proofs.Recovers.{recovers_beside}
 use Rattle.ice_steps.proofs.Stays.{stays_walk}
 use Rattle.ice_steps.proofs.Takes.{took_inode, took_stays}
-use Rattle.ice_tree.specs.declared.ends.Spot.{Spot}
-use Rattle.ice_tree.specs.Changes.{new_operation, new_inode, Takes}
-use Rattle.ice_tree.proofs.PlaceLaws.{true_false}
+use Rattle.ice_look.specs.declared.ends.Spot.{Spot}
+use Rattle.ice_tree.specs.Makes.{new_operation, new_inode, Takes}
+use Rattle.ice_look.proofs.PlaceLaws.{true_false}
 
 -- ---- which faults there are
 
@@ -46,10 +46,6 @@ take-fails Disk h n c = refl
 take-fails NoNodes h n c = absurd (n refl)
 take-fails (Damaged Counts) h n c = absurd (c refl)
 take-fails _ h n c = absurd h
-
-pub disk-fails : (e : OpFault) → IsDiskFault e → e ≡ Disk
-disk-fails Disk h = refl
-disk-fails _ h = absurd h
 
 pub add-fails : (e : OpFault) → IsAddFault e → (e ≡ NoSpace → ⊥) → (e ≡ Damaged Counts → ⊥) → (e ≡ Damaged Kind → ⊥) → (e ≡ Damaged Pointer → ⊥) → (e ≡ Damaged Bitmap → ⊥) → e ≡ Disk
 add-fails Disk h n c k p b = refl
@@ -110,11 +106,11 @@ pub record NodePut (lot : LotView) (m0 m1 m2 : Map) (j : ℕ) (dir : Bool) : Typ
   pub there : OnlyAt (inode_address j ∷ []) m1 m2
 
 made-beside : (mode : ℕ) (lot : LotView) (m : Map) (t : Tree) (k j : ℕ) (dir : Bool) → Beside form_one mode lot m t k [] (j ∷ []) → inode_of m j ≡ new_inode dir
-    → Beside form_one mode lot m t k (used_blocks form_one (own 64 m) j (made dir)) (used_inodes form_one (own 64 m) j (made dir))
+    → Beside form_one mode lot m t k (used_blocks form_one (own form_one m) j (made dir)) (used_inodes form_one (own form_one m) j (made dir))
 made-beside mode lot m t k j true b e = dir_beside mode lot m t k j b (fresh_value 2 (inode_of m j) e)
 made-beside mode lot m t k j false b e = file_beside mode lot m t k j b (fresh_value 1 (inode_of m j) e)
 
-made-reads : (lot : LotView) (m : Map) (j h : ℕ) (dir : Bool) → h ≤ deepest → j < 64 * length lot.groups → inode_of m j ≡ new_inode dir → Reads form_one lot (own 64 m) j h (made dir)
+made-reads : (lot : LotView) (m : Map) (j h : ℕ) (dir : Bool) → h ≤ deepest → j < 64 * length lot.groups → inode_of m j ≡ new_inode dir → Reads form_one lot (own form_one m) j h (made dir)
 made-reads lot m j h true deep small e = fresh_dir lot m j h deep small (fresh_value 2 (inode_of m j) e)
 made-reads lot m j h false deep small e = fresh_file lot m j h deep small (fresh_value 1 (inode_of m j) e)
 
@@ -145,40 +141,40 @@ module _ (mode : ℕ) (lot : LotView) (m0 : Map) (t : Tree) (k : ℕ) (p : Names
     beside-put : Beside form_one mode lot m2 t k [] (j ∷ [])
     beside-put = put_loose mode lot m1 m2 t k j (new_inode dir) beside-taken n.put n.there
 
-    here : inode_on form_one (own 64 m2) 0 (parent p) ≡ spot.number
+    here : inode_on form_one (own form_one m2) 0 (parent p) ≡ spot.number
     here =
         stays_walk m1 m2 t (put_stays mode lot m1 m2 t k [] j (new_inode dir) beside-taken n.put n.there) (parent p) (Dir place.entries) place.there
         ∙ stays_walk m0 m1 t (took_stays mode lot m0 m1 t k [] [] j few whole n.taken) (parent p) (Dir place.entries) place.there
         ∙ sym x.spot_is.number
 
-    spot_made : WellMade lot 64 m2 spot.number
-    spot_made = subst (WellMade lot 64 m2) here (beside_made mode lot m2 t k [] (j ∷ []) beside-put few (parent p) (Dir place.entries) place.there)
+    spot_made : WellMade lot form_one m2 spot.number
+    spot_made = subst (WellMade lot form_one m2) here (beside_made mode lot m2 t k [] (j ∷ []) beside-put few (parent p) (Dir place.entries) place.there)
 
     spot_room : HasRoom lot (inode_of m2 spot.number)
     spot_room = subst (λ i. HasRoom lot (inode_of m2 i)) here (beside_room mode lot m2 t k [] (j ∷ []) beside-put (omega arith) (parent p) place.entries place.there)
 
     -- no row can be added, or none can be counted
     add_fault : (e : OpFault) → IsAddFault e
-        → (e ≡ NoSpace → free_count false lot m2 + uses_of (dir_blocks 64 (inode_of m2 spot.number).size) < uses_of (dir_blocks 64 ((inode_of m2 spot.number).size + 1)))
-        → (e ≡ Damaged Counts → 2 ^ 32 + uses_of (dir_blocks 64 (inode_of m2 spot.number).size) ≤ counted false m2 + uses_of (dir_blocks 64 ((inode_of m2 spot.number).size + 1)))
-        → (e ≡ Damaged Kind → ¬ HasRoom lot (inode_of m2 spot.number)) → (e ≡ Damaged Pointer → ¬ WellMade lot 64 m2 spot.number) → (e ≡ Damaged Bitmap → ¬ Reserved lot m2) → e ≡ Disk
+        → (e ≡ NoSpace → free_count false lot m2 + uses_of (dir_blocks form_one (inode_of m2 spot.number).size) < uses_of (dir_blocks form_one ((inode_of m2 spot.number).size + 1)))
+        → (e ≡ Damaged Counts → 2 ^ 32 + uses_of (dir_blocks form_one (inode_of m2 spot.number).size) ≤ counted false m2 + uses_of (dir_blocks form_one ((inode_of m2 spot.number).size + 1)))
+        → (e ≡ Damaged Kind → ¬ HasRoom lot (inode_of m2 spot.number)) → (e ≡ Damaged Pointer → ¬ WellMade lot form_one m2 spot.number) → (e ≡ Damaged Bitmap → ¬ Reserved lot m2) → e ≡ Disk
     add_fault e h none full kind pointer unreserved = add-fails e h
-        (λ q. subst (λ i. ¬ (free_count false lot m2 + uses_of (dir_blocks 64 (inode_of m2 i).size) < uses_of (dir_blocks 64 ((inode_of m2 i).size + 1)))) here
-        (add_fits mode lot m2 t k few j (length (parent p) + 1) (made dir) (used_inodes form_one (own 64 m2) j (made dir)) (made-beside mode lot m2 t k j dir beside-put n.put.value) (made-reads lot m2 j (length (parent p) + 1) dir deep n.small n.put.value)
+        (λ q. subst (λ i. ¬ (free_count false lot m2 + uses_of (dir_blocks form_one (inode_of m2 i).size) < uses_of (dir_blocks form_one ((inode_of m2 i).size + 1)))) here
+        (add_fits mode lot m2 t k few j (length (parent p) + 1) (made dir) (used_inodes form_one (own form_one m2) j (made dir)) (made-beside mode lot m2 t k j dir beside-put n.put.value) (made-reads lot m2 j (length (parent p) + 1) dir deep n.small n.put.value)
         (parent p) (last_name p) place.entries place.there place.free (blocks_left t k (length lot.groups) p dir x.accepted)) (none q))
-        (λ q. subst (λ i. ¬ (2 ^ 32 + uses_of (dir_blocks 64 (inode_of m2 i).size) ≤ counted false m2 + uses_of (dir_blocks 64 ((inode_of m2 i).size + 1)))) here
+        (λ q. subst (λ i. ¬ (2 ^ 32 + uses_of (dir_blocks form_one (inode_of m2 i).size) ≤ counted false m2 + uses_of (dir_blocks form_one ((inode_of m2 i).size + 1)))) here
         (add_counts mode lot m2 t k few [] (j ∷ []) beside-put (parent p) place.entries place.there) (full q))
         (λ q. kind q spot_room)
         (λ q. pointer q spot_made)
         (λ q. unreserved q (beside_reserved mode lot m2 t k [] (j ∷ []) beside-put))
 
     -- the row was added
-    module _ (short : length name ≤ 59) (m3 : Map) (set : DirSet lot 64 m2 m3 spot.number (rows_of 64 m2 spot.number ++ (name, j) ∷ [])) where
+    module _ (short : length name ≤ 59) (m3 : Map) (set : DirSet lot form_one m2 m3 spot.number (rows_of form_one m2 spot.number ++ (name, j) ∷ [])) where
       good : IsNameOf form_one (last_name p)
       good = record { is = subst (λ c. is_name c ≡ true) x.name_is x.proper; short = subst (λ c. length c ≤ 59) x.name_is short }
 
-      set-here : DirSet lot 64 m2 m3 (inode_on form_one (own 64 m0) 0 (parent p)) (rows_of 64 m2 (inode_on form_one (own 64 m0) 0 (parent p)) ++ (last_name p, j) ∷ [])
-      set-here = subst (λ i. DirSet lot 64 m2 m3 i (rows_of 64 m2 i ++ (last_name p, j) ∷ [])) x.spot_is.number (subst (λ c. DirSet lot 64 m2 m3 spot.number (rows_of 64 m2 spot.number ++ (c, j) ∷ [])) x.name_is set)
+      set-here : DirSet lot form_one m2 m3 (inode_on form_one (own form_one m0) 0 (parent p)) (rows_of form_one m2 (inode_on form_one (own form_one m0) 0 (parent p)) ++ (last_name p, j) ∷ [])
+      set-here = subst (λ i. DirSet lot form_one m2 m3 i (rows_of form_one m2 i ++ (last_name p, j) ∷ [])) x.spot_is.number (subst (λ c. DirSet lot form_one m2 m3 spot.number (rows_of form_one m2 spot.number ++ (c, j) ∷ [])) x.name_is set)
 
       node_made : MapRecovers form_one mode lot m3 (next (new_operation dir p) t) k
       node_made = by dir x.recovers n.took n.small n.taken n.put n.there
@@ -192,7 +188,7 @@ module _ (mode : ℕ) (lot : LotView) (m0 : Map) (t : Tree) (k : ℕ) (p : Names
 
 -- ---- the same in the form that a cube has
 
-module _ (f : Form) (one : f ≡ form_one) (entry : ℕ) (sized : entry ≡ 64) (mode : ℕ) (lot : LotView) (m0 : Map) (t : Tree) (k : ℕ) (p : Names) (dir : Bool) (spot : Spot) (name : List ℕ) (few : length lot.groups ≤ 64)
+module _ (f : Form) (one : f ≡ form_one) (form : Form) (sized : form ≡ form_one) (mode : ℕ) (lot : LotView) (m0 : Map) (t : Tree) (k : ℕ) (p : Names) (dir : Bool) (spot : Spot) (name : List ℕ) (few : length lot.groups ≤ 64)
     (x : Takes f mode lot m0 t k p dir spot name) where
   as_one : Takes form_one mode lot m0 t k p dir spot name
   as_one = subst (λ g. Takes g mode lot m0 t k p dir spot name) one x
@@ -205,13 +201,13 @@ module _ (f : Form) (one : f ≡ form_one) (entry : ℕ) (sized : entry ≡ 64) 
   spot_apart j free e = true_false (used_inode m0 j) (ap (used_inode m0) e ∙ spot_used mode lot m0 t k p dir spot name few as_one) free
 
   module _ (m1 m2 : Map) (j : ℕ) (n : NodePut lot m0 m1 m2 j dir) where
-    pub spot_well : WellMade lot entry m2 spot.number
+    pub spot_well : WellMade lot form m2 spot.number
     spot_well = subst (λ s. WellMade lot s m2 spot.number) (sym sized) (spot_made mode lot m0 t k p dir spot name few as_one m1 m2 j n)
 
     pub add_sound : (e : OpFault) → IsAddFault e
-        → (e ≡ NoSpace → free_count false lot m2 + uses_of (dir_blocks entry (inode_of m2 spot.number).size) < uses_of (dir_blocks entry ((inode_of m2 spot.number).size + 1)))
-        → (e ≡ Damaged Counts → 2 ^ 32 + uses_of (dir_blocks entry (inode_of m2 spot.number).size) ≤ counted false m2 + uses_of (dir_blocks entry ((inode_of m2 spot.number).size + 1)))
-        → (e ≡ Damaged Kind → ¬ HasRoom lot (inode_of m2 spot.number)) → (e ≡ Damaged Pointer → ¬ WellMade lot entry m2 spot.number) → (e ≡ Damaged Bitmap → ¬ Reserved lot m2) → e ≡ Disk
+        → (e ≡ NoSpace → free_count false lot m2 + uses_of (dir_blocks form (inode_of m2 spot.number).size) < uses_of (dir_blocks form ((inode_of m2 spot.number).size + 1)))
+        → (e ≡ Damaged Counts → 2 ^ 32 + uses_of (dir_blocks form (inode_of m2 spot.number).size) ≤ counted false m2 + uses_of (dir_blocks form ((inode_of m2 spot.number).size + 1)))
+        → (e ≡ Damaged Kind → ¬ HasRoom lot (inode_of m2 spot.number)) → (e ≡ Damaged Pointer → ¬ WellMade lot form m2 spot.number) → (e ≡ Damaged Bitmap → ¬ Reserved lot m2) → e ≡ Disk
     add_sound e h none full kind pointer unreserved = add_fault mode lot m0 t k p dir spot name few as_one m1 m2 j n e h
         (λ q. subst (λ s. free_count false lot m2 + uses_of (dir_blocks s (inode_of m2 spot.number).size) < uses_of (dir_blocks s ((inode_of m2 spot.number).size + 1))) sized (none q))
         (λ q. subst (λ s. 2 ^ 32 + uses_of (dir_blocks s (inode_of m2 spot.number).size) ≤ counted false m2 + uses_of (dir_blocks s ((inode_of m2 spot.number).size + 1))) sized (full q))
@@ -219,6 +215,6 @@ module _ (f : Form) (one : f ≡ form_one) (entry : ℕ) (sized : entry ≡ 64) 
         (λ q. subst (λ s. ¬ WellMade lot s m2 spot.number) sized (pointer q))
         unreserved
 
-    pub node_recovers : length name ≤ 59 → (m3 : Map) → DirSet lot entry m2 m3 spot.number (rows_of entry m2 spot.number ++ (name, j) ∷ []) → MapRecovers f mode lot m3 (next (new_operation dir p) t) k
+    pub node_recovers : length name ≤ 59 → (m3 : Map) → DirSet lot form m2 m3 spot.number (rows_of form m2 spot.number ++ (name, j) ∷ []) → MapRecovers f mode lot m3 (next (new_operation dir p) t) k
     node_recovers short m3 set = subst (λ g. MapRecovers g mode lot m3 (next (new_operation dir p) t) k) (sym one)
         (node_made mode lot m0 t k p dir spot name few as_one m1 m2 j n short m3 (subst (λ s. DirSet lot s m2 m3 spot.number (rows_of s m2 spot.number ++ (name, j) ∷ [])) sized set))

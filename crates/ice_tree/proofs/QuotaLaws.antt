@@ -10,8 +10,7 @@ use Rattle.ice_reads.specs.Tables.{Map}
 use Rattle.ice_reads.specs.Recovers.{MapRecovers}
 use Rattle.ice_steps.proofs.Quotas.{free_nodes_are, free_blocks_are}
 use Rattle.ice_tree.specs.declared.quota.Need.{Need}
-use Rattle.ice_tree.specs.Changes.{Needs}
-use Rattle.ice_tree.specs.Stages.{nodes_refusal, blocks_refusal}
+use Rattle.ice_tree.specs.Quotas.{Needs, nodes_refusal, blocks_refusal}
 
 few_nodes : (n x : ℕ) → x ≤ node_quota n → (t : Tree) → nodes t ≡ x → nodes_refusal n t ≡ None
 few_nodes n x h t e = grind (arith, nat_tests)

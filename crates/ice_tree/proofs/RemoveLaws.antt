@@ -12,9 +12,9 @@ use Rattle.ice_base.specs.declared.fault.OpFault.TheVariants.{Disk, Damaged}
 use Rattle.ice_base.specs.declared.fault.Rule.TheVariants.{Counts, Kind, Pointer, Bitmap}
 use Rattle.ice_map.specs.declared.codec.Inode.{Inode}
 use Rattle.ice_map.specs.Inodes.{inode_of, InodeSet}
-use Rattle.ice_file.specs.Own.{own, blocks_for, WellMade, file_bytes}
+use Rattle.ice_map.specs.Own.{own, blocks_for, WellMade, file_bytes}
 use Rattle.ice_file.specs.Files.{FileSet, ReachesTo, IsCutToFault}
-use Rattle.ice_file.specs.Writes.{uses_of}
+use Rattle.ice_map.specs.Moves.{uses_of}
 use Rattle.ice_dir.specs.Changes.{DirSet, dir_blocks}
 use Rattle.ice_dir.specs.Faults.{IsTakeFault}
 use Rattle.ice_dir.specs.Rows.{rows_of, look_up, without, IsDirectory}
@@ -26,7 +26,7 @@ use Rattle.tree_spec.specs.Why.{Why}
 use Rattle.tree_spec.specs.Why as why
 use Rattle.tree_spec.proofs.Accepted.{HasEntry, entry_walk, Removes, accepted-remove}
 use Rattle.tree_spec.proofs.Trees.{parent-last}
-use Rattle.ice_reads.specs.Tables.{Map, own_in, inode_named}
+use Rattle.ice_reads.specs.Tables.{Map, inode_named}
 use Rattle.ice_reads.specs.Reads.{Reads, used_blocks, used_inodes, inode_on}
 use Rattle.ice_reads.specs.Recovers.{MapRecovers}
 use Rattle.ice_reads.proofs.LookUps.{look_up-find}
@@ -41,10 +41,11 @@ use Rattle.ice_steps.proofs.Recovers.{beside_recovers, recovers_beside}
 use Rattle.ice_steps.proofs.Takes.{gave_inode}
 use Rattle.ice_steps.proofs.Walks.{file_at, loose_made, loose_used, loose_counted, walk_made, walk_dir, walk_part}
 use Rattle.ice_tree.specs.declared.removes.Gone.{Gone}
-use Rattle.ice_tree.specs.Moves.{gone_refusal, IsGone, Loses, StandsLoose}
-use Rattle.ice_tree.specs.Stages.{or_else, paths_refusal, walk_refusal, quota_refusal}
+use Rattle.ice_tree.specs.Removes.{gone_refusal, IsGone, Loses, StandsLoose}
+use Rattle.ice_look.specs.Stages.{or_else, paths_refusal, walk_refusal}
+use Rattle.ice_tree.specs.Quotas.{quota_refusal}
 use Rattle.ice_tree.proofs.Chains.{refusal_remove}
-use Rattle.ice_tree.proofs.PlaceLaws.{inode_on-more}
+use Rattle.ice_look.proofs.PlaceLaws.{inode_on-more}
 
 abbrev Names : Type 0
 Names = List (List ℕ)
@@ -72,7 +73,7 @@ give-fails _ h c b = absurd h
 
 module _ (mode : ℕ) (lot : LotView) (few : length lot.groups ≤ 64) (m : Map) (t : Tree) (k j : ℕ) where
   -- what uses no block
-  no-blocks : (h : ℕ) (v : Tree) → Beside form_one mode lot m t k (used_blocks form_one (own 64 m) j v) (used_inodes form_one (own 64 m) j v) → Reads form_one lot (own 64 m) j h v → is_full_found (Found v) ≡ false → 0 ≡ length (bytes_of v)
+  no-blocks : (h : ℕ) (v : Tree) → Beside form_one mode lot m t k (used_blocks form_one (own form_one m) j v) (used_inodes form_one (own form_one m) j v) → Reads form_one lot (own form_one m) j h v → is_full_found (Found v) ≡ false → 0 ≡ length (bytes_of v)
       → Beside form_one mode lot m t k [] (j ∷ [])
   no-blocks h (File bytes) b r e z =
       let size = file-size m j bytes r.1 in
@@ -81,15 +82,15 @@ module _ (mode : ℕ) (lot : LotView) (few : length lot.groups ≤ 64) (m : Map)
   no-blocks h (Dir (Entry c u es)) b r e z = absurd (subst T e tt)
 
   -- a file that was cut to nothing
-  some-blocks : (m' : Map) (h n : ℕ) (v : Tree) → Beside form_one mode lot m t k (used_blocks form_one (own 64 m) j v) (used_inodes form_one (own 64 m) j v) → Reads form_one lot (own 64 m) j h v → n ≡ length (bytes_of v) → n ≢ 0
-      → FileSet lot 64 m m' j [] → Beside form_one mode lot m' t k [] (j ∷ [])
+  some-blocks : (m' : Map) (h n : ℕ) (v : Tree) → Beside form_one mode lot m t k (used_blocks form_one (own form_one m) j v) (used_inodes form_one (own form_one m) j v) → Reads form_one lot (own form_one m) j h v → n ≡ length (bytes_of v) → n ≢ 0
+      → FileSet lot form_one m m' j [] → Beside form_one mode lot m' t k [] (j ∷ [])
   some-blocks m' h n (File bytes) b r e z set = loose_cut mode lot m m' t k j h bytes b r set
   some-blocks m' h n (Dir es) b r e z set = absurd (z e)
 
   -- it can be cut
-  can-cut : (h n : ℕ) (v : Tree) → Beside form_one mode lot m t k (used_blocks form_one (own 64 m) j v) (used_inodes form_one (own 64 m) j v) → Reads form_one lot (own 64 m) j h v → n ≡ length (bytes_of v) → n ≢ 0
-      → (e : OpFault) → IsCutToFault e → (e ≡ Damaged Kind → ¬ ReachesTo 0 (inode_of m j)) → (e ≡ Damaged Counts → counted false m < uses_of (blocks_for (inode_of m j).size))
-      → (e ≡ Damaged Bitmap → ¬ WellMade lot 64 m j) → (e ≡ Damaged Pointer → ¬ WellMade lot 64 m j) → e ≡ Disk
+  can-cut : (h n : ℕ) (v : Tree) → Beside form_one mode lot m t k (used_blocks form_one (own form_one m) j v) (used_inodes form_one (own form_one m) j v) → Reads form_one lot (own form_one m) j h v → n ≡ length (bytes_of v) → n ≢ 0
+      → (e : OpFault) → IsCutToFault e → (e ≡ Damaged Kind → ¬ ReachesTo form_one 0 (inode_of m j)) → (e ≡ Damaged Counts → counted false m < uses_of (blocks_for (inode_of m j).size))
+      → (e ≡ Damaged Bitmap → ¬ WellMade lot form_one m j) → (e ≡ Damaged Pointer → ¬ WellMade lot form_one m j) → e ≡ Disk
   can-cut h n (File bytes) b r len z e is kind zero unused pointer =
       let f = file_at lot m j h bytes r in
       let made = loose_made mode lot m t k (j ∷ []) j h (File bytes) b r few in
@@ -115,7 +116,7 @@ module _ (mode : ℕ) (lot : LotView) (few : length lot.groups ≤ 64) (m : Map)
 
 -- ---- the same of each form
 
-module _ (f : Form) (one : f ≡ form_one) (mode : ℕ) (lot : LotView) (few : length lot.groups ≤ 64) (m : Map) (t : Tree) (k j bytes : ℕ) (entry : ℕ) (wide : entry ≡ 64) where
+module _ (f : Form) (one : f ≡ form_one) (mode : ℕ) (lot : LotView) (few : length lot.groups ≤ 64) (m : Map) (t : Tree) (k j bytes : ℕ) (form : Form) (wide : form ≡ form_one) where
   at-one : (P : Form → Type 0) → P f → P form_one
   at-one P p = subst P one p
 
@@ -123,29 +124,29 @@ module _ (f : Form) (one : f ≡ form_one) (mode : ℕ) (lot : LotView) (few : l
   from-one P p = subst P (sym one) p
 
   abbrev AtMap : Map → Tree → ℕ → Form → Type 0
-  AtMap n u h g = Beside g mode lot n t k (used_blocks g (own_in g n) j u) (used_inodes g (own_in g n) j u) × Reads g lot (own_in g n) j h u
+  AtMap n u h g = Beside g mode lot n t k (used_blocks g (own g n) j u) (used_inodes g (own g n) j u) × Reads g lot (own g n) j h u
 
   pub nothing-dropped : StandsLoose f mode lot m t k j bytes → bytes ≡ 0 → Beside f mode lot m t k [] (j ∷ [])
   nothing-dropped s z =
       let at = at-one (AtMap m s.tree s.level) (s.beside, s.reads) in
       from-one (λ g. Beside g mode lot m t k [] (j ∷ [])) (no-blocks mode lot few m t k j s.level s.tree at.0 at.1 s.empty (sym z ∙ s.bytes_are))
 
-  pub loose-made : StandsLoose f mode lot m t k j bytes → WellMade lot entry m j
+  pub loose-made : StandsLoose f mode lot m t k j bytes → WellMade lot form m j
   loose-made s =
       let at = at-one (AtMap m s.tree s.level) (s.beside, s.reads) in
-      subst (λ w. WellMade lot w m j) (sym wide) (loose_made mode lot m t k (used_inodes form_one (own 64 m) j s.tree) j s.level s.tree at.0 at.1 few)
+      subst (λ w. WellMade lot w m j) (sym wide) (loose_made mode lot m t k (used_inodes form_one (own form_one m) j s.tree) j s.level s.tree at.0 at.1 few)
 
-  pub bytes-dropped : (m' : Map) → StandsLoose f mode lot m t k j bytes → bytes ≢ 0 → FileSet lot entry m m' j (take 0 (file_bytes (own entry m j))) → Beside f mode lot m' t k [] (j ∷ [])
+  pub bytes-dropped : (m' : Map) → StandsLoose f mode lot m t k j bytes → bytes ≢ 0 → FileSet lot form m m' j (take 0 (file_bytes (own form m j))) → Beside f mode lot m' t k [] (j ∷ [])
   bytes-dropped m' s z set =
       let at = at-one (AtMap m s.tree s.level) (s.beside, s.reads) in
       from-one (λ g. Beside g mode lot m' t k [] (j ∷ [])) (some-blocks mode lot few m t k j m' s.level bytes s.tree at.0 at.1 s.bytes_are z (subst (λ w. FileSet lot w m m' j []) wide set))
 
   pub can-drop : StandsLoose f mode lot m t k j bytes → bytes ≢ 0
-      → (e : OpFault) → IsCutToFault e → (e ≡ Damaged Kind → ¬ ReachesTo 0 (inode_of m j)) → (e ≡ Damaged Counts → counted false m < uses_of (blocks_for (inode_of m j).size))
-      → (e ≡ Damaged Bitmap → ¬ WellMade lot entry m j) → (e ≡ Damaged Pointer → ¬ WellMade lot entry m j) → e ≡ Disk
+      → (e : OpFault) → IsCutToFault e → (e ≡ Damaged Kind → ¬ ReachesTo form 0 (inode_of m j)) → (e ≡ Damaged Counts → counted false m < uses_of (blocks_for (inode_of m j).size))
+      → (e ≡ Damaged Bitmap → ¬ WellMade lot form m j) → (e ≡ Damaged Pointer → ¬ WellMade lot form m j) → e ≡ Disk
   can-drop s z e is kind zero unused pointer =
       let at = at-one (AtMap m s.tree s.level) (s.beside, s.reads) in
-      can-cut mode lot few m t k j s.level bytes s.tree at.0 at.1 s.bytes_are z e is kind zero
+      can-cut mode lot few m t k j s.level bytes s.tree at.0 at.1 s.bytes_are z e is (subst (λ w. e ≡ Damaged Kind → ¬ ReachesTo w 0 (inode_of m j)) wide kind) zero
       (subst (λ w. e ≡ Damaged Bitmap → ¬ WellMade lot w m j) wide unused)
       (subst (λ w. e ≡ Damaged Pointer → ¬ WellMade lot w m j) wide pointer)
 
@@ -177,24 +178,24 @@ some_value (Some j) e = refl
 -- an entry of a recovered tree
 module _ (mode : ℕ) (lot : LotView) (few : length lot.groups ≤ 64) (m : Map) (t : Tree) (k : ℕ) (r : MapRecovers form_one mode lot m t k) (p : Names) (v : Tree) (h : HasEntry p t v) where
   abbrev here : ℕ
-  here = inode_on form_one (own 64 m) 0 (parent p)
+  here = inode_on form_one (own form_one m) 0 (parent p)
 
   abbrev named : ℕ
-  named = inode_named (last_name p) (rows_of 64 m (inode_on form_one (own 64 m) 0 (parent p)))
+  named = inode_named (last_name p) (rows_of form_one m (inode_on form_one (own form_one m) 0 (parent p)))
 
   -- the inode at its end is the one that its row names
-  pub end-named : inode_on form_one (own 64 m) 0 p ≡ inode_named (last_name p) (rows_of 64 m (inode_on form_one (own 64 m) 0 (parent p)))
-  end-named = ap (inode_on form_one (own 64 m) 0) (sym (whole p h.below)) ∙ inode_on-more form_one lot (own 64 m) 0 (parent p) (last_name p)
+  pub end-named : inode_on form_one (own form_one m) 0 p ≡ inode_named (last_name p) (rows_of form_one m (inode_on form_one (own form_one m) 0 (parent p)))
+  end-named = ap (inode_on form_one (own form_one m) 0) (sym (whole p h.below)) ∙ inode_on-more form_one lot (own form_one m) 0 (parent p) (last_name p)
 
   -- its directory has the row
-  pub row-there : look_up (last_name p) (rows_of 64 m here) ≡ Some named
+  pub row-there : look_up (last_name p) (rows_of form_one m here) ≡ Some named
   row-there =
       let d = walk_part mode lot m t k r (parent p) (Dir h.entries) h.there in
-      look_up-find (last_name p) (rows_of 64 m here) ∙ some_value (find by_bytes (last_name p) (rows_of 64 m here)) (sym (d.1.maps (last_name p)) ∙ ap is_some h.found)
+      look_up-find (last_name p) (rows_of form_one m here) ∙ some_value (find by_bytes (last_name p) (rows_of form_one m here)) (sym (d.1.maps (last_name p)) ∙ ap is_some h.found)
 
   -- and can lose it
-  pub can-take : (e : OpFault) → IsTakeFault e → (e ≡ Damaged Counts → counted false m + uses_of (dir_blocks 64 ((inode_of m here).size - 1)) < uses_of (dir_blocks 64 (inode_of m here).size))
-      → (e ≡ Damaged Kind → ¬ IsDirectory lot (inode_of m here)) → (e ≡ Damaged Pointer → ¬ WellMade lot 64 m here) → (e ≡ Damaged Bitmap → ¬ WellMade lot 64 m here) → e ≡ Disk
+  pub can-take : (e : OpFault) → IsTakeFault e → (e ≡ Damaged Counts → counted false m + uses_of (dir_blocks form_one ((inode_of m here).size - 1)) < uses_of (dir_blocks form_one (inode_of m here).size))
+      → (e ≡ Damaged Kind → ¬ IsDirectory lot (inode_of m here)) → (e ≡ Damaged Pointer → ¬ WellMade lot form_one m here) → (e ≡ Damaged Bitmap → ¬ WellMade lot form_one m here) → e ≡ Disk
   can-take e is zero kind pointer unused =
       let made = walk_made mode lot m t k r (parent p) few (Dir h.entries) h.there in
       let d = walk_dir mode lot m t k r (parent p) h.entries h.there in
@@ -203,41 +204,41 @@ module _ (mode : ℕ) (lot : LotView) (few : length lot.groups ≤ 64) (m : Map)
       (λ q. kind q d.is) (λ q. pointer q made) (λ q. unused q made)
 
   -- what the row named stands loose then
-  pub entry-left : (m' : Map) → DirSet lot 64 m m' here (without (last_name p) (rows_of 64 m here)) → is_full_found (Found v) ≡ false → StandsLoose form_one mode lot m' (next (Remove p) t) k (inode_on form_one (own 64 m) 0 p) (length (bytes_of v))
+  pub entry-left : (m' : Map) → DirSet lot form_one m m' here (without (last_name p) (rows_of form_one m here)) → is_full_found (Found v) ≡ false → StandsLoose form_one mode lot m' (next (Remove p) t) k (inode_on form_one (own form_one m) 0 p) (length (bytes_of v))
   entry-left m' set empty =
       let l = loses_row mode lot m m' t k (parent p) (last_name p) v h.entries r h.there h.found set in
       subst (λ j. StandsLoose form_one mode lot m' (next (Remove p) t) k j (length (bytes_of v))) (sym end-named)
       (record { tree = v; level = length (parent p) + 1; beside = l.0; reads = l.1; empty = empty; bytes_are = refl })
 
 -- the same of each form, for a removal that is accepted
-module _ (f : Form) (one : f ≡ form_one) (mode : ℕ) (lot : LotView) (few : length lot.groups ≤ 64) (m : Map) (t : Tree) (k : ℕ) (p : Names) (gone : Gone) (name : List ℕ) (entry : ℕ) (wide : entry ≡ 64) (l : Loses f mode lot m t k p gone name) where
+module _ (f : Form) (one : f ≡ form_one) (mode : ℕ) (lot : LotView) (few : length lot.groups ≤ 64) (m : Map) (t : Tree) (k : ℕ) (p : Names) (gone : Gone) (name : List ℕ) (form : Form) (wide : form ≡ form_one) (l : Loses f mode lot m t k p gone name) where
   goes : Removes t k (length lot.groups) f p
   goes = accepted-remove t k (length lot.groups) f p l.accepted
 
   recovers-one : MapRecovers form_one mode lot m t k
   recovers-one = subst (λ g. MapRecovers g mode lot m t k) one l.recovers
 
-  spot-here : gone.spot.number ≡ inode_on form_one (own 64 m) 0 (parent p)
-  spot-here = l.gone_is.spot_is.number ∙ ap (λ g. inode_on g (own_in g m) 0 (parent p)) one
+  spot-here : gone.spot.number ≡ inode_on form_one (own form_one m) 0 (parent p)
+  spot-here = l.gone_is.spot_is.number ∙ ap (λ g. inode_on g (own g m) 0 (parent p)) one
 
-  number-there : gone.number ≡ inode_on form_one (own 64 m) 0 p
-  number-there = l.gone_is.number_is ∙ ap (λ g. inode_on g (own_in g m) 0 p) one
+  number-there : gone.number ≡ inode_on form_one (own form_one m) 0 p
+  number-there = l.gone_is.number_is ∙ ap (λ g. inode_on g (own g m) 0 p) one
 
   bytes-there : gone.bytes ≡ length (bytes_of goes.gone)
   bytes-there = l.gone_is.bytes_are ∙ ap (λ w. length (bytes_found w)) (entry_walk p t goes.gone goes.entry)
 
-  pub spot-made : WellMade lot entry m gone.spot.number
-  spot-made = subst (λ w. WellMade lot w m gone.spot.number) (sym wide) (subst (λ i. WellMade lot 64 m i) (sym spot-here) (walk_made mode lot m t k recovers-one (parent p) few (Dir goes.entry.entries) goes.entry.there))
+  pub spot-made : WellMade lot form m gone.spot.number
+  spot-made = subst (λ w. WellMade lot w m gone.spot.number) (sym wide) (subst (λ i. WellMade lot form_one m i) (sym spot-here) (walk_made mode lot m t k recovers-one (parent p) few (Dir goes.entry.entries) goes.entry.there))
 
-  pub spot-has : look_up name (rows_of entry m gone.spot.number) ≡ None → ⊥
+  pub spot-has : look_up name (rows_of form m gone.spot.number) ≡ None → ⊥
   spot-has none =
-      let e : look_up (last_name p) (rows_of 64 m (inode_on form_one (own 64 m) 0 (parent p))) ≡ None =
-      ap (λ i. look_up (last_name p) (rows_of 64 m i)) (sym spot-here) ∙ ap (λ w. look_up (last_name p) (rows_of w m gone.spot.number)) (sym wide) ∙ ap (λ c. look_up c (rows_of entry m gone.spot.number)) (sym l.name_is) ∙ none in
+      let e : look_up (last_name p) (rows_of form_one m (inode_on form_one (own form_one m) 0 (parent p))) ≡ None =
+      ap (λ i. look_up (last_name p) (rows_of form_one m i)) (sym spot-here) ∙ ap (λ w. look_up (last_name p) (rows_of w m gone.spot.number)) (sym wide) ∙ ap (λ c. look_up c (rows_of form m gone.spot.number)) (sym l.name_is) ∙ none in
       let s = row-there mode lot few m t k recovers-one p goes.gone goes.entry in
       subst T (ap is_some (sym s ∙ e)) tt
 
-  pub spot-takes : (e : OpFault) → IsTakeFault e → (e ≡ Damaged Counts → counted false m + uses_of (dir_blocks entry ((inode_of m gone.spot.number).size - 1)) < uses_of (dir_blocks entry (inode_of m gone.spot.number).size))
-      → (e ≡ Damaged Kind → ¬ IsDirectory lot (inode_of m gone.spot.number)) → (e ≡ Damaged Pointer → ¬ WellMade lot entry m gone.spot.number) → (e ≡ Damaged Bitmap → ¬ WellMade lot entry m gone.spot.number) → e ≡ Disk
+  pub spot-takes : (e : OpFault) → IsTakeFault e → (e ≡ Damaged Counts → counted false m + uses_of (dir_blocks form ((inode_of m gone.spot.number).size - 1)) < uses_of (dir_blocks form (inode_of m gone.spot.number).size))
+      → (e ≡ Damaged Kind → ¬ IsDirectory lot (inode_of m gone.spot.number)) → (e ≡ Damaged Pointer → ¬ WellMade lot form m gone.spot.number) → (e ≡ Damaged Bitmap → ¬ WellMade lot form m gone.spot.number) → e ≡ Disk
   spot-takes e is zero kind pointer unused =
       let P : ℕ → ℕ → Type 0 = λ w i. (e ≡ Damaged Counts → counted false m + uses_of (dir_blocks w ((inode_of m i).size - 1)) < uses_of (dir_blocks w (inode_of m i).size)) in
       can-take mode lot few m t k recovers-one p goes.gone goes.entry e is
@@ -246,17 +247,17 @@ module _ (f : Form) (one : f ≡ form_one) (mode : ℕ) (lot : LotView) (few : l
       (λ q. absurd (pointer q spot-made))
       (λ q. absurd (unused q spot-made))
 
-  pub spot-left : (m' : Map) → DirSet lot entry m m' gone.spot.number (without name (rows_of entry m gone.spot.number)) → StandsLoose f mode lot m' (next (Remove p) t) k gone.number gone.bytes
+  pub spot-left : (m' : Map) → DirSet lot form m m' gone.spot.number (without name (rows_of form m gone.spot.number)) → StandsLoose f mode lot m' (next (Remove p) t) k gone.number gone.bytes
   spot-left m' set =
       let P : ℕ → ℕ → List ℕ → Type 0 = λ w i c. DirSet lot w m m' i (without c (rows_of w m i)) in
-      let here : P 64 (inode_on form_one (own 64 m) 0 (parent p)) (last_name p) = subst (λ c. P 64 (inode_on form_one (own 64 m) 0 (parent p)) c) l.name_is (subst (λ i. P 64 i name) spot-here (subst (λ w. P w gone.spot.number name) wide set)) in
+      let here : P form_one (inode_on form_one (own form_one m) 0 (parent p)) (last_name p) = subst (λ c. P form_one (inode_on form_one (own form_one m) 0 (parent p)) c) l.name_is (subst (λ i. P form_one i name) spot-here (subst (λ w. P w gone.spot.number name) wide set)) in
       let s = entry-left mode lot few m t k recovers-one p goes.gone goes.entry m' here goes.empty in
       subst (λ g. StandsLoose g mode lot m' (next (Remove p) t) k gone.number gone.bytes) (sym one)
       (subst (λ j. StandsLoose form_one mode lot m' (next (Remove p) t) k j gone.bytes) (sym number-there)
-      (subst (λ n. StandsLoose form_one mode lot m' (next (Remove p) t) k (inode_on form_one (own 64 m) 0 p) n) (sym bytes-there) s))
+      (subst (λ n. StandsLoose form_one mode lot m' (next (Remove p) t) k (inode_on form_one (own form_one m) 0 p) n) (sym bytes-there) s))
 
 -- what was found before a look holds after it
-pub loses-after : (f : Form) (mode : ℕ) (lot : LotView) (m m' : Map) (t : Tree) (k : ℕ) (p : Names) (gone : Gone) (name : List ℕ) → m' ≡ m → MapRecovers f mode lot m t k → IsGone f (own_in f m) p t gone → name ≡ last_name p
+pub loses-after : (f : Form) (mode : ℕ) (lot : LotView) (m m' : Map) (t : Tree) (k : ℕ) (p : Names) (gone : Gone) (name : List ℕ) → m' ≡ m → MapRecovers f mode lot m t k → IsGone f (own f m) p t gone → name ≡ last_name p
     → refusal t k (length lot.groups) f (Remove p) ≡ None → Loses f mode lot m' t k p gone name
 loses-after f mode lot m m' t k p gone name same r is last none =
     subst (λ (x : Map). Loses f mode lot x t k p gone name) (sym same) (record { recovers = r; gone_is = is; name_is = last; accepted = none })

@@ -7,14 +7,15 @@ use Rattle.ice_base.specs.declared.fault.Rule.TheVariants.{InodeTwice}
 use Rattle.ice_dir.specs.Rows.{look_up, rows_of}
 use Rattle.tree_spec.specs.Costs.{Form, form_one, map_cost}
 use Rattle.tree_spec.specs.Costs as tree
-use Rattle.ice_tree.specs.Broken.{IsBrokenBy, Overfull, spread_at}
-use Rattle.ice_tree.specs.Changes.{EndsFit}
-use Rattle.ice_tree.specs.Grounds.{EndsAre, MoveIs, SpotIs, RowFits, HasFree}
-use Rattle.ice_tree.specs.Places.{PlaceFits, PlaceIs, PlaceReached, PlaceNamed, is_place, is_dir_place}
-use Rattle.ice_tree.specs.declared.ends.Ends.{Ends}
-use Rattle.ice_tree.specs.declared.ends.Spot.{Spot}
-use Rattle.ice_tree.specs.declared.place.Place.{Place}
-use Rattle.ice_tree.specs.declared.place.Place.TheVariants.{File, Dir, Missing, Blocked}
+use Rattle.ice_look.specs.Broken.{IsBrokenBy, Overfull, spread_at}
+use Rattle.ice_look.specs.Ends.{EndsFit, EndsAre, SpotIs}
+use Rattle.ice_tree.specs.Renames.{MoveIs, RowFits, is_place, is_dir_place}
+use Rattle.ice_tree.specs.Quotas.{HasFree}
+use Rattle.ice_look.specs.Places.{PlaceFits, PlaceIs, PlaceReached, PlaceNamed}
+use Rattle.ice_look.specs.declared.ends.Ends.{Ends}
+use Rattle.ice_look.specs.declared.ends.Spot.{Spot}
+use Rattle.ice_look.specs.declared.place.Place.{Place}
+use Rattle.ice_look.specs.declared.place.Place.TheVariants.{File, Dir, Missing, Blocked}
 use Rattle.ice_tree.specs.declared.quota.Need.{Need}
 use Rattle.ice_tree.specs.declared.renames.Move.{Move}
 use Rattle.ice_tree.proofs.CostLaws.{dir-cost}
@@ -38,27 +39,27 @@ dir-there Blocked m b f = absurd (b refl)
 none : false ≡ true → ⊥
 none h = cc
 
-module _ (entry : ℕ) (lot : LotView) (m : ℕ → List ℕ) where
+module _ (form : Form) (lot : LotView) (m : ℕ → List ℕ) where
   -- a directory at a place
-  place-spot : (p : Place) (spot : Spot) → p ≡ Dir spot.number spot.entries → PlaceFits lot p → PlaceIs m p → PlaceReached entry lot m p → SpotIs entry lot m spot
+  place-spot : (p : Place) (spot : Spot) → p ≡ Dir spot.number spot.entries → PlaceFits lot p → PlaceIs m p → PlaceReached form lot m p → SpotIs form lot m spot
   place-spot p spot at fits is reached =
       let f = subst (PlaceFits lot) at fits in
       let i = subst (PlaceIs m) at is in
-      record { reached = subst (PlaceReached entry lot m) at reached; dir = record { kind = i.0; few = omega (arith, i.1, f.1) }; entries = i.1 }
+      record { reached = subst (PlaceReached form lot m) at reached; dir = record { kind = i.0; few = omega (arith, i.1, f.1) }; entries = i.1 }
 
   -- the inode of what a directory names so
-  named-inode : (dir entries : ℕ) (name : List ℕ) (p : Place) → PlaceNamed entry m (Dir dir entries) name p → is_place p ≡ true → PlaceFits lot p
-      → (number : ℕ) × (number < 64 * length lot.groups) × (look_up name (rows_of entry m dir) ≡ Some number)
+  named-inode : (dir entries : ℕ) (name : List ℕ) (p : Place) → PlaceNamed form m (Dir dir entries) name p → is_place p ≡ true → PlaceFits lot p
+      → (number : ℕ) × (number < 64 * length lot.groups) × (look_up name (rows_of form m dir) ≡ Some number)
   named-inode dir entries name (File number size) named is fits = (number, fits.0, named)
   named-inode dir entries name (Dir number size) named is fits = (number, fits.0, named)
   named-inode dir entries name Missing named is fits = absurd (none is)
   named-inode dir entries name Blocked named is fits = absurd (none is)
 
   -- what is renamed
-  pub move-is : (name : List ℕ) (from into : Ends) (step : Move) → EndsAre entry lot m from → EndsAre entry lot m into → EndsFit lot from → EndsFit lot into → PlaceNamed entry m from.parent name from.end → is_place from.end ≡ true
-      → from.parent ≡ Dir step.from.number step.from.entries → into.parent ≡ Dir step.to.number step.to.entries → MoveIs entry lot m name step
+  pub move-is : (name : List ℕ) (from into : Ends) (step : Move) → EndsAre form lot m from → EndsAre form lot m into → EndsFit lot from → EndsFit lot into → PlaceNamed form m from.parent name from.end → is_place from.end ≡ true
+      → from.parent ≡ Dir step.from.number step.from.entries → into.parent ≡ Dir step.to.number step.to.entries → MoveIs form lot m name step
   move-is name from into step a b f g named is source target =
-      let x = named-inode step.from.number step.from.entries name from.end (subst (λ (p : Place). PlaceNamed entry m p name from.end) source named) is f.at_end in
+      let x = named-inode step.from.number step.from.entries name from.end (subst (λ (p : Place). PlaceNamed form m p name from.end) source named) is f.at_end in
       record {
         from_is = place-spot from.parent step.from source f.at_parent a.parent a.parent_reached;
         to_is = place-spot into.parent step.to target g.at_parent b.parent b.parent_reached;
@@ -68,15 +69,15 @@ module _ (entry : ℕ) (lot : LotView) (m : ℕ → List ℕ) where
       }
 
   -- a look for the height of a tree that spent its budget, which has all inodes of the lot
-  pub height-broken : (place : Place) (number size levels budget : ℕ) → place ≡ Dir number size → 64 * length lot.groups ≤ budget → PlaceReached entry lot m place
-      → (e : OpFault) → IsBrokenBy entry lot m e ⊎ ((e ≡ Damaged InodeTwice) × (budget < spread_at entry m levels place)) → IsBrokenBy entry lot m e
+  pub height-broken : (place : Place) (number size levels budget : ℕ) → place ≡ Dir number size → 64 * length lot.groups ≤ budget → PlaceReached form lot m place
+      → (e : OpFault) → IsBrokenBy form lot m e ⊎ ((e ≡ Damaged InodeTwice) × (budget < spread_at form m levels place)) → IsBrokenBy form lot m e
   height-broken place number size levels budget at all reached e (inl b) = b
   height-broken place number size levels budget at all reached e (inr x) =
-      let many = subst (λ (p : Place). budget < spread_at entry m levels p) at x.1 in
-      subst (IsBrokenBy entry lot m) (sym x.0) (inr (inr (record { number = number; levels = levels; reached = subst (PlaceReached entry lot m) at reached; many = omega (arith, all, many) })))
+      let many = subst (λ (p : Place). budget < spread_at form m levels p) at x.1 in
+      subst (IsBrokenBy form lot m) (sym x.0) (inr (inr (record { number = number; levels = levels; reached = subst (PlaceReached form lot m) at reached; many = omega (arith, all, many) })))
 
   -- two directories that have too many entries
-  pub overfull-of : (name : List ℕ) (step : Move) → MoveIs entry lot m name step → (step.from.number ≢ step.to.number) × (64 * length lot.groups ≤ step.from.entries + step.to.entries) → Overfull entry lot m
+  pub overfull-of : (name : List ℕ) (step : Move) → MoveIs form lot m name step → (step.from.number ≢ step.to.number) × (64 * length lot.groups ≤ step.from.entries + step.to.entries) → Overfull form lot m
   overfull-of name step is many = record {
     one = step.from.number;
     other = step.to.number;
@@ -89,18 +90,18 @@ module _ (entry : ℕ) (lot : LotView) (m : ℕ → List ℕ) where
   }
 
   -- the blocks that a rename needs are free
-  pub row-fits : (f : Form) → f ≡ form_one → entry ≡ 64 → (step : Move) (need : Need) → step.from.entries < 4096 → step.to.entries < 4096 → (step.from.number ≢ step.to.number → step.from.entries + step.to.entries < 64 * length lot.groups)
+  pub row-fits : (f : Form) → f ≡ form_one → form ≡ form_one → (step : Move) (need : Need) → step.from.entries < 4096 → step.to.entries < 4096 → (step.from.number ≢ step.to.number → step.from.entries + step.to.entries < 64 * length lot.groups)
       → (step.same ≡ false → step.from.number ≢ step.to.number → (need.blocks ≡ map_cost (tree.dir_blocks f (step.to.entries + 1)) + map_cost (tree.dir_blocks f (step.from.entries - 1)))
       × (need.freed ≡ map_cost (tree.dir_blocks f step.to.entries) + map_cost (tree.dir_blocks f step.from.entries)))
-      → HasFree lot m need → RowFits entry lot m step
+      → HasFree lot m need → RowFits form lot m step
   row-fits f one e64 step need from to few costs free = record {
     room = few;
     blocks = λ differ apart.
         let c = costs differ apart in
-        let more = dir-cost f one entry e64 (step.to.entries + 1) (omega arith) in
-        let less = dir-cost f one entry e64 (step.from.entries - 1) (omega arith) in
-        let had = dir-cost f one entry e64 step.to.entries (omega arith) in
-        let held = dir-cost f one entry e64 step.from.entries (omega arith) in
+        let more = dir-cost f one form e64 (step.to.entries + 1) (omega arith) in
+        let less = dir-cost f one form e64 (step.from.entries - 1) (omega arith) in
+        let had = dir-cost f one form e64 step.to.entries (omega arith) in
+        let held = dir-cost f one form e64 step.from.entries (omega arith) in
         omega (arith, free.blocks, c.0, c.1, more, less, had, held);
     done = free.done;
   }

@@ -10,32 +10,32 @@ use Rattle.tree_spec.specs.Why.{Why}
 use Rattle.tree_spec.specs.Why as why
 use Rattle.tree_spec.specs.Trees.{Tree, File, Dir, Walk, Found, NotFound, NotDir, walk, parent, parent_walk, last_name, rows, height, at}
 use Rattle.tree_spec.specs.Costs.{Form, form_one, nodes}
-use Rattle.tree_spec.specs.Operations.{Rename}
+use Rattle.tree_spec.specs.Operations.{Rename, Operation}
 use Rattle.tree_spec.specs.Routes.{is_prefix, is_same_name}
 use Rattle.tree_spec.specs.Answers.{refusal, answer, answer_by, next, deepest, is_found, is_not_found, is_not_dir, is_root, is_taken, tree_found, moves_into_itself}
 use Rattle.tree_spec.proofs.Sums.{total-at}
-use Rattle.ice_reads.specs.Tables.{Map, Table, own_in}
+use Rattle.ice_reads.specs.Tables.{Map, Table}
+use Rattle.ice_map.specs.Own.{own}
 use Rattle.ice_reads.specs.Reads.{Reads, inode_on}
 use Rattle.ice_reads.specs.Recovers.{MapRecovers}
 use Rattle.ice_reads.proofs.Focus.{Reads-part}
 use Rattle.ice_reads.proofs.Numbers.{Reads-depth}
 use Rattle.tree_spec.proofs.Accepted.{first_false, second_false, has_entry, tree_walk, dir_walk, IsDirWalk}
 use Rattle.ice_steps.proofs.Quotas.{free_nodes_are}
-use Rattle.tree_spec.specs.Operations.{Operation}
 use Rattle.tree_spec.specs.Replies.{refused_of}
 use Rattle.tree_spec.specs.declared.reply.Refusal.{Refusal}
-use Rattle.ice_tree.specs.declared.ends.Spot.{Spot}
-use Rattle.ice_tree.specs.declared.place.Place.{Place}
-use Rattle.ice_tree.specs.declared.place.Place.TheVariants as at_place
+use Rattle.ice_look.specs.declared.ends.Spot.{Spot}
+use Rattle.ice_look.specs.declared.place.Place.{Place}
+use Rattle.ice_look.specs.declared.place.Place.TheVariants as at_place
 use Rattle.ice_tree.specs.declared.renames.Move.{Move}
-use Rattle.ice_tree.specs.Changes.{IsSpot}
-use Rattle.ice_tree.specs.Outcomes.{RefusedAs}
-use Rattle.ice_tree.specs.Places.{place_at, place_by}
-use Rattle.ice_tree.proofs.LookLaws.{ends_dir}
-use Rattle.ice_tree.proofs.LookLaws.{later_stage}
+use Rattle.ice_look.specs.Ends.{IsSpot}
+use Rattle.ice_look.specs.Outcomes.{RefusedAs}
+use Rattle.ice_look.specs.Places.{place_at, place_by}
+use Rattle.ice_look.proofs.LookLaws.{ends_dir, later_stage}
 use Rattle.ice_tree.specs.Renames.{height_refusal, ends_refusal, move_refusal, IsMove, Renames}
-use Rattle.ice_tree.proofs.EndLaws.{names-last}
-use Rattle.ice_tree.specs.Stages.{or_else, paths_refusal, quota_refusal}
+use Rattle.ice_look.proofs.EndLaws.{names-last}
+use Rattle.ice_look.specs.Stages.{or_else, paths_refusal}
+use Rattle.ice_tree.specs.Quotas.{quota_refusal}
 use Rattle.ice_tree.proofs.Chains.{refusal_rename}
 
 abbrev Names : Type 0
@@ -231,10 +231,10 @@ last-is path depth name below is =
 
 pub renames-are : (f : Form) (mode : ℕ) (lot : LotView) (m later : Map) (t : Tree) (k : ℕ) (path to : Names) (depth : ℕ) (step : Move) (name new : List ℕ) → later ≡ m → MapRecovers f mode lot m t k → depth < length path → depth < length to
     → name ≡ get_or path (length path - 1) [] → new ≡ get_or to (length to - 1) []
-    → (refusal t k (length lot.groups) f (Rename (drop depth path) (drop depth to)) ≡ None) × IsMove f (own_in f m) (drop depth path) (drop depth to) t step → Renames f mode lot later t k (drop depth path) (drop depth to) step name new
+    → (refusal t k (length lot.groups) f (Rename (drop depth path) (drop depth to)) ≡ None) × IsMove f (own f m) (drop depth path) (drop depth to) t step → Renames f mode lot later t k (drop depth path) (drop depth to) step name new
 renames-are f mode lot m later t k path to depth step name new same r below below_to is_name is_new x = record {
   recovers = subst (λ (x : Map). MapRecovers f mode lot x t k) (sym same) r;
-  move_is = subst (λ (x : Map). IsMove f (own_in f x) (drop depth path) (drop depth to) t step) (sym same) x.1;
+  move_is = subst (λ (x : Map). IsMove f (own f x) (drop depth path) (drop depth to) t step) (sym same) x.1;
   name_is = last-is path depth name below is_name;
   new_is = last-is to depth new below_to is_new;
   accepted = x.0;

@@ -18,7 +18,8 @@ use Rattle.tree_spec.proofs.Trees.{same_name, is_same_name-refl, child-without_e
 use Rattle.tree_spec.proofs.Sums.{length-over}
 use Rattle.tree_spec.proofs.Accepted.{entry_walk}
 use Rattle.tree_spec.proofs.Changes.{Moves, accepted-rename, next-rename, placed, removed, total-placed, total-removed, length-removed}
-use Rattle.ice_reads.specs.Tables.{Map, own_in}
+use Rattle.ice_reads.specs.Tables.{Map}
+use Rattle.ice_map.specs.Own.{own}
 use Rattle.ice_reads.specs.Reads.{Reads, inode_on}
 use Rattle.ice_reads.specs.Recovers.{MapRecovers}
 use Rattle.ice_reads.proofs.Focus.{Reads-part}
@@ -28,9 +29,9 @@ use Rattle.ice_reads.proofs.Walks.{two_walks}
 use Rattle.ice_steps.proofs.Counts.{mark-small}
 use Rattle.ice_tree.specs.declared.quota.Need.{Need}
 use Rattle.ice_tree.specs.declared.renames.Move.{Move}
-use Rattle.ice_tree.specs.Changes.{Needs}
+use Rattle.ice_tree.specs.Quotas.{Needs, done_refusal}
 use Rattle.ice_tree.specs.Renames.{move_refusal, IsMove}
-use Rattle.ice_tree.specs.Stages.{paths_refusal, done_refusal}
+use Rattle.ice_look.specs.Stages.{paths_refusal}
 use Rattle.ice_tree.proofs.StageLaws.{none-both}
 use Rattle.ice_tree.proofs.RenameLaws.{rename-stages}
 
@@ -157,7 +158,7 @@ abbrev pub no_need : Need
 no_need = record { nodes = 0; lost = 0; blocks = 0; freed = 0 }
 
 module _ (f : Form) (mode : ℕ) (lot : LotView) (m : Map) (t : Tree) (k : ℕ) (p q : Names) (step : Move) (r : MapRecovers f mode lot m t k)
-    (names : paths_refusal f (p ∷ q ∷ []) ≡ None) (ends : move_refusal p q t ≡ None) (is : IsMove f (own_in f m) p q t step) where
+    (names : paths_refusal f (p ∷ q ∷ []) ≡ None) (ends : move_refusal p q t ≡ None) (is : IsMove f (own f m) p q t step) where
   -- nothing moves
   pub need-same : step.same ≡ true → Needs f t (next (Rename p q) t) no_need
   need-same e = subst (λ u. Needs f t u no_need) (sym (ap (λ b. cond b t (moved p q t)) (sym is.same_is ∙ e))) (record { nodes_move = refl; blocks_move = refl })
@@ -170,7 +171,7 @@ module _ (f : Form) (mode : ℕ) (lot : LotView) (m : Map) (t : Tree) (k : ℕ) 
     made = next-rename t p q moves.tree (sym is.same_is ∙ differ) (entry_walk p t moves.tree moves.entry)
 
     ordered : T (is_ordered t)
-    ordered = Reads-ordered f lot (own_in f m) 0 0 t r.holds.reads
+    ordered = Reads-ordered f lot (own f m) 0 0 t r.holds.reads
 
     -- the numbers of entries: of the directory that loses one, before and after, and of the one that gains it
     abbrev was : ℕ
@@ -210,17 +211,17 @@ module _ (f : Form) (mode : ℕ) (lot : LotView) (m : Map) (t : Tree) (k : ℕ) 
     -- one inode stands for both where they are one
     number-once : parent p ≢ parent q → step.from.number ≢ step.to.number
     number-once ne same =
-        let here = inode_on f (own_in f m) 0 (parent p) in
-        let w = two_walks f (own_in f m) (λ i. i ∷ []) here (parent p) (parent q) 0 t (Dir is.from_is.inside) (Dir is.to_is.inside) ne is.from_is.there is.to_is.there in
-        let e : inode_on f (own_in f m) 0 (parent q) ≡ here = sym is.to_is.number ∙ sym same ∙ is.from_is.number in
+        let here = inode_on f (own f m) 0 (parent p) in
+        let w = two_walks f (own f m) (λ i. i ∷ []) here (parent p) (parent q) 0 t (Dir is.from_is.inside) (Dir is.to_is.inside) ne is.from_is.there is.to_is.there in
+        let e : inode_on f (own f m) 0 (parent q) ≡ here = sym is.to_is.number ∙ sym same ∙ is.from_is.number in
         let a = times-here here [] in
         let b = ap (λ i. times (i ∷ []) here) e in
-        let small : here < 64 * length lot.groups = number (Reads-part f lot (own_in f m) (parent p) 0 0 t (Dir is.from_is.inside) is.from_is.there r.holds.reads) in
+        let small : here < 64 * length lot.groups = number (Reads-part f lot (own f m) (parent p) 0 0 t (Dir is.from_is.inside) is.from_is.there r.holds.reads) in
         let o = r.holds.inodes here small in
         let l = mark-small (used_inode m here) in
         absurd (omega arith)
       where
-        number : Reads f lot (own_in f m) (inode_on f (own_in f m) 0 (parent p)) (0 + length (parent p)) (Dir is.from_is.inside) → inode_on f (own_in f m) 0 (parent p) < 64 * length lot.groups
+        number : Reads f lot (own f m) (inode_on f (own f m) 0 (parent p)) (0 + length (parent p)) (Dir is.from_is.inside) → inode_on f (own f m) 0 (parent p) < 64 * length lot.groups
         number r = r.0.number
 
     pub need-one : step.from.number ≡ step.to.number → Needs f t (next (Rename p q) t) no_need
@@ -238,7 +239,7 @@ module _ (f : Form) (mode : ℕ) (lot : LotView) (m : Map) (t : Tree) (k : ℕ) 
     pub need-two : step.from.number ≢ step.to.number → (less more freed : ℕ) → less ≡ step.from.entries - 1 → more ≡ map_cost (dir_blocks f (step.to.entries + 1)) + map_cost (dir_blocks f less)
         → freed ≡ map_cost (dir_blocks f step.to.entries) + map_cost (dir_blocks f step.from.entries) → Needs f t (next (Rename p q) t) (record { nodes = 0; lost = 0; blocks = more; freed = freed })
     need-two differs less more freed l a b =
-        let ne : parent p ≢ parent q = (λ e. differs (is.from_is.number ∙ ap (λ x. inode_on f (own_in f m) 0 x) e ∙ sym is.to_is.number)) in
+        let ne : parent p ≢ parent q = (λ e. differs (is.from_is.number ∙ ap (λ x. inode_on f (own f m) 0 x) e ∙ sym is.to_is.number)) in
         let j = two-dirs ne in
         let s = sums (λ bytes. map_cost (file_blocks (length bytes))) (λ entries. map_cost (dir_blocks f entries)) in
         let c = from-count in

@@ -9,8 +9,8 @@ use Rattle.tree_spec.specs.Replies.{Refused, Plain}
 use Rattle.tree_spec.proofs.Refusals.{answer-accepted, accepted_value-change}
 use Rattle.ice_reads.specs.Tables.{Map}
 use Rattle.ice_reads.specs.Recovers.{MapRecovers}
-use Rattle.ice_tree.specs.Outcomes.{AsModel, RefusedAs}
-use Rattle.ice_tree.proofs.LookLaws.{as_model}
+use Rattle.ice_look.specs.Outcomes.{AsModel, RefusedAs}
+use Rattle.ice_look.proofs.LookLaws.{as_model}
 
 module _ (t : Tree) (k n : ℕ) (f : Form) (op : Operation) where
   -- a refusal that is the tree's

@@ -7,14 +7,12 @@ use Rattle.ice_base.specs.declared.fault.OpFault.{OpFault}
 use Rattle.ice_base.specs.declared.fault.OpFault.TheVariants.{Disk, Damaged, NoSpace, NoNodes}
 use Rattle.ice_base.specs.declared.fault.Rule.TheVariants as rule
 use Rattle.ice_dir.specs.Faults.{IsAddFault, IsTakeFault}
-use Rattle.ice_file.specs.Files.{IsReadFault, IsWriteFault, IsCutToFault}
+use Rattle.ice_file.specs.Files.{IsWriteFault, IsCutToFault}
 use Rattle.tree_spec.specs.Replies.{number_of}
 use Rattle.tree_spec.specs.declared.reply.Refusal.{Refusal}
 use Rattle.tree_spec.specs.declared.reply.Refusal.TheVariants as code
-use Rattle.ice_tree.specs.Listings.{IsListFault}
-use Rattle.ice_tree.specs.Moves.{IsHeightFault}
-use Rattle.ice_tree.specs.Outcomes.{IsOneOf, IsNamedIn, refusal_by, IsCountFault, look_rules, list_rules, change_rules}
-use Rattle.ice_tree.specs.Places.{IsWalkFault}
+use Rattle.ice_look.specs.Outcomes.{IsOneOf, refusal_by}
+use Rattle.ice_tree.specs.Outcomes.{IsNamedIn, IsCountFault, change_rules}
 
 -- each of the numbers is one of the others
 abbrev pub are_among : List ℕ → List ℕ → Bool
@@ -59,46 +57,11 @@ no-nodes xs rs code.Fault h none = tt
 no-nodes xs rs code.NoNodes h none = absurd (none refl)
 no-nodes xs rs r h none = h
 
-pub no-space : (xs rs : List ℕ) (r : Refusal) → IsOneOf (13 ∷ xs) rs r → (r ≡ code.NoSpace → ⊥) → IsOneOf xs rs r
-no-space xs rs (code.Damaged n) h none = h
-no-space xs rs code.Fault h none = tt
-no-space xs rs code.NoSpace h none = absurd (none refl)
-no-space xs rs r h none = h
-
 -- ---- the faults of the calls below
 
 pub disk-in : (rs : List ℕ) (e : OpFault) → IsDiskFault e → IsNamedIn rs e
 disk-in rs Disk h = tt
 disk-in rs _ h = absurd h
-
-pub walk-in : (e : OpFault) → IsWalkFault e → IsNamedIn look_rules e
-walk-in Disk h = tt
-walk-in (Damaged rule.Kind) h = refl
-walk-in (Damaged rule.Pointer) h = refl
-walk-in (Damaged rule.InodeTwice) h = refl
-walk-in _ h = absurd h
-
-pub read-in : (e : OpFault) → IsReadFault e → IsNamedIn look_rules e
-read-in Disk h = tt
-read-in (Damaged rule.Kind) h = refl
-read-in (Damaged rule.Pointer) h = refl
-read-in _ h = absurd h
-
-pub list-in : (e : OpFault) → IsListFault e → IsNamedIn list_rules e
-list-in Disk h = tt
-list-in (Damaged rule.Kind) h = refl
-list-in (Damaged rule.Pointer) h = refl
-list-in (Damaged rule.InodeTwice) h = refl
-list-in (Damaged rule.Name) h = refl
-list-in _ h = absurd h
-
-pub height-in : (e : OpFault) → IsHeightFault e → IsNamedIn list_rules e
-height-in Disk h = tt
-height-in (Damaged rule.Kind) h = refl
-height-in (Damaged rule.Pointer) h = refl
-height-in (Damaged rule.InodeTwice) h = refl
-height-in (Damaged rule.Name) h = refl
-height-in _ h = absurd h
 
 pub count-in : (e : OpFault) → IsCountFault e → IsNamedIn change_rules e
 count-in Disk h = tt

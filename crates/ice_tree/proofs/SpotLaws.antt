@@ -1,6 +1,5 @@
 -- The place where something new is to stand, stage by stage.
-use Rattle.std.proofs.Common.{◌≡◌, ◌≤◌, ◌+◌, ◌-◌, ℕ, Bool, true, false, List, [], ◌∷◌, ◌++◌, length, drop, take, get_or, Option, None, Some, refl, sym, ap, subst, ◌∙◌, arith, nat_lt, nat_eq, if◌then◌else◌}
-use Rattle.std.specs.List.{list_any}
+use Rattle.std.proofs.Common.{◌≡◌, ◌≤◌, ◌+◌, ◌-◌, ℕ, Bool, true, false, List, [], ◌∷◌, length, drop, Option, None, Some, refl, sym, ap, subst, ◌∙◌, arith, nat_eq, if◌then◌else◌}
 use Rattle.std.specs.FinMap.{find}
 use Rattle.std.proofs.lemmas.Bool.Decides.{nat_tests}
 use Rattle.std.proofs.lemmas.List.{length-drop}
@@ -12,51 +11,23 @@ use Rattle.tree_spec.specs.Trees.{Tree, Walk, Found, NotFound, NotDir, walk, par
 use Rattle.tree_spec.specs.Trees as tree
 use Rattle.tree_spec.specs.Costs.{Form, form_one, nodes, blocks, map_cost, file_blocks, dir_blocks}
 use Rattle.tree_spec.specs.Answers.{is_root, is_found, refusal, next}
-use Rattle.tree_spec.proofs.Accepted.{has_place, walk-last, first_false, second_false}
+use Rattle.tree_spec.proofs.Accepted.{has_place, walk-last}
 use Rattle.tree_spec.proofs.Changes.{total-placed}
-use Rattle.ice_reads.specs.Tables.{Map, Table, own_in}
+use Rattle.ice_reads.specs.Tables.{Map, Table}
+use Rattle.ice_map.specs.Own.{own}
 use Rattle.ice_reads.specs.Reads.{inode_on}
 use Rattle.ice_reads.specs.Recovers.{MapRecovers}
-use Rattle.ice_tree.specs.declared.ends.Ends.{Ends}
-use Rattle.ice_tree.specs.declared.ends.Spot.{Spot}
-use Rattle.ice_tree.specs.declared.place.Place.TheVariants.{File, Dir, Missing, Blocked}
-use Rattle.ice_tree.specs.Changes.{IsEnds, IsSpot, Needs, Takes, new_operation, new_refusal}
-use Rattle.ice_tree.specs.Places.{place_by}
-use Rattle.ice_tree.specs.Stages.{or_else, walk_refusal, paths_refusal, quota_refusal}
+use Rattle.ice_look.specs.declared.ends.Ends.{Ends}
+use Rattle.ice_look.specs.declared.ends.Spot.{Spot}
+use Rattle.ice_look.specs.declared.place.Place.TheVariants.{File, Dir, Missing, Blocked}
+use Rattle.ice_look.specs.Ends.{IsEnds, IsSpot}
+use Rattle.ice_tree.specs.Quotas.{Needs, quota_refusal}
+use Rattle.ice_tree.specs.Makes.{Takes, new_operation, new_refusal}
+use Rattle.ice_look.specs.Places.{place_by}
+use Rattle.ice_look.specs.Stages.{or_else, walk_refusal, paths_refusal}
 use Rattle.ice_tree.proofs.Chains.{refusal_mkdir, refusal_make}
-use Rattle.ice_tree.proofs.EndLaws.{names-last}
-use Rattle.ice_tree.proofs.LookLaws.{ends_file, ends_dir, ends_missing, ends_blocked}
+use Rattle.ice_look.proofs.LookLaws.{ends_file, ends_dir, ends_missing, ends_blocked}
 use Rattle.ice_tree.proofs.MakeLaws.{made, next-made}
-
--- ---- the last name
-
-last-more : (names : List (List ℕ)) (c : List ℕ) → last_name (names ++ c ∷ []) ≡ c
-last-more [] c = refl
-last-more (d ∷ []) c = refl
-last-more (d ∷ e ∷ names) c = last-more (e ∷ names) c
-
-any-end : (test : List ℕ → Bool) (names : List (List ℕ)) (c : List ℕ) → list_any test (names ++ c ∷ []) ≡ false → test c ≡ false
-any-end test [] c h = first_false (test c) false h
-any-end test (d ∷ names) c h = any-end test names c (second_false (test d) (list_any test (names ++ c ∷ [])) h)
-
-none-long : (a b : Bool) → (if a then Some why.NameLong else (if b then Some why.TooDeep else None)) ≡ None → a ≡ false
-none-long true b h = absurd cc
-none-long false b h = refl
-
--- it is name `last` of the path
-pub last-is : (path : List (List ℕ)) (depth last : ℕ) (name : List ℕ) → depth ≤ last → last + 1 ≡ length path → name ≡ get_or path last [] → name ≡ last_name (drop depth path)
-last-is path depth last name h e is =
-    let whole = names-last path depth last name h e is in
-    sym (ap last_name whole ∙ last-more (take (last - depth) (drop depth path)) name)
-
--- and not too long, where no name is
-pub last-short : (f : Form) (path : List (List ℕ)) (depth last : ℕ) (name : List ℕ) → depth ≤ last → last + 1 ≡ length path → name ≡ get_or path last [] → paths_refusal f (drop depth path ∷ []) ≡ None → length name ≤ f.longest_name
-last-short f path depth last name h e is none =
-    let long : List ℕ → Bool = λ (c : List ℕ). nat_lt f.longest_name (length c) in
-    let whole = names-last path depth last name h e is in
-    let each : list_any long (drop depth path) ≡ false = first_false (list_any long (drop depth path)) false (none-long (list_any (λ p. list_any (λ c. nat_lt f.longest_name (length c)) p) (drop depth path ∷ [])) _ none) in
-    let one : nat_lt f.longest_name (length name) ≡ false = any-end long (take (last - depth) (drop depth path)) name (sym (ap (list_any long) whole) ∙ each) in
-    grind (arith, nat_tests)
 
 -- ---- the place
 
@@ -90,9 +61,6 @@ module _ (f : Form) (o : Table) (p : Names) (t : Tree) (ends : Ends) (is : IsEnd
 
       after : new_refusal p t ≡ rest p t
       after = by-walk p t (Found (tree.Dir dir.0)) dir.1
-
-      pub root_taken : is_root p ≡ true → new_refusal p t ≡ Some why.IsRoot
-      root_taken h = after ∙ ap (λ b. or_else (if b then Some why.IsRoot else None) (if is_found (walk p t) then Some why.Exists else None)) h
 
       below : is_root p ≡ false → new_refusal p t ≡ (if is_found (walk p t) then Some why.Exists else None)
       below h = after ∙ ap (λ b. or_else (if b then Some why.IsRoot else None) (if is_found (walk p t) then Some why.Exists else None)) h
@@ -162,7 +130,7 @@ new-needs f one o p t spot dir is none b c more less =
     record { nodes_move = omega arith; blocks_move = omega arith }
 
 -- what was found before a look holds after it
-pub takes-after : (f : Form) (mode : ℕ) (lot : LotView) (m m' : Map) (t : Tree) (k : ℕ) (p : Names) (dir : Bool) (spot : Spot) (name : List ℕ) → m' ≡ m → MapRecovers f mode lot m t k → IsSpot f (own_in f m) (parent p) t spot
+pub takes-after : (f : Form) (mode : ℕ) (lot : LotView) (m m' : Map) (t : Tree) (k : ℕ) (p : Names) (dir : Bool) (spot : Spot) (name : List ℕ) → m' ≡ m → MapRecovers f mode lot m t k → IsSpot f (own f m) (parent p) t spot
     → name ≡ last_name p → is_name name ≡ true → refusal t k (length lot.groups) f (new_operation dir p) ≡ None → Takes f mode lot m' t k p dir spot name
 takes-after f mode lot m m' t k p dir spot name same r is last proper none =
     subst (λ (x : Map). Takes f mode lot x t k p dir spot name) (sym same) (record { recovers = r; spot_is = is; name_is = last; proper = proper; accepted = none })

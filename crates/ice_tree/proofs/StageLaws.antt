@@ -8,9 +8,9 @@ use Rattle.tree_spec.specs.declared.reply.Refusal.{Refusal}
 use Rattle.ice_base.specs.Lots.{LotView}
 use Rattle.ice_reads.specs.Tables.{Map}
 use Rattle.ice_reads.specs.Recovers.{MapRecovers}
-use Rattle.ice_tree.specs.Outcomes.{RefusedAs}
-use Rattle.ice_tree.specs.Stages.{or_else}
-use Rattle.ice_tree.proofs.LookLaws.{later_stage}
+use Rattle.ice_look.specs.Outcomes.{RefusedAs}
+use Rattle.ice_look.specs.Stages.{or_else}
+use Rattle.ice_look.proofs.LookLaws.{later_stage}
 
 -- a stage that refuses decides
 pub refused-now : (x : Refused) (a b : Option Why) → RefusedAs x a → RefusedAs x (or_else a b)

@@ -6,41 +6,43 @@ use Rattle.ice_map.specs.Inodes.{inode_of}
 use Rattle.ice_map.specs.Maps.{cut_off, FreeOrTwice, Misleads}
 use Rattle.ice_map.proofs.UsesLaws.{off-free}
 use Rattle.ice_file.specs.Files.{ReachesTo}
-use Rattle.ice_file.specs.Own.{WellMade, MadeOf, Confuses, blocks_for}
-use Rattle.ice_file.proofs.DamageLaws.{misled-unmade, confused-unmade, free-unmade}
+use Rattle.ice_map.specs.Own.{WellMade, MadeOf, Confuses, blocks_for}
+use Rattle.ice_map.proofs.MadeLaws.{misled-unmade, confused-unmade, free-unmade}
 use Rattle.ice_file.proofs.WriteLaws.{count-less}
 use Rattle.ice_dir.specs.Changes.{dir_blocks, dir_uses}
 use Rattle.ice_dir.specs.Rows.{IsDirectory}
-use Rattle.ice_tree.proofs.MapDamage.{map-dir, map-file}
+use Rattle.tree_spec.specs.Costs.{Form, form_one}
+use Rattle.ice_map.proofs.OwnLaws.{made-short}
+use Rattle.ice_look.proofs.MapDamage.{map-dir, map-file}
 
 -- what a failed call says of its fault
 pub err-at : {T E : Type 0} (P : E → Type 0) (r : Result T E) (e : E) → r ≡ Err e → IfErr r P → P e
 err-at P r e is h = subst (λ x. IfErr x P) is h
 
-module _ (lot : LotView) (entry : ℕ) (m : ℕ → List ℕ) (number : ℕ) where
-  made-dir : IsDirectory lot (inode_of m number) → WellMade lot entry m number → MadeOf lot m (inode_of m number) (dir_blocks entry (inode_of m number).size)
-  made-dir d made = subst (MadeOf lot m (inode_of m number)) (map-dir entry (inode_of m number) d.kind) made
+module _ (lot : LotView) (form : Form) (one : form ≡ form_one) (m : ℕ → List ℕ) (number : ℕ) where
+  made-dir : IsDirectory lot (inode_of m number) → WellMade lot form m number → MadeOf lot m (inode_of m number) (dir_blocks form (inode_of m number).size)
+  made-dir d made = subst (MadeOf lot m (inode_of m number)) (map-dir form (inode_of m number) d.kind) (made-short lot form one m number made)
 
-  pub dir-free : IsDirectory lot (inode_of m number) → FreeOrTwice m (dir_uses entry m number) → ¬ WellMade lot entry m number
-  dir-free d bad made = free-unmade lot m (inode_of m number) (dir_blocks entry (inode_of m number).size) bad (made-dir d made)
+  pub dir-free : IsDirectory lot (inode_of m number) → FreeOrTwice m (dir_uses form m number) → ¬ WellMade lot form m number
+  dir-free d bad made = free-unmade lot m (inode_of m number) (dir_blocks form (inode_of m number).size) bad (made-dir d made)
 
-  pub dir-confused : IsDirectory lot (inode_of m number) → Confuses lot m (inode_of m number) (dir_blocks entry (inode_of m number).size) → ¬ WellMade lot entry m number
-  dir-confused d bad made = confused-unmade lot m (inode_of m number) (dir_blocks entry (inode_of m number).size) bad (made-dir d made)
+  pub dir-confused : IsDirectory lot (inode_of m number) → Confuses lot m (inode_of m number) (dir_blocks form (inode_of m number).size) → ¬ WellMade lot form m number
+  dir-confused d bad made = confused-unmade lot m (inode_of m number) (dir_blocks form (inode_of m number).size) bad (made-dir d made)
 
-  pub dir-misled : IsDirectory lot (inode_of m number) → Misleads lot m (inode_of m number) (dir_blocks entry (inode_of m number).size) → ¬ WellMade lot entry m number
-  dir-misled d bad made = misled-unmade lot m (inode_of m number) (dir_blocks entry (inode_of m number).size) bad (made-dir d made)
+  pub dir-misled : IsDirectory lot (inode_of m number) → Misleads lot m (inode_of m number) (dir_blocks form (inode_of m number).size) → ¬ WellMade lot form m number
+  dir-misled d bad made = misled-unmade lot m (inode_of m number) (dir_blocks form (inode_of m number).size) bad (made-dir d made)
 
-  module _ (at : ℕ) (file : ReachesTo at (inode_of m number)) where
-    made-file : WellMade lot entry m number → MadeOf lot m (inode_of m number) (blocks_for (inode_of m number).size)
-    made-file made = subst (MadeOf lot m (inode_of m number)) (map-file entry (inode_of m number) file.kind) made
+  module _ (at : ℕ) (file : ReachesTo form at (inode_of m number)) where
+    made-file : WellMade lot form m number → MadeOf lot m (inode_of m number) (blocks_for (inode_of m number).size)
+    made-file made = subst (MadeOf lot m (inode_of m number)) (map-file form (inode_of m number) file.kind) (made-short lot form one m number made)
 
-    pub file-confused : Confuses lot m (inode_of m number) (blocks_for (inode_of m number).size) → ¬ WellMade lot entry m number
+    pub file-confused : Confuses lot m (inode_of m number) (blocks_for (inode_of m number).size) → ¬ WellMade lot form m number
     file-confused bad made = confused-unmade lot m (inode_of m number) (blocks_for (inode_of m number).size) bad (made-file made)
 
-    pub file-misled : Misleads lot m (inode_of m number) (blocks_for (inode_of m number).size) → ¬ WellMade lot entry m number
+    pub file-misled : Misleads lot m (inode_of m number) (blocks_for (inode_of m number).size) → ¬ WellMade lot form m number
     file-misled bad made = misled-unmade lot m (inode_of m number) (blocks_for (inode_of m number).size) bad (made-file made)
 
-    pub file-free : FreeOrTwice m (cut_off m (inode_of m number) (blocks_for (inode_of m number).size) (blocks_for at)) → ¬ WellMade lot entry m number
+    pub file-free : FreeOrTwice m (cut_off m (inode_of m number) (blocks_for (inode_of m number).size) (blocks_for at)) → ¬ WellMade lot form m number
     file-free bad made =
         free-unmade lot m (inode_of m number) (blocks_for (inode_of m number).size)
         (off-free m (inode_of m number) (blocks_for (inode_of m number).size) (blocks_for at) (count-less at (inode_of m number).size file.reaches) bad) (made-file made)

@@ -1,9 +1,6 @@
-pub mod Places
-pub mod Broken
 pub mod Outcomes
-pub mod Stages
-pub mod Changes
-pub mod Moves
+pub mod Quotas
+pub mod Makes
+pub mod Writes
+pub mod Removes
 pub mod Renames
-pub mod Listings
-pub mod Grounds

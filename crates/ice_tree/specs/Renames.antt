@@ -1,18 +1,37 @@
 -- Trees that are moved.
-use Rattle.std.specs.Prelude.{◌≡◌, ℕ, ◌||◌, List, length, Option, Some, None, if◌then◌else◌}
+use Rattle.std.specs.Prelude.{◌≡◌, ◌≤◌, ◌<◌, ℕ, ◌*◌, Bool, true, false, List, length, Some, ◌||◌, Option, None, if◌then◌else◌, ◌≢◌, ◌+◌, ◌-◌}
 use Rattle.ice_base.specs.Lots.{LotView}
+use Rattle.ice_dir.specs.Rows.{rows_of, look_up}
+use Rattle.tree_spec.specs.Trees.{Tree, NotFound, NotDir, walk, parent, last_name, parent_walk}
+use Rattle.tree_spec.specs.Costs.{Form}
+use Rattle.ice_reads.specs.Tables.{Table, Map}
+use Rattle.ice_map.specs.Own.{own}
+use Rattle.ice_look.specs.declared.place.Place.{Place}
+use Rattle.ice_look.specs.declared.place.Place.TheVariants.{File, Dir}
 use Rattle.tree_spec.specs.Why.{Why}
 use Rattle.tree_spec.specs.Why as why
-use Rattle.tree_spec.specs.Trees.{Tree, walk, parent, last_name, parent_walk}
-use Rattle.tree_spec.specs.Costs.{Form}
 use Rattle.tree_spec.specs.Routes.{is_same_path}
 use Rattle.tree_spec.specs.Operations.{Rename}
 use Rattle.tree_spec.specs.Answers.{refusal, is_root, is_not_found, is_not_dir, is_taken, moves_too_deep, moves_into_itself}
-use Rattle.ice_reads.specs.Tables.{Map, Table, own_in}
 use Rattle.ice_reads.specs.Recovers.{MapRecovers}
 use Rattle.ice_tree.specs.declared.renames.Move.{Move}
-use Rattle.ice_tree.specs.Changes.{IsSpot, SpotFits}
-use Rattle.ice_tree.specs.Stages.{or_else}
+use Rattle.ice_look.specs.Ends.{IsSpot, SpotFits, SpotIs}
+use Rattle.ice_look.specs.Stages.{or_else}
+use Rattle.ice_base.specs.Used.{counted, free_count}
+use Rattle.ice_map.specs.Moves.{uses_of}
+use Rattle.ice_dir.specs.Changes.{dir_blocks}
+use Rattle.ice_tree.specs.Quotas.{CanCount}
+
+-- whether a file or a directory stands at a place
+abbrev pub is_place : Place → Bool
+is_place (File number size) = true
+is_place (Dir number size) = true
+is_place _ = false
+
+-- whether a directory does
+abbrev pub is_dir_place : Place → Bool
+is_dir_place (Dir number size) = true
+is_dir_place _ = false
 
 -- the refusal of a rename by how high the tree is that it moves
 abbrev pub height_refusal : List (List ℕ) → List (List ℕ) → Tree → Option Why
@@ -44,7 +63,22 @@ pub record MoveFits (lot : LotView) (step : Move) : Type 0 where
 -- the map recovers a tree that takes the rename, and the names are the last ones of the paths
 pub record Renames (f : Form) (mode : ℕ) (lot : LotView) (m : Map) (t : Tree) (k : ℕ) (p q : List (List ℕ)) (step : Move) (name new : List ℕ) : Type 0 where
   pub recovers : MapRecovers f mode lot m t k
-  pub move_is : IsMove f (own_in f m) p q t step
+  pub move_is : IsMove f (own f m) p q t step
   pub name_is : name ≡ last_name p
   pub new_is : new ≡ last_name q
   pub accepted : refusal t k (length lot.groups) f (Rename p q) ≡ None
+
+-- what is renamed: a directory names it so, and another one is to take it
+pub record MoveIs (form : Form) (lot : LotView) (m : ℕ → List ℕ) (name : List ℕ) (step : Move) : Type 0 where
+  pub from_is : SpotIs form lot m step.from
+  pub to_is : SpotIs form lot m step.to
+  pub number : ℕ
+  pub below : number < 64 * length lot.groups
+  pub named : look_up name (rows_of form m step.from.number) ≡ Some number
+
+-- as many inodes and blocks are there as a rename needs, and one more operation can be counted
+pub record RowFits (form : Form) (lot : LotView) (m : ℕ → List ℕ) (step : Move) : Type 0 where
+  pub room : step.from.number ≢ step.to.number → step.from.entries + step.to.entries < 64 * length lot.groups
+  pub blocks : step.same ≡ false → step.from.number ≢ step.to.number
+      → uses_of (dir_blocks form (step.to.entries + 1)) + uses_of (dir_blocks form (step.from.entries - 1)) ≤ uses_of (dir_blocks form step.to.entries) + uses_of (dir_blocks form step.from.entries) + free_count false lot m
+  pub done : CanCount m

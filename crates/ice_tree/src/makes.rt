@@ -14,22 +14,21 @@ ghost use Rattle.tree_spec.specs.Trees.{Tree, parent};
 ghost use Rattle.tree_spec.specs.Why.{Why};
 ghost use Rattle.tree_spec.specs.declared.reply.Refusal.TheVariants.{Fault, Damaged, NotFound, NotDir, IsRoot, Exists};
 ghost use Rattle.ice_reads.specs.Recovers.{MapRecovers};
-ghost use Rattle.ice_reads.specs.Tables.{Table, own_in};
+ghost use Rattle.ice_reads.specs.Tables.{Table};
+ghost use Rattle.ice_map.specs.Own.{own};
 ghost use Rattle.ice_rules.specs.Rules.{rule_number};
-ghost use Rattle.ice_tree.specs.Broken.{IsBroken, IsBrokenBy};
-ghost use Rattle.ice_tree.specs.Changes.{IsEnds, EndsFit, IsSpot, SpotFits, new_operation, new_refusal, new_inode, Takes};
-ghost use Rattle.ice_tree.specs.Grounds.{EndsAre, SpotIs, NewFits};
-ghost use Rattle.ice_tree.specs.Outcomes.{AsModel, RefusedAs, meant_plain, ShownBy, IsOneOf, IsNamedIn, make_refusals, change_rules};
-ghost use Rattle.ice_tree.specs.Stages.{paths_refusal};
+ghost use Rattle.ice_look.specs.Broken.{IsBroken, IsBrokenBy};
+ghost use Rattle.ice_look.specs.Ends.{IsEnds, EndsFit, IsSpot, SpotFits, EndsAre, SpotIs};
+ghost use Rattle.ice_tree.specs.Makes.{new_operation, new_refusal, new_inode, Takes, NewFits};
+ghost use Rattle.ice_look.specs.Outcomes.{AsModel, RefusedAs, meant_plain, ShownBy, IsOneOf};
+ghost use Rattle.ice_tree.specs.Outcomes.{IsNamedIn, make_refusals, change_rules};
+ghost use Rattle.ice_look.specs.Stages.{paths_refusal};
 
 use crate::counts::count_up;
-use crate::ends::{Ends, Spot, find_ends, last_of};
-use crate::fault::refusal_of;
-use crate::paths::check_path;
-use crate::place::Place;
 use crate::quota::{Need, check_quota, dir_cost};
 use ice_base::{Disk, Form, Keep, Lot, OpFault, Pool, Rule};
 use ice_dir::add;
+use ice_look::{Ends, Place, Spot, check_path, find_ends, last_of, refusal_of};
 use ice_map::{Inode, put_inode};
 use tree_spec::{Name, Path, Refusal};
 
@@ -81,7 +80,7 @@ fn check_new<D: Disk, K: Keep<D>, P: Pool<D, K>, F: Form>(
     requires depth { depth ≤ length path.now }
     ensures spot { (dir : Bool) (mode k : ℕ) (t : Tree) → IfShown K.View lot.now keep.old disk.old (λ old.
         MapRecovers (form_of F.VERSION) mode lot.now old t k
-        → MatchResult result (λ spot. IsSpot (form_of F.VERSION) (own_in (form_of F.VERSION) old) (parent (drop depth path.now)) t spot × (refusal t k (length lot.now.groups) (form_of F.VERSION) (new_operation dir (drop depth path.now)) ≡ None)) (λ r. RefusedAs (refused_of r) (refusal t k (length lot.now.groups) (form_of F.VERSION) (new_operation dir (drop depth path.now))))) }
+        → MatchResult result (λ spot. IsSpot (form_of F.VERSION) (own (form_of F.VERSION) old) (parent (drop depth path.now)) t spot × (refusal t k (length lot.now.groups) (form_of F.VERSION) (new_operation dir (drop depth path.now)) ≡ None)) (λ r. RefusedAs (refused_of r) (refusal t k (length lot.now.groups) (form_of F.VERSION) (new_operation dir (drop depth path.now))))) }
     ensures fits { IfOk result (SpotFits lot.now) }
     ensures below { OnOk result (depth < length path.now) }
     ensures paths { ShownBy (paths_refusal (form_of F.VERSION) (drop depth path.now ∷ [])) result }
@@ -89,9 +88,9 @@ fn check_new<D: Disk, K: Keep<D>, P: Pool<D, K>, F: Form>(
         → (disk.new ≡ disk.old) × (keep.new ≡ keep.old) × (pool.new ≡ pool.old) }
     ensures looked { Looked D.Disk K.View lot.now keep.old disk.old keep.new disk.new }
     ensures ready { IfShown K.View lot.now keep.old disk.old (λ old.
-        IfOk result (NewFits F.ENTRY lot.now old)) }
+        IfOk result (NewFits (form_of F.VERSION) lot.now old)) }
     ensures damaged { (n : ℕ) → IsErrOf result (Damaged n) → IfShown K.View lot.now keep.old disk.old (λ old.
-        (r : Rule) × (n ≡ rule_number r) × IsBroken F.ENTRY lot.now old r) }
+        (r : Rule) × (n ≡ rule_number r) × IsBroken (form_of F.VERSION) lot.now old r) }
     ensures set { IfErr result (IsOneOf make_refusals change_rules) }
     ensures failed { IsErrOf result Fault → Rose (D.state disk.old).faults (D.state disk.new).faults }
 {
@@ -160,7 +159,7 @@ fn put_node<D: Disk, K: Keep<D>, P: Pool<D, K>, F: Form>(
         → IfErr result (λ e. e ≡ FaultDisk)) }
     ensures spent { Spent D.Disk K.View lot.now 11 keep.old disk.old keep.new disk.new }
     ensures broken { IfShown K.View lot.now keep.old disk.old (λ old.
-        NewFits F.ENTRY lot.now old spot.now → IfErr result (IsBrokenBy F.ENTRY lot.now old)) }
+        NewFits (form_of F.VERSION) lot.now old spot.now → IfErr result (IsBrokenBy (form_of F.VERSION) lot.now old)) }
     ensures done { AsShown K.View lot.now keep.old disk.old keep.new disk.new (λ old new.
         OnOk result (long_at (new sub_address) 16 ≡ long_at (old sub_address) 16)) }
     ensures faults { IfErr result (IsNamedIn change_rules) }
@@ -200,7 +199,7 @@ fn put_new<D: Disk, K: Keep<D>, P: Pool<D, K>, F: Form>(
     ensures counted { OnOk result (K.held keep.new sub_address ≡ true) }
     ensures spent { Spent D.Disk K.View lot.now 12 keep.old disk.old keep.new disk.new }
     ensures broken { IfShown K.View lot.now keep.old disk.old (λ old.
-        NewFits F.ENTRY lot.now old spot.now → IfErr result (IsBrokenBy F.ENTRY lot.now old)) }
+        NewFits (form_of F.VERSION) lot.now old spot.now → IfErr result (IsBrokenBy (form_of F.VERSION) lot.now old)) }
     ensures faults { IfErr result (IsNamedIn change_rules) }
     ensures failed { IsErrOf result FaultDisk → Rose (D.state disk.old).faults (D.state disk.new).faults }
 {
@@ -238,7 +237,7 @@ fn make_node<D: Disk, K: Keep<D>, P: Pool<D, K>, F: Form>(
         → Looked D.Disk K.View lot.now keep.old disk.old keep.new disk.new) }
     ensures spent { Spent D.Disk K.View lot.now 96 keep.old disk.old keep.new disk.new }
     ensures damaged { (n : ℕ) → IsErrOf result (Damaged n) → IfShown K.View lot.now keep.old disk.old (λ old.
-        (r : Rule) × (n ≡ rule_number r) × IsBroken F.ENTRY lot.now old r) }
+        (r : Rule) × (n ≡ rule_number r) × IsBroken (form_of F.VERSION) lot.now old r) }
     ensures set { IfErr result (IsOneOf make_refusals change_rules) }
     ensures failed { IsErrOf result Fault → Rose (D.state disk.old).faults (D.state disk.new).faults }
 {
@@ -281,7 +280,7 @@ pub fn mkdir<D: Disk, K: Keep<D>, P: Pool<D, K>, F: Form>(
         → Looked D.Disk K.View lot.now keep.old disk.old keep.new disk.new) }
     ensures spent { Spent D.Disk K.View lot.now 96 keep.old disk.old keep.new disk.new }
     ensures damaged { (n : ℕ) → IsErrOf result (Damaged n) → IfShown K.View lot.now keep.old disk.old (λ old.
-        (r : Rule) × (n ≡ rule_number r) × IsBroken F.ENTRY lot.now old r) }
+        (r : Rule) × (n ≡ rule_number r) × IsBroken (form_of F.VERSION) lot.now old r) }
     ensures set { IfErr result (IsOneOf make_refusals change_rules) }
     ensures failed { IsErrOf result Fault → Rose (D.state disk.old).faults (D.state disk.new).faults }
 {
@@ -316,7 +315,7 @@ pub fn make<D: Disk, K: Keep<D>, P: Pool<D, K>, F: Form>(
         → Looked D.Disk K.View lot.now keep.old disk.old keep.new disk.new) }
     ensures spent { Spent D.Disk K.View lot.now 96 keep.old disk.old keep.new disk.new }
     ensures damaged { (n : ℕ) → IsErrOf result (Damaged n) → IfShown K.View lot.now keep.old disk.old (λ old.
-        (r : Rule) × (n ≡ rule_number r) × IsBroken F.ENTRY lot.now old r) }
+        (r : Rule) × (n ≡ rule_number r) × IsBroken (form_of F.VERSION) lot.now old r) }
     ensures set { IfErr result (IsOneOf make_refusals change_rules) }
     ensures failed { IsErrOf result Fault → Rose (D.state disk.old).faults (D.state disk.new).faults }
 {

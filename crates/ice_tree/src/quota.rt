@@ -5,22 +5,20 @@ ghost use Rattle.ice_base.specs.Lots.{is_sited};
 ghost use Rattle.ice_base.specs.Used.{free_count};
 ghost use Rattle.ice_base.specs.Views.{Looked, IfShown};
 ghost use Rattle.ice_base.specs.declared.fault.Rule.{Rule};
-ghost use Rattle.tree_spec.specs.Costs.{form_of, map_cost, file_blocks, dir_blocks};
+ghost use Rattle.tree_spec.specs.Costs.{form_of, map_cost, file_blocks, dir_blocks, form_one};
 ghost use Rattle.tree_spec.specs.Replies.{refused_of};
 ghost use Rattle.tree_spec.specs.Trees.{Tree};
 ghost use Rattle.tree_spec.specs.declared.reply.Refusal.TheVariants.{NoNodes, NoSpace, Fault, Damaged};
-ghost use Rattle.ice_file.specs.Files.{longest_file};
 ghost use Rattle.ice_reads.specs.Recovers.{MapRecovers};
 ghost use Rattle.ice_rules.specs.Rules.{rule_number};
-ghost use Rattle.ice_tree.specs.Broken.{IsBroken};
-ghost use Rattle.ice_tree.specs.Changes.{Needs};
-ghost use Rattle.ice_tree.specs.Grounds.{CanCount, HasFree};
-ghost use Rattle.ice_tree.specs.Outcomes.{RefusedAs, IsOneOf, sub_rules};
-ghost use Rattle.ice_tree.specs.Stages.{quota_refusal, nodes_refusal, blocks_refusal, done_refusal};
+ghost use Rattle.ice_look.specs.Broken.{IsBroken};
+ghost use Rattle.ice_tree.specs.Quotas.{Needs, CanCount, HasFree, quota_refusal, nodes_refusal, blocks_refusal, done_refusal};
+ghost use Rattle.ice_look.specs.Outcomes.{RefusedAs, IsOneOf};
+ghost use Rattle.ice_tree.specs.Outcomes.{sub_rules};
 
 use crate::counts::{MOST_DONE, done_of};
-use crate::fault::refusal_of;
 use ice_base::{Disk, Form, Keep, Lot, Pool};
+use ice_look::refusal_of;
 use tree_spec::Refusal;
 
 /// What a change adds to what a tree has, and what it takes from it.
@@ -42,7 +40,7 @@ fn whole_map(count: u32) -> u32
 
 /// The blocks of a file of so many bytes.
 pub(crate) fn file_cost(size: u32) -> u32
-    requires { size ≤ longest_file }
+    requires { size ≤ form_one.longest_file }
     ensures { result ≡ map_cost (file_blocks size) }
 {
     whole_map(size.div_ceil(1024))
@@ -71,7 +69,7 @@ fn check_nodes<D: Disk, K: Keep<D>, P: Pool<D, K>, F: Form>(
     ensures enough { IfShown K.View lot.now keep.old disk.old (λ old.
         OnOk result (need.now.nodes ≤ need.now.lost + free_count true lot.now old)) }
     ensures damaged { (n : ℕ) → IsErrOf result (Damaged n) → IfShown K.View lot.now keep.old disk.old (λ old.
-        (r : Rule) × (n ≡ rule_number r) × IsBroken F.ENTRY lot.now old r) }
+        (r : Rule) × (n ≡ rule_number r) × IsBroken (form_of F.VERSION) lot.now old r) }
     ensures looked { Looked D.Disk K.View lot.now keep.old disk.old keep.new disk.new }
     ensures more { IsErrOf result NoNodes → need.now.lost < need.now.nodes }
     ensures set { IfErr result (IsOneOf (12 ∷ []) []) }
@@ -106,7 +104,7 @@ fn check_blocks<D: Disk, K: Keep<D>, P: Pool<D, K>, F: Form>(
     ensures enough { IfShown K.View lot.now keep.old disk.old (λ old.
         OnOk result (need.now.blocks ≤ need.now.freed + free_count false lot.now old)) }
     ensures damaged { (n : ℕ) → IsErrOf result (Damaged n) → IfShown K.View lot.now keep.old disk.old (λ old.
-        (r : Rule) × (n ≡ rule_number r) × IsBroken F.ENTRY lot.now old r) }
+        (r : Rule) × (n ≡ rule_number r) × IsBroken (form_of F.VERSION) lot.now old r) }
     ensures looked { Looked D.Disk K.View lot.now keep.old disk.old keep.new disk.new }
     ensures more { IsErrOf result NoSpace → need.now.freed < need.now.blocks }
     ensures set { IfErr result (IsOneOf (13 ∷ []) []) }
@@ -138,7 +136,7 @@ fn check_done<D: Disk, K: Keep<D>, F: Form>(
         → MatchResult result (λ u. done_refusal k ≡ None) (λ r. RefusedAs (refused_of r) (done_refusal k))) }
     ensures enough { IfShown K.View lot.now keep.old disk.old (λ old. OnOk result (CanCount old)) }
     ensures damaged { (n : ℕ) → IsErrOf result (Damaged n) → IfShown K.View lot.now keep.old disk.old (λ old.
-        (r : Rule) × (n ≡ rule_number r) × IsBroken F.ENTRY lot.now old r) }
+        (r : Rule) × (n ≡ rule_number r) × IsBroken (form_of F.VERSION) lot.now old r) }
     ensures looked { Looked D.Disk K.View lot.now keep.old disk.old keep.new disk.new }
     ensures set { IfErr result (IsOneOf (14 ∷ []) sub_rules) }
     ensures failed { IsErrOf result Fault → Rose (D.state disk.old).faults (D.state disk.new).faults }
@@ -169,7 +167,7 @@ pub(crate) fn check_quota<D: Disk, K: Keep<D>, P: Pool<D, K>, F: Form>(
     ensures enough { IfShown K.View lot.now keep.old disk.old (λ old.
         OnOk result (HasFree lot.now old need.now)) }
     ensures damaged { (n : ℕ) → IsErrOf result (Damaged n) → IfShown K.View lot.now keep.old disk.old (λ old.
-        (r : Rule) × (n ≡ rule_number r) × IsBroken F.ENTRY lot.now old r) }
+        (r : Rule) × (n ≡ rule_number r) × IsBroken (form_of F.VERSION) lot.now old r) }
     ensures looked { Looked D.Disk K.View lot.now keep.old disk.old keep.new disk.new }
     ensures more_nodes { IsErrOf result NoNodes → need.now.lost < need.now.nodes }
     ensures more_blocks { IsErrOf result NoSpace → need.now.freed < need.now.blocks }

@@ -16,29 +16,28 @@ ghost use Rattle.tree_spec.specs.Replies.{number_of, refused_of};
 ghost use Rattle.tree_spec.specs.Trees.{Tree, last_name};
 ghost use Rattle.tree_spec.specs.Why.{Why};
 ghost use Rattle.tree_spec.specs.declared.reply.Refusal.TheVariants.{NotDir, Fault, Damaged};
-ghost use Rattle.ice_reads.specs.Tables.{Table, own_in};
+ghost use Rattle.ice_reads.specs.Tables.{Table};
+ghost use Rattle.ice_map.specs.Own.{own};
 ghost use Rattle.ice_reads.specs.Reads.{inode_on};
 ghost use Rattle.ice_reads.specs.Recovers.{MapRecovers};
 ghost use Rattle.ice_steps.specs.Beside.{Beside};
 ghost use Rattle.ice_rules.specs.Rules.{rule_number};
-ghost use Rattle.ice_tree.specs.Broken.{IsBroken, IsBrokenBy, IsFaultBy};
-ghost use Rattle.ice_tree.specs.Changes.{IsEnds, EndsFit};
-ghost use Rattle.ice_tree.specs.Grounds.{CanCount, EndsAre, GoneIs, LooseBroken};
-ghost use Rattle.ice_tree.specs.Moves.{gone_refusal, IsGone, GoneFits, Loses, StandsLoose, free_inode, Freed};
-ghost use Rattle.ice_tree.specs.Outcomes.{AsModel, RefusedAs, meant_plain, ShownBy, IsOneOf, IsNamedIn, remove_refusals, sub_rules, change_rules};
-ghost use Rattle.ice_tree.specs.Places.{PlaceNamed};
-ghost use Rattle.ice_tree.specs.declared.place.Place.TheVariants.{Dir};
-ghost use Rattle.ice_tree.specs.Stages.{or_else, paths_refusal, quota_refusal};
+ghost use Rattle.ice_look.specs.Broken.{IsBroken, IsBrokenBy, IsFaultBy};
+ghost use Rattle.ice_look.specs.Ends.{IsEnds, EndsFit, EndsAre};
+ghost use Rattle.ice_tree.specs.Quotas.{CanCount, quota_refusal};
+ghost use Rattle.ice_tree.specs.Removes.{GoneIs, LooseBroken, gone_refusal, IsGone, GoneFits, Loses, StandsLoose, free_inode, Freed};
+ghost use Rattle.ice_look.specs.Outcomes.{AsModel, RefusedAs, meant_plain, ShownBy, IsOneOf};
+ghost use Rattle.ice_tree.specs.Outcomes.{IsNamedIn, remove_refusals, sub_rules, change_rules};
+ghost use Rattle.ice_look.specs.Places.{PlaceNamed};
+ghost use Rattle.ice_look.specs.declared.place.Place.TheVariants.{Dir};
+ghost use Rattle.ice_look.specs.Stages.{or_else, paths_refusal};
 
 use crate::counts::count_up;
-use crate::ends::{Ends, Spot, find_ends, last_of};
-use crate::fault::refusal_of;
-use crate::paths::check_path;
-use crate::place::Place;
 use crate::quota::{Need, check_quota, dir_cost, file_cost};
 use ice_base::{Disk, Form, Keep, Lot, OpFault, Pool, Rule, View};
 use ice_dir::take;
 use ice_file::cut_to;
+use ice_look::{Ends, Place, Spot, check_path, find_ends, last_of, refusal_of};
 use ice_map::{Inode, put_inode};
 use tree_spec::{Name, Path, Refusal};
 
@@ -112,14 +111,14 @@ fn find_gone<D: Disk, V: View<D>, F: Form>(
     ensures found { (mode k : ℕ) (t : Tree) → IfShown V.View lot.now view.old disk.old (λ old.
         MapRecovers (form_of F.VERSION) mode lot.now old t k
         → MatchResult result (λ gone. (gone_refusal (drop depth path.now) t ≡ None)
-        × IsGone (form_of F.VERSION) (own_in (form_of F.VERSION) old) (drop depth path.now) t gone) (λ r. RefusedAs (refused_of r) (gone_refusal (drop depth path.now) t))) }
+        × IsGone (form_of F.VERSION) (own (form_of F.VERSION) old) (drop depth path.now) t gone) (λ r. RefusedAs (refused_of r) (gone_refusal (drop depth path.now) t))) }
     ensures fits { IfOk result (GoneFits lot.now) }
     ensures below { OnOk result (depth < length path.now) }
     ensures looked { Looked D.Disk V.View lot.now view.old disk.old view.new disk.new }
     ensures is { IfShown V.View lot.now view.old disk.old (λ old.
-        IfOk result (GoneIs F.ENTRY lot.now old (last_name (drop depth path.now)))) }
+        IfOk result (GoneIs (form_of F.VERSION) lot.now old (last_name (drop depth path.now)))) }
     ensures damaged { (n : ℕ) → IsErrOf result (Damaged n) → IfShown V.View lot.now view.old disk.old (λ old.
-        (r : Rule) × (n ≡ rule_number r) × IsBroken F.ENTRY lot.now old r) }
+        (r : Rule) × (n ≡ rule_number r) × IsBroken (form_of F.VERSION) lot.now old r) }
     ensures set { IfErr result (IsOneOf remove_refusals change_rules) }
     ensures failed { IsErrOf result Fault → Rose (D.state disk.old).faults (D.state disk.new).faults }
 {
@@ -145,13 +144,13 @@ fn check_gone<D: Disk, K: Keep<D>, P: Pool<D, K>, F: Form>(
     ensures quota { (mode k : ℕ) (t : Tree) (p : List (List ℕ))
         → IfShown K.View lot.now keep.old disk.old (λ old.
         MapRecovers (form_of F.VERSION) mode lot.now old t k
-        → IsGone (form_of F.VERSION) (own_in (form_of F.VERSION) old) p t gone.now
+        → IsGone (form_of F.VERSION) (own (form_of F.VERSION) old) p t gone.now
         → gone_refusal p t ≡ None
         → MatchResult result (λ u. quota_refusal (length lot.now.groups) (form_of F.VERSION) k (next (Remove p) t) ≡ None) (λ r. RefusedAs (refused_of r) (quota_refusal (length lot.now.groups) (form_of F.VERSION) k (next (Remove p) t)))) }
     ensures looked { Looked D.Disk K.View lot.now keep.old disk.old keep.new disk.new }
     ensures room { IfShown K.View lot.now keep.old disk.old (λ old. OnOk result (CanCount old)) }
     ensures damaged { (n : ℕ) → IsErrOf result (Damaged n) → IfShown K.View lot.now keep.old disk.old (λ old.
-        (r : Rule) × (n ≡ rule_number r) × IsBroken F.ENTRY lot.now old r) }
+        (r : Rule) × (n ≡ rule_number r) × IsBroken (form_of F.VERSION) lot.now old r) }
     ensures set { IfErr result (IsOneOf remove_refusals sub_rules) }
     ensures failed { IsErrOf result Fault → Rose (D.state disk.old).faults (D.state disk.new).faults }
 {
@@ -178,15 +177,15 @@ fn may_remove<D: Disk, K: Keep<D>, P: Pool<D, K>, F: Form>(
     requires depth { depth ≤ length path.now }
     ensures found { (mode k : ℕ) (t : Tree) → IfShown K.View lot.now keep.old disk.old (λ old.
         MapRecovers (form_of F.VERSION) mode lot.now old t k
-        → MatchResult result (λ gone. (or_else (gone_refusal (drop depth path.now) t) (quota_refusal (length lot.now.groups) (form_of F.VERSION) k (next (Remove (drop depth path.now)) t)) ≡ None) × IsGone (form_of F.VERSION) (own_in (form_of F.VERSION) old) (drop depth path.now) t gone) (λ r. RefusedAs (refused_of r) (or_else (gone_refusal (drop depth path.now) t) (quota_refusal (length lot.now.groups) (form_of F.VERSION) k (next (Remove (drop depth path.now)) t))))) }
+        → MatchResult result (λ gone. (or_else (gone_refusal (drop depth path.now) t) (quota_refusal (length lot.now.groups) (form_of F.VERSION) k (next (Remove (drop depth path.now)) t)) ≡ None) × IsGone (form_of F.VERSION) (own (form_of F.VERSION) old) (drop depth path.now) t gone) (λ r. RefusedAs (refused_of r) (or_else (gone_refusal (drop depth path.now) t) (quota_refusal (length lot.now.groups) (form_of F.VERSION) k (next (Remove (drop depth path.now)) t))))) }
     ensures fits { IfOk result (GoneFits lot.now) }
     ensures below { OnOk result (depth < length path.now) }
     ensures looked { Looked D.Disk K.View lot.now keep.old disk.old keep.new disk.new }
     ensures is { IfShown K.View lot.now keep.old disk.old (λ old.
-        IfOk result (GoneIs F.ENTRY lot.now old (last_name (drop depth path.now)))) }
+        IfOk result (GoneIs (form_of F.VERSION) lot.now old (last_name (drop depth path.now)))) }
     ensures room { IfShown K.View lot.now keep.old disk.old (λ old. OnOk result (CanCount old)) }
     ensures damaged { (n : ℕ) → IsErrOf result (Damaged n) → IfShown K.View lot.now keep.old disk.old (λ old.
-        (r : Rule) × (n ≡ rule_number r) × IsBroken F.ENTRY lot.now old r) }
+        (r : Rule) × (n ≡ rule_number r) × IsBroken (form_of F.VERSION) lot.now old r) }
     ensures set { IfErr result (IsOneOf remove_refusals change_rules) }
     ensures failed { IsErrOf result Fault → Rose (D.state disk.old).faults (D.state disk.new).faults }
 {
@@ -220,7 +219,7 @@ fn drop_bytes<D: Disk, K: Keep<D>, P: Pool<D, K>, F: Form>(
         → IfErr result (λ e. e ≡ FaultDisk)) }
     ensures spent { Spent D.Disk K.View lot.now 72 keep.old disk.old keep.new disk.new }
     ensures broken { IfShown K.View lot.now keep.old disk.old (λ old.
-        (0 < bytes → ReachesTo 0 (inode_of old number))
+        (0 < bytes → ReachesTo (form_of F.VERSION) 0 (inode_of old number))
         → IfErr result (IsFaultBy (LooseBroken lot.now old number))) }
     ensures inodes { AsShown K.View lot.now keep.old disk.old keep.new disk.new (λ old new.
         OnOk result ((i : ℕ) → used_inode new i ≡ used_inode old i)) }
@@ -274,7 +273,7 @@ fn clear<D: Disk, K: Keep<D>, P: Pool<D, K>, F: Form>(
         OnOk result (Freed new number)) }
     ensures spent { Spent D.Disk K.View lot.now 75 keep.old disk.old keep.new disk.new }
     ensures broken { IfShown K.View lot.now keep.old disk.old (λ old.
-        (0 < bytes → ReachesTo 0 (inode_of old number))
+        (0 < bytes → ReachesTo (form_of F.VERSION) 0 (inode_of old number))
         → IfErr result (IsFaultBy (LooseBroken lot.now old number))) }
     ensures done { AsShown K.View lot.now keep.old disk.old keep.new disk.new (λ old new.
         OnOk result (long_at (new sub_address) 16 ≡ long_at (old sub_address) 16)) }
@@ -310,7 +309,7 @@ fn take_away<D: Disk, K: Keep<D>, P: Pool<D, K>, F: Form>(
         OnOk result (Freed new gone.now.number)) }
     ensures spent { Spent D.Disk K.View lot.now 83 keep.old disk.old keep.new disk.new }
     ensures broken { IfShown K.View lot.now keep.old disk.old (λ old.
-        GoneIs F.ENTRY lot.now old name.now gone.now → IfErr result (IsBrokenBy F.ENTRY lot.now old)) }
+        GoneIs (form_of F.VERSION) lot.now old name.now gone.now → IfErr result (IsBrokenBy (form_of F.VERSION) lot.now old)) }
     ensures done { AsShown K.View lot.now keep.old disk.old keep.new disk.new (λ old new.
         OnOk result (long_at (new sub_address) 16 ≡ long_at (old sub_address) 16)) }
     ensures faults { IfErr result (IsNamedIn change_rules) }
@@ -347,8 +346,8 @@ fn put_away<D: Disk, K: Keep<D>, P: Pool<D, K>, F: Form>(
         OnOk result (Freed new gone.now.number)) }
     ensures spent { Spent D.Disk K.View lot.now 84 keep.old disk.old keep.new disk.new }
     ensures broken { IfShown K.View lot.now keep.old disk.old (λ old.
-        GoneIs F.ENTRY lot.now old name.now gone.now → CanCount old
-        → IfErr result (IsBrokenBy F.ENTRY lot.now old)) }
+        GoneIs (form_of F.VERSION) lot.now old name.now gone.now → CanCount old
+        → IfErr result (IsBrokenBy (form_of F.VERSION) lot.now old)) }
     ensures faults { IfErr result (IsNamedIn change_rules) }
     ensures failed { IsErrOf result FaultDisk → Rose (D.state disk.old).faults (D.state disk.new).faults }
 {
@@ -380,7 +379,7 @@ pub fn remove<D: Disk, K: Keep<D>, P: Pool<D, K>, F: Form>(
     ensures freed { (mode k : ℕ) (t : Tree)
         → AsShown K.View lot.now keep.old disk.old keep.new disk.new (λ old new.
         MapRecovers (form_of F.VERSION) mode lot.now old t k
-        → OnOk result (Freed new (inode_on (form_of F.VERSION) (own_in (form_of F.VERSION) old) 0 (drop depth path.now)))) }
+        → OnOk result (Freed new (inode_on (form_of F.VERSION) (own (form_of F.VERSION) old) 0 (drop depth path.now)))) }
     ensures counted { OnOk result (K.held keep.new sub_address ≡ true) }
     ensures paths { ShownBy (paths_refusal (form_of F.VERSION) (drop depth path.now ∷ [])) result }
     ensures untouched { (r : Why) → paths_refusal (form_of F.VERSION) (drop depth path.now ∷ []) ≡ Some r
@@ -389,7 +388,7 @@ pub fn remove<D: Disk, K: Keep<D>, P: Pool<D, K>, F: Form>(
         → Looked D.Disk K.View lot.now keep.old disk.old keep.new disk.new) }
     ensures spent { Spent D.Disk K.View lot.now 96 keep.old disk.old keep.new disk.new }
     ensures damaged { (n : ℕ) → IsErrOf result (Damaged n) → IfShown K.View lot.now keep.old disk.old (λ old.
-        (r : Rule) × (n ≡ rule_number r) × IsBroken F.ENTRY lot.now old r) }
+        (r : Rule) × (n ≡ rule_number r) × IsBroken (form_of F.VERSION) lot.now old r) }
     ensures set { IfErr result (IsOneOf remove_refusals change_rules) }
     ensures failed { IsErrOf result Fault → Rose (D.state disk.old).faults (D.state disk.new).faults }
 {

@@ -14,27 +14,25 @@ ghost use Rattle.tree_spec.specs.Routes.{is_prefix, is_same_name, is_same_path};
 ghost use Rattle.tree_spec.specs.Trees.{last_name, Tree, Walk, needs_dir};
 ghost use Rattle.tree_spec.specs.Why.{Why};
 ghost use Rattle.tree_spec.specs.declared.reply.Refusal.TheVariants.{Fault, Damaged};
-ghost use Rattle.ice_reads.specs.Tables.{Map, Table, own_in};
+ghost use Rattle.ice_reads.specs.Tables.{Map, Table};
+ghost use Rattle.ice_map.specs.Own.{own};
 ghost use Rattle.ice_reads.specs.Recovers.{MapRecovers};
 ghost use Rattle.ice_rules.specs.Rules.{rule_number};
-ghost use Rattle.ice_tree.specs.Broken.{IsBroken, IsBrokenBy};
-ghost use Rattle.ice_tree.specs.Changes.{IsEnds, EndsFit, Needs};
-ghost use Rattle.ice_tree.specs.Grounds.{EndsAre, MoveIs, RowFits};
-ghost use Rattle.ice_tree.specs.Outcomes.{AsModel, RefusedAs, meant_plain, ShownBy, IsOneOf, IsNamedIn, rename_refusals, look_rules, change_rules, list_rules, rename_rules};
-ghost use Rattle.ice_tree.specs.Places.{PlaceFits, PlaceIs, PlaceReached, PlaceNamed, is_place, is_dir_place, place_at, place_by};
-ghost use Rattle.ice_tree.specs.Renames.{height_refusal, ends_refusal, move_refusal, IsMove, MoveFits, Renames};
-ghost use Rattle.ice_tree.specs.Stages.{or_else, paths_refusal, quota_refusal};
-ghost use Rattle.ice_tree.specs.declared.place.Place.TheVariants.{File, Dir, Missing, Blocked};
+ghost use Rattle.ice_look.specs.Broken.{IsBroken, IsBrokenBy};
+ghost use Rattle.ice_look.specs.Ends.{IsEnds, EndsFit, EndsAre};
+ghost use Rattle.ice_tree.specs.Quotas.{Needs, quota_refusal};
+ghost use Rattle.ice_tree.specs.Renames.{MoveIs, RowFits, is_place, is_dir_place, height_refusal, ends_refusal, move_refusal, IsMove, MoveFits, Renames};
+ghost use Rattle.ice_look.specs.Outcomes.{AsModel, RefusedAs, meant_plain, ShownBy, IsOneOf, look_rules, list_rules};
+ghost use Rattle.ice_tree.specs.Outcomes.{IsNamedIn, rename_refusals, change_rules, rename_rules};
+ghost use Rattle.ice_look.specs.Places.{PlaceFits, PlaceIs, PlaceReached, PlaceNamed, place_at, place_by};
+ghost use Rattle.ice_look.specs.Stages.{or_else, paths_refusal};
+ghost use Rattle.ice_look.specs.declared.place.Place.TheVariants.{File, Dir, Missing, Blocked};
 
 use crate::counts::count_up;
-use crate::ends::{Ends, Spot, find_ends};
-use crate::fault::refusal_of;
-use crate::heights::is_higher;
-use crate::paths::{DEEPEST, check_paths};
-use crate::place::Place;
 use crate::quota::{Need, check_quota, dir_cost};
 use ice_base::{Disk, Form, Keep, Lot, OpFault, Pool, Rule, View};
 use ice_dir::{add, take};
+use ice_look::{DEEPEST, Ends, Place, Spot, check_paths, find_ends, is_higher, refusal_of};
 use tree_spec::{Name, Path, Refusal};
 
 /// A rename: the directory that loses an entry, the one that gains it, and whether both paths are one, so that nothing moves.
@@ -150,13 +148,13 @@ fn check_height<D: Disk, V: View<D>, F: Form>(
     ensures height { (mode k : ℕ) (t : Tree) (p q : List (List ℕ))
         → IfShown V.View lot.now view.old disk.old (λ old.
         MapRecovers (form_of F.VERSION) mode lot.now old t k
-        → place ≡ place_at (form_of F.VERSION) (own_in (form_of F.VERSION) old) p t
+        → place ≡ place_at (form_of F.VERSION) (own (form_of F.VERSION) old) p t
         → length p ≡ here → length q ≡ there
         → MatchResult result (λ u. height_refusal p q t ≡ None) (λ r. RefusedAs (refused_of r) (height_refusal p q t))) }
     ensures looked { Looked D.Disk V.View lot.now view.old disk.old view.new disk.new }
     ensures damaged { (n : ℕ) → IsErrOf result (Damaged n) → IfShown V.View lot.now view.old disk.old (λ old.
-        PlaceIs old place → PlaceReached F.ENTRY lot.now old place → (r : Rule) × (n ≡ rule_number r)
-        × IsBroken F.ENTRY lot.now old r) }
+        PlaceIs old place → PlaceReached (form_of F.VERSION) lot.now old place → (r : Rule) × (n ≡ rule_number r)
+        × IsBroken (form_of F.VERSION) lot.now old r) }
     ensures set { IfErr result (IsOneOf rename_refusals list_rules) }
     ensures failed { IsErrOf result Fault → Rose (D.state disk.old).faults (D.state disk.new).faults }
 {
@@ -273,14 +271,14 @@ fn find_move<D: Disk, V: View<D>, F: Form>(
     ensures found { (mode k : ℕ) (t : Tree) → IfShown V.View lot.now view.old disk.old (λ old.
         MapRecovers (form_of F.VERSION) mode lot.now old t k
         → MatchResult result (λ step. (move_refusal (drop depth path.now) (drop depth to.now) t ≡ None)
-        × IsMove (form_of F.VERSION) (own_in (form_of F.VERSION) old) (drop depth path.now) (drop depth to.now) t step) (λ r. RefusedAs (refused_of r) (move_refusal (drop depth path.now) (drop depth to.now) t))) }
+        × IsMove (form_of F.VERSION) (own (form_of F.VERSION) old) (drop depth path.now) (drop depth to.now) t step) (λ r. RefusedAs (refused_of r) (move_refusal (drop depth path.now) (drop depth to.now) t))) }
     ensures fits { IfOk result (MoveFits lot.now) }
     ensures below { OnOk result ((depth < length path.now) × (depth < length to.now)) }
     ensures looked { Looked D.Disk V.View lot.now view.old disk.old view.new disk.new }
     ensures is { IfShown V.View lot.now view.old disk.old (λ old.
-        IfOk result (MoveIs F.ENTRY lot.now old (last_name (drop depth path.now)))) }
+        IfOk result (MoveIs (form_of F.VERSION) lot.now old (last_name (drop depth path.now)))) }
     ensures damaged { (n : ℕ) → IsErrOf result (Damaged n) → IfShown V.View lot.now view.old disk.old (λ old.
-        (r : Rule) × (n ≡ rule_number r) × IsBroken F.ENTRY lot.now old r) }
+        (r : Rule) × (n ≡ rule_number r) × IsBroken (form_of F.VERSION) lot.now old r) }
     ensures set { IfErr result (IsOneOf rename_refusals list_rules) }
     ensures failed { IsErrOf result Fault → Rose (D.state disk.old).faults (D.state disk.new).faults }
 {
@@ -321,7 +319,7 @@ fn need_of<F: Form>(step: &Move) -> Need
     ensures needs { (mode k : ℕ) (lot : LotView) (m : Map) (t : Tree) (p q : List (List ℕ))
         → MapRecovers (form_of F.VERSION) mode lot m t k
         → paths_refusal (form_of F.VERSION) (p ∷ q ∷ []) ≡ None → move_refusal p q t ≡ None
-        → IsMove (form_of F.VERSION) (own_in (form_of F.VERSION) m) p q t step.now
+        → IsMove (form_of F.VERSION) (own (form_of F.VERSION) m) p q t step.now
         → Needs (form_of F.VERSION) t (next (Rename p q) t) result }
     ensures nodeless { result.nodes ≡ 0 }
     ensures apart { step.now.same ≡ false → step.now.from.number ≢ step.now.to.number
@@ -376,16 +374,16 @@ fn may_move<D: Disk, K: Keep<D>, P: Pool<D, K>, F: Form>(
     requires names { paths_refusal (form_of F.VERSION) (drop depth path.now ∷ drop depth to.now ∷ []) ≡ None }
     ensures found { (mode k : ℕ) (t : Tree) → IfShown K.View lot.now keep.old disk.old (λ old.
         MapRecovers (form_of F.VERSION) mode lot.now old t k
-        → MatchResult result (λ step. (refusal t k (length lot.now.groups) (form_of F.VERSION) (Rename (drop depth path.now) (drop depth to.now)) ≡ None) × IsMove (form_of F.VERSION) (own_in (form_of F.VERSION) old) (drop depth path.now) (drop depth to.now) t step) (λ r. RefusedAs (refused_of r) (refusal t k (length lot.now.groups) (form_of F.VERSION) (Rename (drop depth path.now) (drop depth to.now))))) }
+        → MatchResult result (λ step. (refusal t k (length lot.now.groups) (form_of F.VERSION) (Rename (drop depth path.now) (drop depth to.now)) ≡ None) × IsMove (form_of F.VERSION) (own (form_of F.VERSION) old) (drop depth path.now) (drop depth to.now) t step) (λ r. RefusedAs (refused_of r) (refusal t k (length lot.now.groups) (form_of F.VERSION) (Rename (drop depth path.now) (drop depth to.now))))) }
     ensures fits { IfOk result (MoveFits lot.now) }
     ensures below { OnOk result ((depth < length path.now) × (depth < length to.now)) }
     ensures looked { Looked D.Disk K.View lot.now keep.old disk.old keep.new disk.new }
     ensures is { IfShown K.View lot.now keep.old disk.old (λ old.
-        IfOk result (MoveIs F.ENTRY lot.now old (last_name (drop depth path.now)))) }
+        IfOk result (MoveIs (form_of F.VERSION) lot.now old (last_name (drop depth path.now)))) }
     ensures room { IfShown K.View lot.now keep.old disk.old (λ old.
-        IfOk result (RowFits F.ENTRY lot.now old)) }
+        IfOk result (RowFits (form_of F.VERSION) lot.now old)) }
     ensures damaged { (n : ℕ) → IsErrOf result (Damaged n) → IfShown K.View lot.now keep.old disk.old (λ old.
-        (r : Rule) × (n ≡ rule_number r) × IsBroken F.ENTRY lot.now old r) }
+        (r : Rule) × (n ≡ rule_number r) × IsBroken (form_of F.VERSION) lot.now old r) }
     ensures set { IfErr result (IsOneOf rename_refusals rename_rules) }
     ensures failed { IsErrOf result Fault → Rose (D.state disk.old).faults (D.state disk.new).faults }
 {
@@ -427,8 +425,8 @@ fn move_row<D: Disk, K: Keep<D>, P: Pool<D, K>, F: Form>(
         → IfErr result (λ e. e ≡ FaultDisk) }
     ensures spent { Spent D.Disk K.View lot.now 16 keep.old disk.old keep.new disk.new }
     ensures broken { IfShown K.View lot.now keep.old disk.old (λ old.
-        MoveIs F.ENTRY lot.now old name.now step.now → RowFits F.ENTRY lot.now old step.now
-        → step.now.same ≡ false → IfErr result (IsBrokenBy F.ENTRY lot.now old)) }
+        MoveIs (form_of F.VERSION) lot.now old name.now step.now → RowFits (form_of F.VERSION) lot.now old step.now
+        → step.now.same ≡ false → IfErr result (IsBrokenBy (form_of F.VERSION) lot.now old)) }
     ensures done { AsShown K.View lot.now keep.old disk.old keep.new disk.new (λ old new.
         OnOk result (long_at (new sub_address) 16 ≡ long_at (old sub_address) 16)) }
     ensures faults { IfErr result (IsNamedIn change_rules) }
@@ -470,8 +468,8 @@ fn put_moved<D: Disk, K: Keep<D>, P: Pool<D, K>, F: Form>(
     ensures counted { OnOk result (K.held keep.new sub_address ≡ true) }
     ensures spent { Spent D.Disk K.View lot.now 17 keep.old disk.old keep.new disk.new }
     ensures broken { IfShown K.View lot.now keep.old disk.old (λ old.
-        MoveIs F.ENTRY lot.now old name.now step.now → RowFits F.ENTRY lot.now old step.now
-        → IfErr result (IsBrokenBy F.ENTRY lot.now old)) }
+        MoveIs (form_of F.VERSION) lot.now old name.now step.now → RowFits (form_of F.VERSION) lot.now old step.now
+        → IfErr result (IsBrokenBy (form_of F.VERSION) lot.now old)) }
     ensures faults { IfErr result (IsNamedIn change_rules) }
     ensures failed { IsErrOf result FaultDisk → Rose (D.state disk.old).faults (D.state disk.new).faults }
 {
@@ -515,7 +513,7 @@ pub fn rename<D: Disk, K: Keep<D>, P: Pool<D, K>, F: Form>(
         → Looked D.Disk K.View lot.now keep.old disk.old keep.new disk.new) }
     ensures spent { Spent D.Disk K.View lot.now 96 keep.old disk.old keep.new disk.new }
     ensures damaged { (n : ℕ) → IsErrOf result (Damaged n) → IfShown K.View lot.now keep.old disk.old (λ old.
-        (r : Rule) × (n ≡ rule_number r) × IsBroken F.ENTRY lot.now old r) }
+        (r : Rule) × (n ≡ rule_number r) × IsBroken (form_of F.VERSION) lot.now old r) }
     ensures set { IfErr result (IsOneOf rename_refusals rename_rules) }
     ensures failed { IsErrOf result Fault → Rose (D.state disk.old).faults (D.state disk.new).faults }
 {

@@ -6,9 +6,9 @@ ghost use Rattle.ice_base.specs.Views.{Looked, Spent, AsShown, IfShown};
 ghost use Rattle.ice_base.specs.declared.fault.OpFault.TheVariants.{Disk as FaultDisk};
 ghost use Rattle.ice_base.specs.declared.fault.Rule.{Rule};
 ghost use Rattle.ice_map.specs.Inodes.{inode_of};
-ghost use Rattle.ice_file.specs.Files.{longest_file, most_at_once};
+ghost use Rattle.tree_spec.specs.Held.{most_bytes};
 ghost use Rattle.tree_spec.specs.Answers.{answer, next, refusal};
-ghost use Rattle.tree_spec.specs.Costs.{form_of, map_cost, file_blocks};
+ghost use Rattle.tree_spec.specs.Costs.{form_of, map_cost, file_blocks, form_one};
 ghost use Rattle.tree_spec.specs.Operations.{Write, Trunc};
 ghost use Rattle.tree_spec.specs.Replies.{number_of, refused_of};
 ghost use Rattle.tree_spec.specs.Trees.{Tree};
@@ -16,28 +16,27 @@ ghost use Rattle.tree_spec.specs.Why.{Why};
 ghost use Rattle.tree_spec.specs.declared.reply.Refusal.TheVariants.{Fault, Damaged};
 ghost use Rattle.ice_reads.specs.Reads.{inode_on};
 ghost use Rattle.ice_reads.specs.Recovers.{MapRecovers};
-ghost use Rattle.ice_reads.specs.Tables.{own_in};
+ghost use Rattle.ice_map.specs.Own.{own};
 ghost use Rattle.ice_rules.specs.Rules.{rule_number};
-ghost use Rattle.ice_tree.specs.Broken.{IsBroken, IsBrokenBy};
-ghost use Rattle.ice_tree.specs.Changes.{IsFile, FileFits, TakesAt, reach_refusal};
-ghost use Rattle.ice_tree.specs.Grounds.{CanCount, FileIs, BytesFit};
-ghost use Rattle.ice_tree.specs.Outcomes.{AsModel, RefusedAs, meant_plain, ShownBy, IsOneOf, IsNamedIn, write_refusals, trunc_refusals, read_refusals, look_rules, change_rules};
-ghost use Rattle.ice_tree.specs.Stages.{paths_refusal};
+ghost use Rattle.ice_look.specs.Broken.{IsBroken, IsBrokenBy};
+ghost use Rattle.ice_tree.specs.Writes.{IsFile, FileFits, TakesAt, reach_refusal, FileIs, BytesFit};
+ghost use Rattle.ice_tree.specs.Quotas.{CanCount};
+ghost use Rattle.ice_look.specs.Outcomes.{AsModel, RefusedAs, meant_plain, ShownBy, IsOneOf, read_refusals, look_rules};
+ghost use Rattle.ice_tree.specs.Outcomes.{IsNamedIn, write_refusals, trunc_refusals, change_rules};
+ghost use Rattle.ice_look.specs.Stages.{paths_refusal};
 
 use crate::counts::count_up;
-use crate::fault::refusal_of;
-use crate::looks::{FileAt, file_at};
-use crate::paths::check_path;
-use crate::place::LONGEST_FILE;
 use crate::quota::{Need, check_quota, file_cost};
 use ice_base::{Disk, Form, Keep, Lot, OpFault, Pool, View};
 use ice_file::{cut_to, write_at};
+use ice_map::longest_file;
+use ice_look::{FileAt, check_path, file_at, refusal_of};
 use tree_spec::{Path, Refusal};
 
 /// What a file of another size costs: `new` in place of `old` bytes.
 fn size_need(old: u32, new: u32) -> Need
-    requires old { old ≤ longest_file }
-    requires new { new ≤ longest_file }
+    requires old { old ≤ form_one.longest_file }
+    requires new { new ≤ form_one.longest_file }
     ensures { result ≡ record { nodes = 0; lost = 0; blocks = map_cost (file_blocks new); freed = map_cost (file_blocks old) } }
 {
     Need {
@@ -62,7 +61,7 @@ fn reach_file<D: Disk, V: View<D>, F: Form>(
     requires depth { depth ≤ length path.now }
     ensures found { (mode k : ℕ) (t : Tree) → IfShown V.View lot.now view.old disk.old (λ old.
         MapRecovers (form_of F.VERSION) mode lot.now old t k
-        → MatchResult result (IsFile (form_of F.VERSION) (own_in (form_of F.VERSION) old) (drop depth path.now) t at) (λ r. RefusedAs (refused_of r) (reach_refusal (form_of F.VERSION) (drop depth path.now) at t))) }
+        → MatchResult result (IsFile (form_of F.VERSION) (own (form_of F.VERSION) old) (drop depth path.now) t at) (λ r. RefusedAs (refused_of r) (reach_refusal (form_of F.VERSION) (drop depth path.now) at t))) }
     ensures names { OnOk result (paths_refusal (form_of F.VERSION) (drop depth path.now ∷ []) ≡ None) }
     ensures fits { IfOk result (FileFits lot.now at) }
     ensures paths { ShownBy (paths_refusal (form_of F.VERSION) (drop depth path.now ∷ [])) result }
@@ -70,11 +69,11 @@ fn reach_file<D: Disk, V: View<D>, F: Form>(
         → (disk.new ≡ disk.old) × (view.new ≡ view.old) }
     ensures looked { Looked D.Disk V.View lot.now view.old disk.old view.new disk.new }
     ensures is { IfShown V.View lot.now view.old disk.old (λ old.
-        IfOk result (λ file. FileIs F.ENTRY lot.now old at file.number)) }
+        IfOk result (λ file. FileIs (form_of F.VERSION) lot.now old at file.number)) }
     ensures size { IfShown V.View lot.now view.old disk.old (λ old.
         IfOk result (λ file. (inode_of old file.number).size ≡ file.size)) }
     ensures damaged { (n : ℕ) → IsErrOf result (Damaged n) → IfShown V.View lot.now view.old disk.old (λ old.
-        (r : Rule) × (n ≡ rule_number r) × IsBroken F.ENTRY lot.now old r) }
+        (r : Rule) × (n ≡ rule_number r) × IsBroken (form_of F.VERSION) lot.now old r) }
     ensures set { IfErr result (IsOneOf read_refusals look_rules) }
     ensures failed { IsErrOf result Fault → Rose (D.state disk.old).faults (D.state disk.new).faults }
 {
@@ -106,20 +105,20 @@ fn check_write<D: Disk, K: Keep<D>, P: Pool<D, K>, F: Form>(
     requires sited { is_sited lot.now (D.state disk.old).size ≡ true }
     requires some { 1 ≤ length lot.now.groups }
     requires depth { depth ≤ length path.now }
-    requires few { length bytes.now ≤ most_at_once }
+    requires few { length bytes.now ≤ most_bytes }
     ensures file { (mode k : ℕ) (t : Tree) → IfShown K.View lot.now keep.old disk.old (λ old.
         MapRecovers (form_of F.VERSION) mode lot.now old t k
-        → MatchResult result (λ number. (number ≡ inode_on (form_of F.VERSION) (own_in (form_of F.VERSION) old) 0 (drop depth path.now)) × (refusal t k (length lot.now.groups) (form_of F.VERSION) (Write (drop depth path.now) at bytes.now) ≡ None)) (λ r. RefusedAs (refused_of r) (refusal t k (length lot.now.groups) (form_of F.VERSION) (Write (drop depth path.now) at bytes.now)))) }
+        → MatchResult result (λ number. (number ≡ inode_on (form_of F.VERSION) (own (form_of F.VERSION) old) 0 (drop depth path.now)) × (refusal t k (length lot.now.groups) (form_of F.VERSION) (Write (drop depth path.now) at bytes.now) ≡ None)) (λ r. RefusedAs (refused_of r) (refusal t k (length lot.now.groups) (form_of F.VERSION) (Write (drop depth path.now) at bytes.now)))) }
     ensures fits { IfOk result (λ number. number < 64 * length lot.now.groups) }
-    ensures short { OnOk result (at + length bytes.now ≤ longest_file) }
+    ensures short { OnOk result (at + length bytes.now ≤ (form_of F.VERSION).longest_file) }
     ensures paths { ShownBy (paths_refusal (form_of F.VERSION) (drop depth path.now ∷ [])) result }
     ensures untouched { (r : Why) → paths_refusal (form_of F.VERSION) (drop depth path.now ∷ []) ≡ Some r
         → (disk.new ≡ disk.old) × (keep.new ≡ keep.old) × (pool.new ≡ pool.old) }
     ensures looked { Looked D.Disk K.View lot.now keep.old disk.old keep.new disk.new }
     ensures ready { IfShown K.View lot.now keep.old disk.old (λ old.
-        IfOk result (BytesFit F.ENTRY lot.now old at (at + length bytes.now))) }
+        IfOk result (BytesFit (form_of F.VERSION) lot.now old at (at + length bytes.now))) }
     ensures damaged { (n : ℕ) → IsErrOf result (Damaged n) → IfShown K.View lot.now keep.old disk.old (λ old.
-        (r : Rule) × (n ≡ rule_number r) × IsBroken F.ENTRY lot.now old r) }
+        (r : Rule) × (n ≡ rule_number r) × IsBroken (form_of F.VERSION) lot.now old r) }
     ensures set { IfErr result (IsOneOf write_refusals change_rules) }
     ensures failed { IsErrOf result Fault → Rose (D.state disk.old).faults (D.state disk.new).faults }
 {
@@ -128,7 +127,8 @@ fn check_write<D: Disk, K: Keep<D>, P: Pool<D, K>, F: Form>(
         Err(refusal) => return Err(refusal),
     };
     let end = at + bytes.len() as u32;
-    if end > LONGEST_FILE {
+    let longest = longest_file::<F>();
+    if end > longest {
         return Err(Refusal::FileBig);
     }
     let need = size_need(file.size, file.size.max(end));
@@ -153,17 +153,17 @@ fn check_trunc<D: Disk, K: Keep<D>, P: Pool<D, K>, F: Form>(
     requires depth { depth ≤ length path.now }
     ensures file { (mode k : ℕ) (t : Tree) → IfShown K.View lot.now keep.old disk.old (λ old.
         MapRecovers (form_of F.VERSION) mode lot.now old t k
-        → MatchResult result (λ number. (number ≡ inode_on (form_of F.VERSION) (own_in (form_of F.VERSION) old) 0 (drop depth path.now)) × (refusal t k (length lot.now.groups) (form_of F.VERSION) (Trunc (drop depth path.now) len) ≡ None)) (λ r. RefusedAs (refused_of r) (refusal t k (length lot.now.groups) (form_of F.VERSION) (Trunc (drop depth path.now) len)))) }
+        → MatchResult result (λ number. (number ≡ inode_on (form_of F.VERSION) (own (form_of F.VERSION) old) 0 (drop depth path.now)) × (refusal t k (length lot.now.groups) (form_of F.VERSION) (Trunc (drop depth path.now) len) ≡ None)) (λ r. RefusedAs (refused_of r) (refusal t k (length lot.now.groups) (form_of F.VERSION) (Trunc (drop depth path.now) len)))) }
     ensures fits { IfOk result (λ number. number < 64 * length lot.now.groups) }
     ensures paths { ShownBy (paths_refusal (form_of F.VERSION) (drop depth path.now ∷ [])) result }
     ensures untouched { (r : Why) → paths_refusal (form_of F.VERSION) (drop depth path.now ∷ []) ≡ Some r
         → (disk.new ≡ disk.old) × (keep.new ≡ keep.old) × (pool.new ≡ pool.old) }
     ensures looked { Looked D.Disk K.View lot.now keep.old disk.old keep.new disk.new }
     ensures ready { IfShown K.View lot.now keep.old disk.old (λ old.
-        IfOk result (FileIs F.ENTRY lot.now old len)) }
+        IfOk result (FileIs (form_of F.VERSION) lot.now old len)) }
     ensures room { IfShown K.View lot.now keep.old disk.old (λ old. OnOk result (CanCount old)) }
     ensures damaged { (n : ℕ) → IsErrOf result (Damaged n) → IfShown K.View lot.now keep.old disk.old (λ old.
-        (r : Rule) × (n ≡ rule_number r) × IsBroken F.ENTRY lot.now old r) }
+        (r : Rule) × (n ≡ rule_number r) × IsBroken (form_of F.VERSION) lot.now old r) }
     ensures set { IfErr result (IsOneOf trunc_refusals change_rules) }
     ensures failed { IsErrOf result Fault → Rose (D.state disk.old).faults (D.state disk.new).faults }
 {
@@ -191,8 +191,8 @@ fn put_bytes<D: Disk, K: Keep<D>, P: Pool<D, K>, F: Form>(
     requires sited { is_sited lot.now (D.state disk.old).size ≡ true }
     requires number { number < 64 * length lot.now.groups }
     requires room { 49 ≤ K.room keep.old }
-    requires few { length bytes.now ≤ most_at_once }
-    requires short { at + length bytes.now ≤ longest_file }
+    requires few { length bytes.now ≤ most_bytes }
+    requires short { at + length bytes.now ≤ (form_of F.VERSION).longest_file }
     ensures set { (mode k : ℕ) (t : Tree) (p : List (List ℕ))
         → AsShown K.View lot.now keep.old disk.old keep.new disk.new (λ old new.
         TakesAt (form_of F.VERSION) mode lot.now old t k p (Write p at bytes.now) number
@@ -204,8 +204,8 @@ fn put_bytes<D: Disk, K: Keep<D>, P: Pool<D, K>, F: Form>(
     ensures counted { OnOk result (K.held keep.new sub_address ≡ true) }
     ensures spent { Spent D.Disk K.View lot.now 49 keep.old disk.old keep.new disk.new }
     ensures broken { IfShown K.View lot.now keep.old disk.old (λ old.
-        BytesFit F.ENTRY lot.now old at (at + length bytes.now) number
-        → IfErr result (IsBrokenBy F.ENTRY lot.now old)) }
+        BytesFit (form_of F.VERSION) lot.now old at (at + length bytes.now) number
+        → IfErr result (IsBrokenBy (form_of F.VERSION) lot.now old)) }
     ensures faults { IfErr result (IsNamedIn change_rules) }
     ensures failed { IsErrOf result FaultDisk → Rose (D.state disk.old).faults (D.state disk.new).faults }
 {
@@ -237,8 +237,8 @@ fn put_cut<D: Disk, K: Keep<D>, P: Pool<D, K>, F: Form>(
     ensures counted { OnOk result (K.held keep.new sub_address ≡ true) }
     ensures spent { Spent D.Disk K.View lot.now 73 keep.old disk.old keep.new disk.new }
     ensures broken { IfShown K.View lot.now keep.old disk.old (λ old.
-        FileIs F.ENTRY lot.now old len number → CanCount old
-        → IfErr result (IsBrokenBy F.ENTRY lot.now old)) }
+        FileIs (form_of F.VERSION) lot.now old len number → CanCount old
+        → IfErr result (IsBrokenBy (form_of F.VERSION) lot.now old)) }
     ensures faults { IfErr result (IsNamedIn change_rules) }
     ensures failed { IsErrOf result FaultDisk → Rose (D.state disk.old).faults (D.state disk.new).faults }
 {
@@ -262,7 +262,7 @@ pub fn write<D: Disk, K: Keep<D>, P: Pool<D, K>, F: Form>(
     requires some { 1 ≤ length lot.now.groups }
     requires depth { depth ≤ length path.now }
     requires room { 96 ≤ K.room keep.old }
-    requires few { length bytes.now ≤ most_at_once }
+    requires few { length bytes.now ≤ most_bytes }
     ensures answers { (mode k : ℕ) (t : Tree) → IfShown K.View lot.now keep.old disk.old (λ old.
         MapRecovers (form_of F.VERSION) mode lot.now old t k
         → AsModel (meant_plain result) (answer t k (length lot.now.groups) (form_of F.VERSION) (Write (drop depth path.now) at bytes.now)).0) }
@@ -278,7 +278,7 @@ pub fn write<D: Disk, K: Keep<D>, P: Pool<D, K>, F: Form>(
         → Looked D.Disk K.View lot.now keep.old disk.old keep.new disk.new) }
     ensures spent { Spent D.Disk K.View lot.now 96 keep.old disk.old keep.new disk.new }
     ensures damaged { (n : ℕ) → IsErrOf result (Damaged n) → IfShown K.View lot.now keep.old disk.old (λ old.
-        (r : Rule) × (n ≡ rule_number r) × IsBroken F.ENTRY lot.now old r) }
+        (r : Rule) × (n ≡ rule_number r) × IsBroken (form_of F.VERSION) lot.now old r) }
     ensures set { IfErr result (IsOneOf write_refusals change_rules) }
     ensures failed { IsErrOf result Fault → Rose (D.state disk.old).faults (D.state disk.new).faults }
 {
@@ -321,7 +321,7 @@ pub fn trunc<D: Disk, K: Keep<D>, P: Pool<D, K>, F: Form>(
         → Looked D.Disk K.View lot.now keep.old disk.old keep.new disk.new) }
     ensures spent { Spent D.Disk K.View lot.now 96 keep.old disk.old keep.new disk.new }
     ensures damaged { (n : ℕ) → IsErrOf result (Damaged n) → IfShown K.View lot.now keep.old disk.old (λ old.
-        (r : Rule) × (n ≡ rule_number r) × IsBroken F.ENTRY lot.now old r) }
+        (r : Rule) × (n ≡ rule_number r) × IsBroken (form_of F.VERSION) lot.now old r) }
     ensures set { IfErr result (IsOneOf trunc_refusals change_rules) }
     ensures failed { IsErrOf result Fault → Rose (D.state disk.old).faults (D.state disk.new).faults }
 {

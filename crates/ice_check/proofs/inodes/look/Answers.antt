@@ -1,10 +1,10 @@
 use Rattle.std.proofs.Common.{◌≡◌, ◌<◌, ◌≤◌, sym, subst, arith}
 use Rattle.ice_base.proofs.LotLaws.{sited-few}
 use Rattle.ice_map.specs.Maps.{longest}
-use Rattle.ice_reads.specs.Tables.{RestIsZero}
-use Rattle.ice_file.specs.Own.{map_length}
+use Rattle.ice_map.specs.Own.{RestIsZero, map_length}
 use Rattle.ice_check.proofs.ShownLaws.{still_shows}
 use Rattle.ice_check.proofs.LookLaws.{size_small, map_short, single_broken, nth_broken, rest_broken, uses_data}
+use Rattle.tree_spec.specs.Costs.{form_one}
 use Rattle.ice_check.proofs.inodes.look.Goals as goal
 
 pub map_blocks-count-requires : goal.map_blocks-count-requires
@@ -35,7 +35,7 @@ returns-then-not-rest_is_zero-clause-broken g c = λ m w s by used.
 
 pub returns-clause-fits : goal.returns-clause-fits
 returns-clause-fits g c = record {
-  places = uses_data c.args.lot.now (λ _. c.read_pointers.new.into) c.in_ok-inode.inode (map_length 64 c.in_ok-inode.inode)
+  places = uses_data c.args.lot.now (λ _. c.read_pointers.new.into) c.in_ok-inode.inode (map_length form_one c.in_ok-inode.inode)
       (λ h. c.single_fits.ensures.yes c.if-not-single_fits.false (omega (arith, c.map_blocks-count.ensures, h)))
       (λ n h. c.lead_to_data.ensures.yes c.if-not-lead_to_data.false n (omega (arith, c.map_blocks-count.ensures, h)));
   rest = subst (λ n. RestIsZero c.in_ok-inode.inode n) c.map_blocks-count.ensures (c.rest_is_zero.ensures.yes c.if-not-rest_is_zero.false);

@@ -23,7 +23,7 @@ returns-in-Err-clause-broken g c = λ m w s looks below.
     subst (Broke c.args.lot.now m) (sym c.told.ensures) (entry_broken c.args.lot.now m w c.args.number c.args.k looks below c.in-Err.fault c.in-Err.ensures.faults
     (λ e. subst (λ (n : Map). ¬ HasEntry c.args.lot.now c.args.k (inode_of n c.args.number)) s.is (c.in-Err.ensures.kind (ap Err e) s.shows))
     (λ e. subst (λ (n : Map). leads c.args.lot.now n (inode_of n c.args.number) (c.args.k / 16) ≡ false) s.is (c.in-Err.ensures.pointer (ap Err e) s.shows))
-    (λ e. subst (λ (n : Map). IfSome (slice_get (rows_of 64 n c.args.number) c.args.k) (λ row. is_name row.0 ≡ false)) s.is (c.in-Err.ensures.name (ap Err e) s.shows)))
+    (λ e. subst (λ (n : Map). IfSome (slice_get (rows_of form_one n c.args.number) c.args.k) (λ row. is_name row.0 ≡ false)) s.is (c.in-Err.ensures.name (ap Err e) s.shows)))
 
 pub returns-in-Err-clause-faults : goal.returns-in-Err-clause-faults
 returns-in-Err-clause-faults g c = subst IsCheckFault (sym c.told.ensures) (told_fault c.in-Err.fault c.in-Err.ensures.faults)

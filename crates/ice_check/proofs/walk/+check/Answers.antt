@@ -1,7 +1,8 @@
 use Rattle.std.proofs.Common.{◌≡◌, ◌+◌, [], ◌∷◌, ◌++◌, length, refl, sym, ◌∙◌, subst, arith}
 use Rattle.std.specs.Prelude.{IfNone, IfSome}
 use Rattle.tree_spec.specs.Costs.{form_one}
-use Rattle.ice_reads.specs.Tables.{own_in, rows_in}
+use Rattle.ice_map.specs.Own.{own}
+use Rattle.ice_reads.specs.Tables.{rows_in}
 use Rattle.ice_check.proofs.Checks.{file_checked, dir_checked, none_checked, more_checked}
 use Rattle.ice_check.proofs.ShownLaws.{handed, ok-then, still_shows, looked_then}
 use Rattle.ice_check.proofs.Walking.{bit_broken, deep_broken, twice_broken, looks, walks_to, seen_file, seen_dir, at_child, seen_next, seen_whole}
@@ -28,7 +29,7 @@ pub check_inode-returns-in-None-clause-checked : goal.check_inode-returns-in-Non
 check_inode-returns-in-None-clause-checked g t c = λ m s.
     let used = sym (c.in_ok-used.ensures.value m s) ∙ c.if-not-used.false in
     let later = still_shows g.D.Disk g.V.View _ _ _ _ _ m c.is_used.ensures.looked s in
-    file_checked form_one c.args.lot.now m c.args.number c.args.depth _ _ _ _ c.requires.number c.if-depth-gt24.false (c.in_ok-visit.ensures.sound m later used) (subst (λ o. IfNone o ((own_in form_one m c.args.number).inode.kind ≡ 1)) c.in-None.is (c.in_ok-visit.ensures.file m later))
+    file_checked form_one c.args.lot.now m c.args.number c.args.depth _ _ _ _ c.requires.number c.if-depth-gt24.false (c.in_ok-visit.ensures.sound m later used) (subst (λ o. IfNone o ((own form_one m c.args.number).inode.kind ≡ 1)) c.in-None.is (c.in_ok-visit.ensures.file m later))
     (c.mark.ensures.new c.if-not-mark.false) (c.in_ok-visit.ensures.marks m later)
 
 pub check_inode-returns-in-None-clause-seen : goal.check_inode-returns-in-None-clause-seen
@@ -42,7 +43,7 @@ pub check_inode-returns-in-Some-clause-checked : goal.check_inode-returns-in-Som
 check_inode-returns-in-Some-clause-checked g t c = λ m s.
     let used = sym (c.in_ok-used.ensures.value m s) ∙ c.if-not-used.false in
     let later = still_shows g.D.Disk g.V.View _ _ _ _ _ m c.is_used.ensures.looked s in
-    let dir = subst (λ o. IfSome o (λ n. ((own_in form_one m c.args.number).inode.kind ≡ 2) × (n ≡ length (rows_in form_one (own_in form_one m c.args.number))))) c.in-Some.is (c.in_ok-visit.ensures.dir m later) in
+    let dir = subst (λ o. IfSome o (λ n. ((own form_one m c.args.number).inode.kind ≡ 2) × (n ≡ length (rows_in form_one (own form_one m c.args.number))))) c.in-Some.is (c.in_ok-visit.ensures.dir m later) in
     let own = c.mark.ensures.new c.if-not-mark.false in
     let sound = c.in_ok-visit.ensures.sound m later used in
     let further = still_shows g.D.Disk g.V.View _ _ _ _ _ m c.visit.ensures.looked later in
@@ -53,7 +54,7 @@ pub check_inode-returns-in-Some-clause-broken : goal.check_inode-returns-in-Some
 check_inode-returns-in-Some-clause-broken g t c = λ m w s at seen.
     let used = sym (c.in_ok-used.ensures.value m s) ∙ c.if-not-used.false in
     let later = still_shows g.D.Disk g.V.View _ _ _ _ _ m c.is_used.ensures.looked s in
-    let dir = subst (λ o. IfSome o (λ n. ((own_in form_one m c.args.number).inode.kind ≡ 2) × (n ≡ length (rows_in form_one (own_in form_one m c.args.number))))) c.in-Some.is (c.in_ok-visit.ensures.dir m later) in
+    let dir = subst (λ o. IfSome o (λ n. ((own form_one m c.args.number).inode.kind ≡ 2) × (n ≡ length (rows_in form_one (own form_one m c.args.number))))) c.in-Some.is (c.in_ok-visit.ensures.dir m later) in
     let own = c.mark.ensures.new c.if-not-mark.false in
     let sound = c.in_ok-visit.ensures.sound m later used in
     let further = still_shows g.D.Disk g.V.View _ _ _ _ _ m c.visit.ensures.looked later in
@@ -64,7 +65,7 @@ pub check_inode-returns-in-Some-clause-seen : goal.check_inode-returns-in-Some-c
 check_inode-returns-in-Some-clause-seen g t c = λ m w s at seen.
     let used = sym (c.in_ok-used.ensures.value m s) ∙ c.if-not-used.false in
     let later = still_shows g.D.Disk g.V.View _ _ _ _ _ m c.is_used.ensures.looked s in
-    let dir = subst (λ o. IfSome o (λ n. ((own_in form_one m c.args.number).inode.kind ≡ 2) × (n ≡ length (rows_in form_one (own_in form_one m c.args.number))))) c.in-Some.is (c.in_ok-visit.ensures.dir m later) in
+    let dir = subst (λ o. IfSome o (λ n. ((own form_one m c.args.number).inode.kind ≡ 2) × (n ≡ length (rows_in form_one (own form_one m c.args.number))))) c.in-Some.is (c.in_ok-visit.ensures.dir m later) in
     let own = c.mark.ensures.new c.if-not-mark.false in
     let sound = c.in_ok-visit.ensures.sound m later used in
     let further = still_shows g.D.Disk g.V.View _ _ _ _ _ m c.visit.ensures.looked later in

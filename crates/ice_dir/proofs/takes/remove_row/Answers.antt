@@ -1,10 +1,15 @@
-use Rattle.std.proofs.Common.{rules, false, List, ℕ, ◌∙◌, sym, ap, inl, arith}
+use Rattle.std.proofs.Common.{rules, false, List, ℕ, ◌∙◌, sym, ap, inl, arith, subst, ◌≡◌, ◌≢◌, ◌-◌, ◌/◌}
+use Rattle.ice_map.specs.Maps.{nth_block}
+use Rattle.ice_dir.specs.Rows.{entries_in}
+use Rattle.ice_dir.specs.Changes.{blocks_sized}
+use Rattle.ice_dir.proofs.SizeLaws.{sized}
+use Rattle.tree_spec.specs.Costs.{form_of}
 use Rattle.ice_base.proofs.LotLaws.{sited-few}
 use Rattle.ice_base.specs.Fields.{word_at}
 use Rattle.ice_base.specs.Used.{count_place}
 use Rattle.ice_map.proofs.MarkLaws.{data_not_bitmap, data_not_sub}
 use Rattle.ice_map.proofs.PutsLaws.{spent-then, bitmaps-only}
-use Rattle.ice_file.specs.Writes.{uses_of}
+use Rattle.ice_map.specs.Moves.{uses_of}
 use Rattle.ice_dir.proofs.PutLaws.{made-dir}
 use Rattle.ice_dir.proofs.TakeLaws.{row-free, row-misled, dir-removed, text-removed, cut-six, off-length, beside-inode, entry-gone}
 use Rattle.ice_dir.proofs.takes.remove_row.Goals as goal
@@ -52,30 +57,31 @@ pub returns-clause-removed : goal.returns-clause-removed
 returns-clause-removed g c = λ s is made.
     let lot = c.args.lot.now in
     let one = g.F.Form.is_one in
-    let put = c.in_ok-move_last.ensures.put s (made-dir lot g.F.Form.ENTRY (g.K.View.map c.args.keep.now c.args.disk.now lot) c.args.number c.args.dir is c.requires.is.kind made) in
+    let put = c.in_ok-move_last.ensures.put s (made-dir lot (form_of g.F.Form.VERSION) g.F.Form.ENTRY (g.K.View.map c.args.keep.now c.args.disk.now lot) c.args.number c.args.dir (ap form_of g.F.Form.is_one.0) (sized g.F.Form.VERSION g.F.Form.ENTRY g.F.Form.is_one.0 g.F.Form.is_one.1) is c.requires.is.kind made) in
     let t = c.move_last.ensures.spent.shows s in
-    dir-removed lot g.F.Form.ENTRY (g.K.View.map c.args.keep.now c.args.disk.now lot) (g.K.View.map c.move_last.new.keep c.move_last.new.disk lot) (g.K.View.map c.cut.new.keep c.cut.new.disk lot) (g.K.View.map c.put_inode.new.keep c.put_inode.new.disk lot)
-    c.args.dir c.cut.new.inode c.args.number c.args.k c.blocks_for_rows-count.result c.blocks_for_rows-rest.result one.1 c.requires.is c.requires.below is put c.blocks_for_rows-count.ensures.value c.blocks_for_rows-rest.ensures.value
+    dir-removed lot (form_of g.F.Form.VERSION) g.F.Form.ENTRY (g.K.View.map c.args.keep.now c.args.disk.now lot) (g.K.View.map c.move_last.new.keep c.move_last.new.disk lot) (g.K.View.map c.cut.new.keep c.cut.new.disk lot) (g.K.View.map c.put_inode.new.keep c.put_inode.new.disk lot)
+    c.args.dir c.cut.new.inode c.args.number c.args.k c.blocks_for_rows-count.result c.blocks_for_rows-rest.result (ap form_of g.F.Form.is_one.0) (sized g.F.Form.VERSION g.F.Form.ENTRY g.F.Form.is_one.0 g.F.Form.is_one.1) one.1 c.requires.is c.requires.below is put c.blocks_for_rows-count.ensures.value c.blocks_for_rows-rest.ensures.value
     (c.in_ok-cut.ensures.cut t) c.cut.ensures.stays c.in_ok-cut.ensures.fields (c.in_ok-put_inode.ensures.written (c.cut.ensures.spent.shows t)) c.in_ok-put_inode.ensures.puts.only
 
 pub returns-clause-texts : goal.returns-clause-texts
 returns-clause-texts g c = λ s is made.
     let lot = c.args.lot.now in
     let one = g.F.Form.is_one in
-    let put = c.in_ok-move_last.ensures.put s (made-dir lot g.F.Form.ENTRY (g.K.View.map c.args.keep.now c.args.disk.now lot) c.args.number c.args.dir is c.requires.is.kind made) in
+    let put = c.in_ok-move_last.ensures.put s (made-dir lot (form_of g.F.Form.VERSION) g.F.Form.ENTRY (g.K.View.map c.args.keep.now c.args.disk.now lot) c.args.number c.args.dir (ap form_of g.F.Form.is_one.0) (sized g.F.Form.VERSION g.F.Form.ENTRY g.F.Form.is_one.0 g.F.Form.is_one.1) is c.requires.is.kind made) in
     let t = c.move_last.ensures.spent.shows s in
-    text-removed lot g.F.Form.ENTRY (g.K.View.map c.args.keep.now c.args.disk.now lot) (g.K.View.map c.move_last.new.keep c.move_last.new.disk lot) (g.K.View.map c.cut.new.keep c.cut.new.disk lot) (g.K.View.map c.put_inode.new.keep c.put_inode.new.disk lot)
-    c.args.dir c.cut.new.inode c.args.number c.args.k c.blocks_for_rows-count.result c.blocks_for_rows-rest.result one.1 c.requires.is c.requires.below is put c.blocks_for_rows-count.ensures.value c.blocks_for_rows-rest.ensures.value
+    text-removed lot (form_of g.F.Form.VERSION) g.F.Form.ENTRY (g.K.View.map c.args.keep.now c.args.disk.now lot) (g.K.View.map c.move_last.new.keep c.move_last.new.disk lot) (g.K.View.map c.cut.new.keep c.cut.new.disk lot) (g.K.View.map c.put_inode.new.keep c.put_inode.new.disk lot)
+    c.args.dir c.cut.new.inode c.args.number c.args.k c.blocks_for_rows-count.result c.blocks_for_rows-rest.result (ap form_of g.F.Form.is_one.0) (sized g.F.Form.VERSION g.F.Form.ENTRY g.F.Form.is_one.0 g.F.Form.is_one.1) one.1 c.requires.is c.requires.below is put c.blocks_for_rows-count.ensures.value c.blocks_for_rows-rest.ensures.value
     (c.in_ok-cut.ensures.cut t) c.cut.ensures.stays c.in_ok-cut.ensures.fields (c.in_ok-put_inode.ensures.written (c.cut.ensures.spent.shows t)) c.in_ok-put_inode.ensures.puts.only
 
 pub returns-clause-left : goal.returns-clause-left
 returns-clause-left g c = λ s is.
     let one = g.F.Form.is_one in
     let t = c.move_last.ensures.spent.shows s in
-    entry-gone c.args.lot.now g.F.Form.ENTRY (g.K.View.map c.args.keep.now c.args.disk.now c.args.lot.now) (g.K.View.map c.move_last.new.keep c.move_last.new.disk c.args.lot.now) (g.K.View.map c.cut.new.keep c.cut.new.disk c.args.lot.now) (g.K.View.map c.put_inode.new.keep c.put_inode.new.disk c.args.lot.now)
-    c.args.dir c.cut.new.inode c.args.number c.args.k c.blocks_for_rows-count.result c.blocks_for_rows-rest.result one.1 (sited-few _ _ c.requires.sited) c.requires.is c.requires.below is c.move_last.ensures.beside
-    c.blocks_for_rows-count.ensures.value c.blocks_for_rows-rest.ensures.value (c.in_ok-cut.ensures.cut t) c.cut.ensures.stays (c.in_ok-cut.ensures.placed t) c.in_ok-cut.ensures.fields
-    (c.in_ok-put_inode.ensures.written (c.cut.ensures.spent.shows t)) c.in_ok-put_inode.ensures.puts.only (c.in_ok-move_last.ensures.within s)
+    let same = sized g.F.Form.VERSION g.F.Form.ENTRY g.F.Form.is_one.0 g.F.Form.is_one.1 in
+    entry-gone c.args.lot.now (form_of g.F.Form.VERSION) (g.K.View.map c.args.keep.now c.args.disk.now c.args.lot.now) (g.K.View.map c.move_last.new.keep c.move_last.new.disk c.args.lot.now) (g.K.View.map c.cut.new.keep c.cut.new.disk c.args.lot.now) (g.K.View.map c.put_inode.new.keep c.put_inode.new.disk c.args.lot.now)
+    c.args.dir c.cut.new.inode c.args.number c.args.k c.blocks_for_rows-count.result c.blocks_for_rows-rest.result (ap form_of g.F.Form.is_one.0) (sited-few _ _ c.requires.sited) c.requires.is c.requires.below is c.move_last.ensures.beside
+    (c.blocks_for_rows-count.ensures.value ∙ ap (λ n. blocks_sized n c.args.dir.size) (sym same)) (c.blocks_for_rows-rest.ensures.value ∙ ap (λ n. blocks_sized n (c.args.dir.size - 1)) (sym same)) (c.in_ok-cut.ensures.cut t) c.cut.ensures.stays (c.in_ok-cut.ensures.placed t) c.in_ok-cut.ensures.fields
+    (c.in_ok-put_inode.ensures.written (c.cut.ensures.spent.shows t)) c.in_ok-put_inode.ensures.puts.only (subst (λ n. (b : ℕ) → b ≢ nth_block (g.K.View.map c.args.keep.now c.args.disk.now c.args.lot.now) c.args.dir (c.args.k / entries_in n) → g.K.View.map c.move_last.new.keep c.move_last.new.disk c.args.lot.now b ≡ g.K.View.map c.args.keep.now c.args.disk.now c.args.lot.now b) (sym same) (c.in_ok-move_last.ensures.within s))
     (λ b d. bitmaps-only g.K.View c.args.lot.now _ _ _ _ _ _ c.cut.ensures.bitmaps b (λ e. data_not_sub c.args.lot.now b (sited-few _ _ c.requires.sited) d (sym e)) (λ o e. data_not_bitmap c.args.lot.now b o d (sym e)))
 
 pub returns-in_err-move_last-clause-misled : goal.returns-in_err-move_last-clause-misled

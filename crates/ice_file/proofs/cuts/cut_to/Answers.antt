@@ -1,13 +1,14 @@
 use Rattle.std.proofs.Common.{rules, ◌≤◌, ◌*◌, ℕ, List, true, false, ap, sym, ◌∙◌, arith}
+use Rattle.tree_spec.specs.Costs.{form_of}
 use Rattle.ice_base.specs.Used.{counted, used_inode}
 use Rattle.ice_map.specs.declared.codec.Inode.{Inode}
 use Rattle.ice_map.proofs.GrowLaws.{inode_not_bitmap}
 use Rattle.ice_map.proofs.MarkLaws.{used-same}
-use Rattle.ice_file.specs.Own.{blocks_for}
+use Rattle.ice_map.specs.Own.{blocks_for}
 use Rattle.std.proofs.lemmas.Bool.Decides.{nat_tests}
 use Rattle.ice_map.proofs.PutsLaws.{spent-after, spent-then}
 use Rattle.ice_map.specs.Maps.{cut_room}
-use Rattle.ice_file.proofs.CutLaws.{cut-sub}
+use Rattle.ice_map.proofs.ShrinkLaws.{cut-sub}
 use Rattle.ice_file.proofs.FileLaws.{cut-all, cut-loses, cut-most}
 use Rattle.ice_file.proofs.cuts.cut_to.Goals as goal
 
@@ -30,7 +31,7 @@ pub returns-clause-cut : goal.returns-clause-cut
 returns-clause-cut g c = λ s made.
     let t = c.file_inode.ensures.looked.shows s in
     cut-all c.args.lot.now (g.K.View.map c.args.keep.now c.args.disk.now c.args.lot.now) (g.K.View.map c.file_inode.new.view c.file_inode.new.disk c.args.lot.now) (g.K.View.map c.cut.new.keep c.cut.new.disk c.args.lot.now) (g.K.View.map c.put_inode.new.keep c.put_inode.new.disk c.args.lot.now)
-    c.in_ok-inode.inode c.cut.new.inode g.F.Form.ENTRY c.args.number c.args.len c.map_length-count.result c.map_length-rest.result c.file_inode.ensures.looked.map (c.in_ok-inode.ensures.value s) c.in_ok-inode.ensures.reaches (omega arith) (omega arith)
+    c.in_ok-inode.inode c.cut.new.inode (form_of g.F.Form.VERSION) (ap form_of g.F.Form.is_one.0) c.args.number c.args.len c.map_length-count.result c.map_length-rest.result c.file_inode.ensures.looked.map (c.in_ok-inode.ensures.value s) c.in_ok-inode.ensures.reaches (omega arith) (omega arith)
     (c.in_ok-cut.ensures.cut t) c.cut.ensures.stays c.in_ok-cut.ensures.fields (c.in_ok-put_inode.ensures.written (c.cut.ensures.spent.shows t)) c.in_ok-put_inode.ensures.puts.only made
 
 pub returns-clause-sub : goal.returns-clause-sub
@@ -42,7 +43,7 @@ pub returns-in_err-cut-clause-zero : goal.returns-in_err-cut-clause-zero
 returns-in_err-cut-clause-zero g c = λ e s.
     let z = c.in_err-cut.ensures.zero (search rules) (c.file_inode.ensures.looked.shows s) in
     let m = ap (λ (n : ℕ → List ℕ). counted false n) c.file_inode.ensures.looked.map in
-    let l = cut-most (g.K.View.map c.args.keep.now c.args.disk.now c.args.lot.now) (g.K.View.map c.file_inode.new.view c.file_inode.new.disk c.args.lot.now) c.in_ok-inode.inode c.args.number c.args.len c.map_length-count.result c.map_length-rest.result
+    let l = cut-most (g.K.View.map c.args.keep.now c.args.disk.now c.args.lot.now) (g.K.View.map c.file_inode.new.view c.file_inode.new.disk c.args.lot.now) c.in_ok-inode.inode (form_of g.F.Form.VERSION) c.args.number c.args.len c.map_length-count.result c.map_length-rest.result
     (c.in_ok-inode.ensures.value s) c.in_ok-inode.ensures.reaches (omega arith) (omega arith) in
     omega arith
 

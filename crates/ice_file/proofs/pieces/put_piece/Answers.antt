@@ -1,8 +1,8 @@
 use Rattle.std.proofs.Common.{◌+◌, ◌∙◌, ap, ℕ, List, max, arith}
 use Rattle.std.proofs.lemmas.Bool.Decides.{nat_tests}
 use Rattle.ice_base.proofs.LotLaws.{sited-few}
-use Rattle.ice_file.proofs.DueLaws.{due-less}
-use Rattle.ice_file.proofs.GrowthLaws.{grew-put, inodes-put, inodes-then}
+use Rattle.ice_map.proofs.DueLaws.{due-less}
+use Rattle.ice_map.proofs.GrowthLaws.{grew-put, inodes-put, inodes-then}
 use Rattle.ice_file.proofs.PieceLaws.{piece-put}
 use Rattle.ice_file.proofs.pieces.put_piece.Goals as goal
 

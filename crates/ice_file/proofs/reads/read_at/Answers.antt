@@ -1,4 +1,5 @@
-use Rattle.std.proofs.Common.{rules, ◌≡◌, ◌++◌, ◌∙◌, arith}
+use Rattle.std.proofs.Common.{ap, rules, ◌≡◌, ◌++◌, ◌∙◌, arith}
+use Rattle.tree_spec.specs.Costs.{form_of}
 use Rattle.std.proofs.lemmas.Grind.{common_steps}
 use Rattle.ice_file.specs.Files.{bytes_from}
 use Rattle.ice_file.proofs.ByteLaws.{more, read_bytes}
@@ -31,7 +32,7 @@ returns-clause-bytes g c = λ s.
     let v = c.in_ok-inode.ensures.value s in
     let r = c.in_ok-inode.ensures.reaches in
     let b = l.bytes (c.file_inode.ensures.looked.shows s) in
-    read_bytes g.F.Form.ENTRY (g.V.View.map c.args.view.now c.args.disk.now c.args.lot.now) c.args.number c.args.at c.args.len c.min-end.result c.in_ok-inode.inode v r.kind r.reaches (search rules)
+    read_bytes (form_of g.F.Form.VERSION) (ap form_of g.F.Form.is_one.0) (g.V.View.map c.args.view.now c.args.disk.now c.args.lot.now) c.args.number c.args.at c.args.len c.min-end.result c.in_ok-inode.inode v r.kind r.reaches (search rules)
     c.loop-from.room.bytes c.loop-from.from (omega arith) (cc)
 
 pub returns-in_err-from-clause-unmade : goal.returns-in_err-from-clause-unmade
@@ -40,5 +41,5 @@ returns-in_err-from-clause-unmade g c = λ e s.
     let p = c.in_err-from.ensures.pointer (search rules) (l.looked.shows (c.file_inode.ensures.looked.shows s)) in
     let a = l.looked.map in
     let b = c.file_inode.ensures.looked.map in
-    unmade c.args.lot.now (g.V.View.map c.args.view.now c.args.disk.now c.args.lot.now) (g.V.View.map c.loop-from.view c.loop-from.disk c.args.lot.now) c.in_ok-inode.inode g.F.Form.ENTRY c.args.number c.args.at p.0 c.min-end.result
+    unmade c.args.lot.now (g.V.View.map c.args.view.now c.args.disk.now c.args.lot.now) (g.V.View.map c.loop-from.view c.loop-from.disk c.args.lot.now) c.in_ok-inode.inode (form_of g.F.Form.VERSION) (ap form_of g.F.Form.is_one.0) c.args.number c.args.at p.0 c.min-end.result
     (cc) (c.in_ok-inode.ensures.value s) c.in_ok-inode.ensures.reaches p.1 (omega arith) p.2

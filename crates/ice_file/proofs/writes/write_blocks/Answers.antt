@@ -1,10 +1,10 @@
 use Rattle.std.proofs.Common.{rules, ◌+◌, max, ℕ, length, ◌∙◌, sym, ap, subst, refl, arith}
 use Rattle.ice_map.proofs.PutsLaws.{spent-then, spent-by}
-use Rattle.ice_file.specs.Own.{MadeOf, blocks_for}
-use Rattle.ice_file.specs.Writes.{due}
-use Rattle.ice_file.proofs.DueLaws.{due-most}
-use Rattle.ice_file.proofs.GrowthLaws.{grew-at, grew-then, inodes-then, none-grew, full-grew, reserved-more, misled-from, unmixed-next, count-had}
-use Rattle.ice_file.proofs.WriteLaws.{written-step, count-now, count-next, few-pieces, count-grows}
+use Rattle.ice_map.specs.Own.{MadeOf, blocks_for}
+use Rattle.ice_map.specs.Moves.{due}
+use Rattle.ice_map.proofs.DueLaws.{due-most}
+use Rattle.ice_map.proofs.GrowthLaws.{grew-at, grew-then, inodes-then, reserved-more, misled-from, unmixed-next}
+use Rattle.ice_file.proofs.WriteLaws.{none-grew, full-grew, count-had, written-step, count-now, count-next, few-pieces, count-grows}
 use Rattle.ice_file.proofs.writes.write_blocks.Goals as goal
 
 pub put_piece-requires-clause-room : goal.put_piece-requires-clause-room

@@ -1,9 +1,10 @@
 use Rattle.std.proofs.Common.{◌-◌, ◌+◌, ◌*◌, ◌/◌, ◌≤◌, ◌<◌}
 use Rattle.ice_base.specs.Views.{Spent}
-use Rattle.ice_file.specs.Growth.{Grew, InodesStay}
-use Rattle.ice_file.specs.Own.{MadeOf, blocks_for}
-use Rattle.ice_file.specs.Writes.{Written, due, up_to, blocks_with}
-use Rattle.ice_file.proofs.GrowthLaws.{Unmixed}
+use Rattle.ice_map.specs.Growth.{Grew, InodesStay}
+use Rattle.ice_map.specs.Own.{MadeOf, blocks_for}
+use Rattle.ice_file.specs.Writes.{Written, up_to, blocks_with}
+use Rattle.ice_map.specs.Moves.{due}
+use Rattle.ice_map.proofs.GrowthLaws.{Unmixed}
 use Rattle.ice_file.proofs.writes.write_blocks.Given as goal
 
 abbrev pub invariant-loop-k : goal.invariant-loop-k

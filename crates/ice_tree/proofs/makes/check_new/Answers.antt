@@ -1,26 +1,23 @@
 use Rattle.std.proofs.Common.{◌+◌, ◌∙◌, length, drop, sym, refl, ap, subst, [], ◌∷◌, arith}
 use Rattle.ice_base.proofs.LotLaws.{sited-few}
 use Rattle.ice_reads.specs.Tables.{Map}
-use Rattle.ice_tree.specs.Broken.{IsBroken}
-use Rattle.ice_tree.specs.Grounds.{HasFree}
+use Rattle.ice_map.specs.Own.{own}
+use Rattle.ice_look.specs.Broken.{IsBroken}
+use Rattle.ice_tree.specs.Quotas.{HasFree, quota_refusal, nodes_refusal, blocks_refusal, done_refusal}
 use Rattle.ice_tree.proofs.CostLaws.{dir-cost}
 use Rattle.ice_tree.proofs.FaultLaws.{broke-too}
-use Rattle.tree_spec.specs.Costs.{form_of}
+use Rattle.tree_spec.specs.Costs.{form_of, nodes}
 use Rattle.tree_spec.specs.Answers.{next}
-use Rattle.tree_spec.specs.Replies.{refused_of}
-use Rattle.ice_reads.specs.Tables.{own_in}
-use Rattle.ice_tree.specs.Changes.{new_operation, new_refusal}
-use Rattle.ice_tree.specs.Outcomes.{RefusedAs}
-use Rattle.ice_tree.specs.Stages.{or_else, paths_refusal, quota_refusal}
+use Rattle.tree_spec.specs.Replies.{refused_of, Because}
+use Rattle.ice_tree.specs.Makes.{new_operation, new_refusal}
+use Rattle.ice_look.specs.Outcomes.{RefusedAs}
+use Rattle.ice_look.specs.Stages.{or_else, paths_refusal}
 use Rattle.ice_tree.proofs.SpotLaws.{new-stages, new-needs, root-is}
 use Rattle.ice_tree.proofs.StageLaws.{refused-now, refused-later, none-both, recovers-same}
-use Rattle.ice_tree.proofs.LookLaws.{fault_as}
+use Rattle.ice_look.proofs.LookLaws.{fault_as}
 use Rattle.tree_spec.specs.Why as why
-use Rattle.tree_spec.specs.Replies.{Because}
-use Rattle.ice_tree.specs.Stages.{nodes_refusal, blocks_refusal, done_refusal}
 use Rattle.ice_tree.proofs.QuotaLaws.{many_nodes}
-use Rattle.ice_tree.proofs.SoundLaws.{spot-nodes}
-use Rattle.tree_spec.specs.Costs.{nodes}
+use Rattle.ice_look.proofs.SoundLaws.{spot-nodes}
 use Rattle.tree_spec.specs.Trees.{parent}
 use Rattle.ice_tree.proofs.makes.check_new.Goals as goal
 
@@ -37,7 +34,7 @@ returns-in-Err-new_spot-clause-spot g c = λ dir mode k t s r.
     let f = form_of g.F.Form.VERSION in
     let p = drop c.args.depth c.args.path.now in
     let n = length c.args.lot.now.groups in
-    let o = own_in f (g.K.View.map c.args.keep.now c.args.disk.now c.args.lot.now) in
+    let o = own f (g.K.View.map c.args.keep.now c.args.disk.now c.args.lot.now) in
     let x = refused_of c.in-Err-new_spot.refusal in
     let ends = c.in-Ok.ensures.found mode k t s r in
     subst (RefusedAs x) (sym (new-stages dir t k n f p))
@@ -49,7 +46,7 @@ returns-in-Ok-check_quota-clause-spot g c = λ dir mode k t s r.
     let f = form_of g.F.Form.VERSION in
     let p = drop c.args.depth c.args.path.now in
     let n = length c.args.lot.now.groups in
-    let o = own_in f (g.K.View.map c.args.keep.now c.args.disk.now c.args.lot.now) in
+    let o = own f (g.K.View.map c.args.keep.now c.args.disk.now c.args.lot.now) in
     let ends = c.in-Ok.ensures.found mode k t s r in
     let spot = c.in-Ok-new_spot.ensures.spot f o p t ends (root-is c.args.path.now c.args.depth c.len.result c.requires.depth c.len.ensures) in
     let needs = new-needs f (ap form_of g.F.Form.is_one.0) o p t c.in-Ok-new_spot.spot dir spot.0 spot.1 c.dir_cost.result c.dir_cost-2.result c.dir_cost.ensures c.dir_cost-2.ensures in
@@ -64,7 +61,7 @@ returns-in-Err-check_quota-clause-spot g c = λ dir mode k t s r.
     let f = form_of g.F.Form.VERSION in
     let p = drop c.args.depth c.args.path.now in
     let n = length c.args.lot.now.groups in
-    let o = own_in f (g.K.View.map c.args.keep.now c.args.disk.now c.args.lot.now) in
+    let o = own f (g.K.View.map c.args.keep.now c.args.disk.now c.args.lot.now) in
     let x = refused_of c.in-Err-check_quota.refusal in
     let ends = c.in-Ok.ensures.found mode k t s r in
     let spot = c.in-Ok-new_spot.ensures.spot f o p t ends (root-is c.args.path.now c.args.depth c.len.result c.requires.depth c.len.ensures) in
@@ -81,7 +78,7 @@ returns-in-Ok-check_quota-clause-ready g c = λ s.
     let one = ap form_of g.F.Form.is_one.0 in
     let m = g.K.View.map c.args.keep.now c.args.disk.now c.args.lot.now in
     let looked = c.find_ends.ensures.looked in
-    let spot = c.in-Ok-new_spot.ensures.is g.F.Form.ENTRY c.args.lot.now m (c.in-Ok.ensures.are s) c.in-Ok.ensures.fits in
+    let spot = c.in-Ok-new_spot.ensures.is (form_of g.F.Form.VERSION) c.args.lot.now m (c.in-Ok.ensures.are s) c.in-Ok.ensures.fits in
     let enough = subst (λ (n : Map). HasFree c.args.lot.now n (record { nodes = 1; lost = 0; blocks = c.dir_cost.result; freed = c.dir_cost-2.result })) looked.map (c.in-Ok-check_quota.ensures.enough (looked.shows s)) in
     let few = sited-few c.args.lot.now _ c.requires.sited in
     let small = c.in-Ok-new_spot.ensures.fits c.args.lot.now c.in-Ok.ensures.fits in
@@ -94,8 +91,8 @@ returns-in-Ok-check_quota-clause-ready g c = λ s.
         enough.blocks,
         c.dir_cost.ensures,
         c.dir_cost-2.ensures,
-        dir-cost f one g.F.Form.ENTRY g.F.Form.is_one.1 (c.in-Ok-new_spot.spot.entries + 1) (omega (arith, few, small.count)),
-        dir-cost f one g.F.Form.ENTRY g.F.Form.is_one.1 c.in-Ok-new_spot.spot.entries (omega (arith, few, small.count)),
+        dir-cost f one (form_of g.F.Form.VERSION) (ap form_of g.F.Form.is_one.0) (c.in-Ok-new_spot.spot.entries + 1) (omega (arith, few, small.count)),
+        dir-cost f one (form_of g.F.Form.VERSION) (ap form_of g.F.Form.is_one.0) c.in-Ok-new_spot.spot.entries (omega (arith, few, small.count)),
       );
       done = enough.done;
     }
@@ -103,7 +100,7 @@ returns-in-Ok-check_quota-clause-ready g c = λ s.
 pub returns-in-Err-check_quota-clause-damaged : goal.returns-in-Err-check_quota-clause-damaged
 returns-in-Err-check_quota-clause-damaged g c = λ n e s.
     let looked = c.find_ends.ensures.looked in
-    broke-too _ _ (λ r h. subst (λ (m : Map). IsBroken g.F.Form.ENTRY c.args.lot.now m r) looked.map h) c.in-Err-check_quota.refusal (λ n e. c.in-Err-check_quota.ensures.damaged n e (looked.shows s)) n e
+    broke-too _ _ (λ r h. subst (λ (m : Map). IsBroken (form_of g.F.Form.VERSION) c.args.lot.now m r) looked.map h) c.in-Err-check_quota.refusal (λ n e. c.in-Err-check_quota.ensures.damaged n e (looked.shows s)) n e
 
 pub returns-in-Err-find_ends-clause-spot : goal.returns-in-Err-find_ends-clause-spot
 returns-in-Err-find_ends-clause-spot g c = λ dir mode k t s r. fault_as _ c.in-Err-find_ends.fault _ c.refusal_of.ensures (c.in-Err-find_ends.ensures.sound mode k t s r)
@@ -113,7 +110,7 @@ returns-then-spot-len-clause-spot g c = λ dir mode k t s r.
     let f = form_of g.F.Form.VERSION in
     let p = drop c.args.depth c.args.path.now in
     let n = length c.args.lot.now.groups in
-    let o = own_in f (g.K.View.map c.args.keep.now c.args.disk.now c.args.lot.now) in
+    let o = own f (g.K.View.map c.args.keep.now c.args.disk.now c.args.lot.now) in
     let x = Because why.NoNodes in
     let now = next (new_operation dir p) t in
     let spot = c.in-Ok-new_spot.ensures.spot f o p t (c.in-Ok.ensures.found mode k t s r) (root-is c.args.path.now c.args.depth c.len.result c.requires.depth c.len.ensures) in

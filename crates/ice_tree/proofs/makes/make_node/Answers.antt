@@ -2,15 +2,14 @@ use Rattle.std.proofs.Common.{drop, length, refl, sym, subst}
 use Rattle.tree_spec.specs.Costs.{form_of}
 use Rattle.tree_spec.specs.Answers.{answer}
 use Rattle.tree_spec.specs.Replies.{refused_of}
-use Rattle.ice_tree.specs.Changes.{new_operation}
-use Rattle.ice_tree.proofs.LookLaws.{fault_model}
+use Rattle.ice_tree.specs.Makes.{new_operation, NewFits}
+use Rattle.ice_look.proofs.LookLaws.{fault_model}
 use Rattle.ice_tree.proofs.MakeLaws.{new-changes}
 use Rattle.ice_tree.proofs.ReplyLaws.{refused-model, accepted-model, accepted-recovers}
 use Rattle.ice_tree.proofs.SpotLaws.{takes-after}
 use Rattle.ice_reads.specs.Tables.{Map}
-use Rattle.ice_tree.specs.Broken.{IsBroken, IsBrokenBy}
-use Rattle.ice_tree.specs.Grounds.{NewFits}
-use Rattle.ice_tree.proofs.FaultLaws.{fault-names}
+use Rattle.ice_look.specs.Broken.{IsBroken, IsBrokenBy}
+use Rattle.ice_look.proofs.FaultLaws.{fault-names}
 use Rattle.ice_tree.specs.Outcomes.{make_refusals, change_rules}
 use Rattle.ice_tree.proofs.Sets.{fault-set}
 use Rattle.ice_tree.proofs.makes.make_node.Goals as goal
@@ -52,6 +51,6 @@ returns-in-Err-put_new-clause-damaged g c = λ n named s.
     let lot = c.args.lot.now in
     let m0 = g.K.View.map c.args.keep.now c.args.disk.now lot in
     let looked = c.check_new.ensures.looked in
-    let fits = subst (λ (m : Map). NewFits g.F.Form.ENTRY lot m c.in-Ok.spot) (sym looked.map) (c.in-Ok.ensures.ready s) in
-    fault-names (IsBroken g.F.Form.ENTRY lot m0) c.in-Err-put_new.fault c.refusal_of.result c.refusal_of.ensures
-    (subst (λ (m : Map). IsBrokenBy g.F.Form.ENTRY lot m c.in-Err-put_new.fault) looked.map (c.in-Err-put_new.ensures.broken (looked.shows s) fits)) n named
+    let fits = subst (λ (m : Map). NewFits (form_of g.F.Form.VERSION) lot m c.in-Ok.spot) (sym looked.map) (c.in-Ok.ensures.ready s) in
+    fault-names (IsBroken (form_of g.F.Form.VERSION) lot m0) c.in-Err-put_new.fault c.refusal_of.result c.refusal_of.ensures
+    (subst (λ (m : Map). IsBrokenBy (form_of g.F.Form.VERSION) lot m c.in-Err-put_new.fault) looked.map (c.in-Err-put_new.ensures.broken (looked.shows s) fits)) n named

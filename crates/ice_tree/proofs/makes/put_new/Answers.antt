@@ -2,7 +2,7 @@ use Rattle.std.proofs.Common.{ap, Err, length}
 use Rattle.std.proofs.lemmas.Result.{err_from_is_err_and}
 use Rattle.ice_base.proofs.LotLaws.{sited-few}
 use Rattle.tree_spec.specs.Costs.{form_of}
-use Rattle.ice_tree.specs.Changes.{new_operation}
+use Rattle.ice_tree.specs.Makes.{new_operation}
 use Rattle.ice_tree.proofs.CountLaws.{counts_up, count_room}
 use Rattle.ice_tree.proofs.MakeLaws.{new-changes}
 use Rattle.tree_spec.specs.Answers.{next}

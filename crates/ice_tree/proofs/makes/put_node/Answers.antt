@@ -23,7 +23,7 @@ returns-in_err-number-clause-sound g c = λ mode k t p s takes.
     let x = err_from_is_err_and c.from_residual.result c.from_residual.ensures.1 in
     let e = c.in_err-number.ensures in
     rw (x.1, x.2)
-    (take_sound (form_of g.F.Form.VERSION) (ap form_of g.F.Form.is_one.0) g.F.Form.ENTRY g.F.Form.is_one.1 mode c.args.lot.now (g.K.View.map c.args.keep.now c.args.disk.now c.args.lot.now) t k p c.args.dir c.args.spot.now c.args.name.now
+    (take_sound (form_of g.F.Form.VERSION) (ap form_of g.F.Form.is_one.0) (form_of g.F.Form.VERSION) (ap form_of g.F.Form.is_one.0) mode c.args.lot.now (g.K.View.map c.args.keep.now c.args.disk.now c.args.lot.now) t k p c.args.dir c.args.spot.now c.args.name.now
     (sited-few c.args.lot.now _ c.requires.sited) takes _ e.faults (λ q. e.none (ap (λ y. Err y) q) s) (λ q. e.full (ap (λ y. Err y) q) s))
 
 pub returns-in_err-add-clause-sound : goal.returns-in_err-add-clause-sound
@@ -36,7 +36,7 @@ returns-in_err-add-clause-sound g c = λ mode k t p s takes.
     let m1 = g.K.View.map c.take_inode.new.keep c.take_inode.new.disk c.args.lot.now in
     let m2 = g.K.View.map c.put_inode.new.keep c.put_inode.new.disk c.args.lot.now in
     rw (x.1, x.2)
-    (add_sound (form_of g.F.Form.VERSION) (ap form_of g.F.Form.is_one.0) g.F.Form.ENTRY g.F.Form.is_one.1 mode c.args.lot.now m0 t k p c.args.dir c.args.spot.now c.args.name.now
+    (add_sound (form_of g.F.Form.VERSION) (ap form_of g.F.Form.is_one.0) (form_of g.F.Form.VERSION) (ap form_of g.F.Form.is_one.0) mode c.args.lot.now m0 t k p c.args.dir c.args.spot.now c.args.name.now
     (sited-few c.args.lot.now _ c.requires.sited) takes m1 m2 c.in_ok-number.number
     (record {
       small = c.in_ok-number.ensures.number;
@@ -46,7 +46,7 @@ returns-in_err-add-clause-sound g c = λ mode k t p s takes.
       there = c.put_inode.ensures.puts.only;
     })
     _ e.faults (λ q. e.none (ap (λ y. Err y) q) s2) (λ q. e.full (ap (λ y. Err y) q) s2) (λ q. e.kind (ap (λ y. Err y) q) s2)
-    (λ q. dir-misled c.args.lot.now g.F.Form.ENTRY m2 c.args.spot.now.number (e.is_dir Pointer (ap (λ y. Err y) q) (λ w. absurd cc) s2) (e.misled (ap (λ y. Err y) q) s2)) (λ q. e.unreserved (ap (λ y. Err y) q) s2))
+    (λ q. dir-misled c.args.lot.now (form_of g.F.Form.VERSION) (ap form_of g.F.Form.is_one.0) m2 c.args.spot.now.number (e.is_dir Pointer (ap (λ y. Err y) q) (λ w. absurd cc) s2) (e.misled (ap (λ y. Err y) q) s2)) (λ q. e.unreserved (ap (λ y. Err y) q) s2))
 
 pub returns-clause-made : goal.returns-clause-made
 returns-clause-made g c = λ mode k t p s takes.
@@ -65,15 +65,15 @@ returns-clause-made g c = λ mode k t p s takes.
       put = subst (λ (x : Inode). InodeSet m1 m2 c.in_ok-number.number x) c.new_node.ensures (c.in_ok-put_inode.ensures.written s1);
       there = c.put_inode.ensures.puts.only;
     } in
-    let well = spot_well f one g.F.Form.ENTRY g.F.Form.is_one.1 mode c.args.lot.now m0 t k p c.args.dir c.args.spot.now c.args.name.now few takes m1 m2 c.in_ok-number.number n in
-    node_recovers f one g.F.Form.ENTRY g.F.Form.is_one.1 mode c.args.lot.now m0 t k p c.args.dir c.args.spot.now c.args.name.now few takes m1 m2 c.in_ok-number.number n
+    let well = spot_well f one (form_of g.F.Form.VERSION) (ap form_of g.F.Form.is_one.0) mode c.args.lot.now m0 t k p c.args.dir c.args.spot.now c.args.name.now few takes m1 m2 c.in_ok-number.number n in
+    node_recovers f one (form_of g.F.Form.VERSION) (ap form_of g.F.Form.is_one.0) mode c.args.lot.now m0 t k p c.args.dir c.args.spot.now c.args.name.now few takes m1 m2 c.in_ok-number.number n
     (let limit = g.F.Form.is_one.2 in omega (arith, c.requires.fits, limit))
     (g.K.View.map c.add.new.keep c.add.new.disk c.args.lot.now)
     (c.in_ok-add.ensures.added s2 well)
 
 pub returns-then-number-spot-clause-sound : goal.returns-then-number-spot-clause-sound
 returns-then-number-spot-clause-sound g c = λ mode k t p s takes.
-    absurd (spot_apart (form_of g.F.Form.VERSION) (ap form_of g.F.Form.is_one.0) g.F.Form.ENTRY g.F.Form.is_one.1 mode c.args.lot.now (g.K.View.map c.args.keep.now c.args.disk.now c.args.lot.now) t k p c.args.dir c.args.spot.now c.args.name.now
+    absurd (spot_apart (form_of g.F.Form.VERSION) (ap form_of g.F.Form.is_one.0) (form_of g.F.Form.VERSION) (ap form_of g.F.Form.is_one.0) mode c.args.lot.now (g.K.View.map c.args.keep.now c.args.disk.now c.args.lot.now) t k p c.args.dir c.args.spot.now c.args.name.now
     (sited-few c.args.lot.now _ c.requires.sited) takes c.in_ok-number.number (c.in_ok-number.ensures.took s).least.0 c.if-number-spot.true)
 
 pub returns-in_err-number-clause-broken : goal.returns-in_err-number-clause-broken
@@ -81,7 +81,7 @@ returns-in_err-number-clause-broken g c = λ s fits.
     let x = err_from_is_err_and c.from_residual.result c.from_residual.ensures.1 in
     let e = c.in_err-number.ensures in
     rw (x.1, x.2)
-    (take-blamed g.F.Form.ENTRY g.F.Form.is_one.1 c.args.lot.now (sited-few c.args.lot.now _ c.requires.sited) (g.K.View.map c.args.keep.now c.args.disk.now c.args.lot.now) c.args.spot.now fits
+    (take-blamed (form_of g.F.Form.VERSION) (ap form_of g.F.Form.is_one.0) c.args.lot.now (sited-few c.args.lot.now _ c.requires.sited) (g.K.View.map c.args.keep.now c.args.disk.now c.args.lot.now) c.args.spot.now fits
     _ e.faults (λ q. e.none (ap (λ y. Err y) q) s) (λ q. e.full (ap (λ y. Err y) q) s))
 
 pub returns-in_err-add-clause-broken : goal.returns-in_err-add-clause-broken
@@ -94,7 +94,7 @@ returns-in_err-add-clause-broken g c = λ s fits.
     let m1 = g.K.View.map c.take_inode.new.keep c.take_inode.new.disk c.args.lot.now in
     let m2 = g.K.View.map c.put_inode.new.keep c.put_inode.new.disk c.args.lot.now in
     rw (x.1, x.2)
-    (add-blamed g.F.Form.ENTRY g.F.Form.is_one.1 c.args.lot.now (sited-few c.args.lot.now _ c.requires.sited) m0 c.args.spot.now fits m1 m2 c.in_ok-number.number c.args.dir
+    (add-blamed (form_of g.F.Form.VERSION) (ap form_of g.F.Form.is_one.0) c.args.lot.now (sited-few c.args.lot.now _ c.requires.sited) m0 c.args.spot.now fits m1 m2 c.in_ok-number.number c.args.dir
     (record {
       small = c.in_ok-number.ensures.number;
       took = c.in_ok-number.ensures.took s;

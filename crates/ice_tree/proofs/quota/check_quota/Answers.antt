@@ -2,7 +2,7 @@
 use Rattle.std.proofs.Common.{length}
 use Rattle.tree_spec.specs.Costs.{form_of}
 use Rattle.tree_spec.specs.Replies.{refused_of}
-use Rattle.ice_tree.specs.Stages.{nodes_refusal, blocks_refusal}
+use Rattle.ice_tree.specs.Quotas.{nodes_refusal, blocks_refusal}
 use Rattle.ice_tree.proofs.StageLaws.{refused-now, refused-later, finds-later, recovers-same}
 use Rattle.ice_tree.proofs.quota.check_quota.Goals as goal
 

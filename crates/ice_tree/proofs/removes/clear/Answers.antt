@@ -9,8 +9,8 @@ use Rattle.ice_tree.proofs.RemoveLaws.{err-is, inode-given, can-give-inode}
 use Rattle.ice_tree.proofs.RemoveDamage.{done-given, give-loose, freed-given}
 use Rattle.ice_tree.proofs.FaultLaws.{err-by}
 use Rattle.ice_tree.proofs.Sets.{disk-in, give-in}
-use Rattle.ice_tree.specs.Broken.{IsFaultBy}
-use Rattle.ice_tree.specs.Grounds.{LooseBroken}
+use Rattle.ice_look.specs.Broken.{IsFaultBy}
+use Rattle.ice_tree.specs.Removes.{LooseBroken}
 use Rattle.ice_tree.specs.Outcomes.{IsNamedIn, change_rules}
 use Rattle.ice_tree.proofs.removes.clear.Goals as goal
 
@@ -26,7 +26,7 @@ returns-clause-cleared g c = λ mode k t s l.
     let one = c.drop_bytes.ensures.spent.shows s in
     let two = c.put_inode.ensures.spent.shows one in
     on_ok_weaker c.give_inode.result
-    (λ gave. inode-given (form_of g.F.Form.VERSION) (ap form_of g.F.Form.is_one.0) mode lot (sited-few lot _ c.requires.sited) (g.K.View.map c.drop_bytes.new.keep c.drop_bytes.new.disk lot) t k c.args.number c.args.bytes g.F.Form.ENTRY g.F.Form.is_one.1
+    (λ gave. inode-given (form_of g.F.Form.VERSION) (ap form_of g.F.Form.is_one.0) mode lot (sited-few lot _ c.requires.sited) (g.K.View.map c.drop_bytes.new.keep c.drop_bytes.new.disk lot) t k c.args.number c.args.bytes (form_of g.F.Form.VERSION) (ap form_of g.F.Form.is_one.0)
     (g.K.View.map c.put_inode.new.keep c.put_inode.new.disk lot) (g.K.View.map c.give_inode.new.keep c.give_inode.new.disk lot) c.free_node.result b (c.in_ok-put_inode.ensures.written one) c.put_inode.ensures.puts.only gave c.give_inode.ensures.puts.only)
     (c.give_inode.ensures.gave two)
 
@@ -39,7 +39,7 @@ returns-clause-sound g c = λ mode k t s l.
     let x = c.give_inode.ensures in
     err-is c.give_inode.result IsGiveFault FaultDisk x.faults
     (λ e is fault.
-    can-give-inode (form_of g.F.Form.VERSION) (ap form_of g.F.Form.is_one.0) mode lot (sited-few lot _ c.requires.sited) (g.K.View.map c.drop_bytes.new.keep c.drop_bytes.new.disk lot) t k c.args.number c.args.bytes g.F.Form.ENTRY g.F.Form.is_one.1
+    can-give-inode (form_of g.F.Form.VERSION) (ap form_of g.F.Form.is_one.0) mode lot (sited-few lot _ c.requires.sited) (g.K.View.map c.drop_bytes.new.keep c.drop_bytes.new.disk lot) t k c.args.number c.args.bytes (form_of g.F.Form.VERSION) (ap form_of g.F.Form.is_one.0)
     (g.K.View.map c.put_inode.new.keep c.put_inode.new.disk lot) c.free_node.result b (c.in_ok-put_inode.ensures.written one) c.put_inode.ensures.puts.only
     e fault (λ q. x.zero (is ∙ ap (λ (y : OpFault). Err y) q) two) (λ q. x.unused (is ∙ ap (λ (y : OpFault). Err y) q) two))
 

@@ -11,15 +11,15 @@ use Rattle.ice_tree.proofs.FaultLaws.{err-by, done-beside, count-beside}
 use Rattle.ice_tree.proofs.FileDamage.{cut-loose}
 use Rattle.ice_tree.proofs.Sets.{cut-in}
 use Rattle.ice_tree.proofs.WellLaws.{err-at, file-free, file-misled}
-use Rattle.ice_tree.specs.Broken.{IsFaultBy}
-use Rattle.ice_tree.specs.Grounds.{LooseBroken}
+use Rattle.ice_look.specs.Broken.{IsFaultBy}
+use Rattle.ice_tree.specs.Removes.{LooseBroken}
 use Rattle.ice_tree.specs.Outcomes.{IsNamedIn, change_rules}
 use Rattle.ice_base.specs.declared.fault.Rule.TheVariants.{Pointer, Bitmap}
 use Rattle.ice_tree.proofs.removes.drop_bytes.Goals as goal
 
 pub returns-then-bytes-eq0-clause-dropped : goal.returns-then-bytes-eq0-clause-dropped
 returns-then-bytes-eq0-clause-dropped g c = λ mode k t s l.
-    nothing-dropped (form_of g.F.Form.VERSION) (ap form_of g.F.Form.is_one.0) mode c.args.lot.now (sited-few c.args.lot.now _ c.requires.sited) (g.K.View.map c.args.keep.now c.args.disk.now c.args.lot.now) t k c.args.number c.args.bytes g.F.Form.ENTRY g.F.Form.is_one.1
+    nothing-dropped (form_of g.F.Form.VERSION) (ap form_of g.F.Form.is_one.0) mode c.args.lot.now (sited-few c.args.lot.now _ c.requires.sited) (g.K.View.map c.args.keep.now c.args.disk.now c.args.lot.now) t k c.args.number c.args.bytes (form_of g.F.Form.VERSION) (ap form_of g.F.Form.is_one.0)
     l c.if-bytes-eq0.true
 
 pub returns-clause-dropped : goal.returns-clause-dropped
@@ -27,9 +27,9 @@ returns-clause-dropped g c = λ mode k t s l.
     let few = sited-few c.args.lot.now _ c.requires.sited in
     let m = g.K.View.map c.args.keep.now c.args.disk.now c.args.lot.now in
     on_ok_weaker c.cut_to.result
-    (bytes-dropped (form_of g.F.Form.VERSION) (ap form_of g.F.Form.is_one.0) mode c.args.lot.now few m t k c.args.number c.args.bytes g.F.Form.ENTRY g.F.Form.is_one.1
+    (bytes-dropped (form_of g.F.Form.VERSION) (ap form_of g.F.Form.is_one.0) mode c.args.lot.now few m t k c.args.number c.args.bytes (form_of g.F.Form.VERSION) (ap form_of g.F.Form.is_one.0)
     (g.K.View.map c.cut_to.new.keep c.cut_to.new.disk c.args.lot.now) l c.if-bytes-eq0.false)
-    (c.cut_to.ensures.cut s (loose-made (form_of g.F.Form.VERSION) (ap form_of g.F.Form.is_one.0) mode c.args.lot.now few m t k c.args.number c.args.bytes g.F.Form.ENTRY g.F.Form.is_one.1 l))
+    (c.cut_to.ensures.cut s (loose-made (form_of g.F.Form.VERSION) (ap form_of g.F.Form.is_one.0) mode c.args.lot.now few m t k c.args.number c.args.bytes (form_of g.F.Form.VERSION) (ap form_of g.F.Form.is_one.0) l))
 
 pub returns-clause-sound : goal.returns-clause-sound
 returns-clause-sound g c = λ mode k t s l.
@@ -38,10 +38,10 @@ returns-clause-sound g c = λ mode k t s l.
     let x = c.cut_to.ensures in
     err-is c.cut_to.result IsCutToFault FaultDisk x.faults
     (λ e is fault.
-    can-drop (form_of g.F.Form.VERSION) (ap form_of g.F.Form.is_one.0) mode c.args.lot.now few m t k c.args.number c.args.bytes g.F.Form.ENTRY g.F.Form.is_one.1 l c.if-bytes-eq0.false
+    can-drop (form_of g.F.Form.VERSION) (ap form_of g.F.Form.is_one.0) mode c.args.lot.now few m t k c.args.number c.args.bytes (form_of g.F.Form.VERSION) (ap form_of g.F.Form.is_one.0) l c.if-bytes-eq0.false
     e fault (λ q. x.kind (is ∙ ap (λ (y : OpFault). Err y) q) s) (λ q. let z = x.zero (is ∙ ap (λ (y : OpFault). Err y) q) s in omega arith)
-    (λ q. file-free c.args.lot.now g.F.Form.ENTRY m c.args.number 0 (err-at _ c.cut_to.result e is x.file Bitmap q (λ z. absurd cc) s) (x.unused (is ∙ ap (λ (y : OpFault). Err y) q) s))
-    (λ q. file-misled c.args.lot.now g.F.Form.ENTRY m c.args.number 0 (err-at _ c.cut_to.result e is x.file Pointer q (λ z. absurd cc) s) (x.misled (is ∙ ap (λ (y : OpFault). Err y) q) s)))
+    (λ q. file-free c.args.lot.now (form_of g.F.Form.VERSION) (ap form_of g.F.Form.is_one.0) m c.args.number 0 (err-at _ c.cut_to.result e is x.file Bitmap q (λ z. absurd cc) s) (x.unused (is ∙ ap (λ (y : OpFault). Err y) q) s))
+    (λ q. file-misled c.args.lot.now (form_of g.F.Form.VERSION) (ap form_of g.F.Form.is_one.0) m c.args.number 0 (err-at _ c.cut_to.result e is x.file Pointer q (λ z. absurd cc) s) (x.misled (is ∙ ap (λ (y : OpFault). Err y) q) s)))
 
 pub returns-clause-broken : goal.returns-clause-broken
 returns-clause-broken g c = λ s file.
@@ -50,7 +50,7 @@ returns-clause-broken g c = λ s file.
     let x = c.cut_to.ensures in
     err-by c.cut_to.result IsCutToFault (IsFaultBy (LooseBroken lot m c.args.number)) x.faults
     (λ e is fault.
-    cut-loose lot m 0 c.args.number (file (omega arith)) e fault (λ q. x.kind (is ∙ ap (λ (y : OpFault). Err y) q) s) (λ q. x.zero (is ∙ ap (λ (y : OpFault). Err y) q) s) (λ q. x.unused (is ∙ ap (λ (y : OpFault). Err y) q) s)
+    cut-loose (form_of g.F.Form.VERSION) (ap form_of g.F.Form.is_one.0) lot m 0 c.args.number (file (omega arith)) e fault (λ q. x.kind (is ∙ ap (λ (y : OpFault). Err y) q) s) (λ q. x.zero (is ∙ ap (λ (y : OpFault). Err y) q) s) (λ q. x.unused (is ∙ ap (λ (y : OpFault). Err y) q) s)
     (λ q. x.single_placed (is ∙ ap (λ (y : OpFault). Err y) q) s) (λ q. x.misled (is ∙ ap (λ (y : OpFault). Err y) q) s))
 
 pub returns-clause-faults : goal.returns-clause-faults

@@ -4,13 +4,13 @@ use Rattle.tree_spec.specs.Answers.{answer}
 use Rattle.tree_spec.specs.Operations.{Remove}
 use Rattle.tree_spec.specs.Replies.{refused_of}
 use Rattle.tree_spec.specs.Trees.{last_name}
-use Rattle.ice_tree.specs.Broken.{IsBroken, IsBrokenBy}
-use Rattle.ice_tree.specs.Moves.{Freed}
-use Rattle.ice_tree.specs.Grounds.{CanCount}
-use Rattle.ice_tree.specs.Outcomes.{RefusedAs}
-use Rattle.ice_tree.specs.Stages.{paths_refusal}
-use Rattle.ice_tree.proofs.FaultLaws.{fault-names}
-use Rattle.ice_tree.proofs.LookLaws.{fault_model}
+use Rattle.ice_look.specs.Broken.{IsBroken, IsBrokenBy}
+use Rattle.ice_tree.specs.Removes.{Freed}
+use Rattle.ice_tree.specs.Quotas.{CanCount}
+use Rattle.ice_look.specs.Outcomes.{RefusedAs}
+use Rattle.ice_look.specs.Stages.{paths_refusal}
+use Rattle.ice_look.proofs.FaultLaws.{fault-names}
+use Rattle.ice_look.proofs.LookLaws.{fault_model}
 use Rattle.ice_tree.proofs.RemoveDamage.{gone-after}
 use Rattle.ice_tree.proofs.RemoveLaws.{loses-after, later_refusal, remove-stages}
 use Rattle.ice_tree.proofs.ReplyLaws.{refused-model, accepted-model, accepted-recovers}
@@ -81,11 +81,11 @@ returns-in-Err-put_away-clause-damaged g c = λ n named s.
     let m1 : ℕ → List ℕ = g.K.View.map c.may_remove.new.keep c.may_remove.new.disk lot in
     let looked = c.may_remove.ensures.looked in
     let last = last_name (drop c.args.depth c.args.path.now) in
-    let is = gone-after g.F.Form.ENTRY lot m0 m1 last c.last_of-name.result c.in-Ok.gone looked.map c.last_of-name.ensures.last (c.in-Ok.ensures.is s) in
+    let is = gone-after (form_of g.F.Form.VERSION) lot m0 m1 last c.last_of-name.result c.in-Ok.gone looked.map c.last_of-name.ensures.last (c.in-Ok.ensures.is s) in
     let room = subst (λ (m : ℕ → List ℕ). CanCount m) (sym looked.map) (c.in-Ok.ensures.room s) in
     let broken = c.in-Err-put_away.ensures.broken (looked.shows s) is room in
-    fault-names (IsBroken g.F.Form.ENTRY lot m0) c.in-Err-put_away.fault c.refusal_of.result c.refusal_of.ensures
-    (subst (λ (m : ℕ → List ℕ). IsBrokenBy g.F.Form.ENTRY lot m c.in-Err-put_away.fault) looked.map broken) n named
+    fault-names (IsBroken (form_of g.F.Form.VERSION) lot m0) c.in-Err-put_away.fault c.refusal_of.result c.refusal_of.ensures
+    (subst (λ (m : ℕ → List ℕ). IsBrokenBy (form_of g.F.Form.VERSION) lot m c.in-Err-put_away.fault) looked.map broken) n named
 
 pub returns-in-Ok-put_away-clause-freed : goal.returns-in-Ok-put_away-clause-freed
 returns-in-Ok-put_away-clause-freed g c = λ mode k t s r.

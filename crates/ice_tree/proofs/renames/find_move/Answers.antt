@@ -6,14 +6,14 @@ use Rattle.tree_spec.specs.Trees.{last_name}
 use Rattle.tree_spec.specs.Costs.{form_of}
 use Rattle.tree_spec.specs.Replies.{refused_of}
 use Rattle.tree_spec.specs.declared.reply.Refusal.TheVariants.{Damaged}
-use Rattle.ice_reads.specs.Tables.{Map, own_in}
-use Rattle.ice_tree.specs.Broken.{IsBroken}
-use Rattle.ice_tree.specs.Changes.{IsEnds}
-use Rattle.ice_tree.specs.Grounds.{EndsAre, MoveIs}
+use Rattle.ice_reads.specs.Tables.{Map}
+use Rattle.ice_map.specs.Own.{own}
+use Rattle.ice_look.specs.Broken.{IsBroken}
+use Rattle.ice_look.specs.Ends.{IsEnds, EndsAre}
+use Rattle.ice_tree.specs.Renames.{MoveIs, height_refusal, ends_refusal, IsMove}
 use Rattle.ice_rules.specs.Rules.{rule_number}
-use Rattle.ice_tree.specs.Places.{place_at, PlaceIs, PlaceReached}
-use Rattle.ice_tree.specs.Renames.{height_refusal, ends_refusal, IsMove}
-use Rattle.ice_tree.proofs.LookLaws.{fault_as}
+use Rattle.ice_look.specs.Places.{place_at, PlaceIs, PlaceReached}
+use Rattle.ice_look.proofs.LookLaws.{fault_as}
 use Rattle.ice_tree.proofs.StageLaws.{refused-now, refused-later, none-both, recovers-same}
 use Rattle.ice_tree.proofs.RenameLaws.{found-move}
 use Rattle.ice_tree.proofs.renames.find_move.Goals as goal
@@ -39,7 +39,7 @@ returns-in-Err-check_height-clause-found g c = λ mode k t s r.
     let there = length-drop c.args.depth c.args.to.now in
     refused-now (refused_of c.in-Err-check_height.refusal) (height_refusal p q t) (ends_refusal p q t)
     (c.in-Err-check_height.ensures.height mode k t p q (two.shows (one.shows s)) (recovers-same f mode c.args.lot.now _ _ t k (two.map ∙ one.map) r)
-    (subst (λ (m : Map). c.in-Ok.ends.end ≡ place_at f (own_in f m) p t) (sym (two.map ∙ one.map)) (c.in-Ok.ensures.found mode k t s r).at_end)
+    (subst (λ (m : Map). c.in-Ok.ends.end ≡ place_at f (own f m) p t) (sym (two.map ∙ one.map)) (c.in-Ok.ensures.found mode k t s r).at_end)
     (omega (arith, c.len.ensures)) (omega (arith, c.len-2.ensures)))
 
 pub returns-in-Err-check_ends-clause-found : goal.returns-in-Err-check_ends-clause-found
@@ -56,9 +56,9 @@ returns-in-Err-check_ends-clause-found g c = λ mode k t s r.
     let into = c.in-Ok-find_ends.ensures.found mode k t (one.shows s) (recovers-same f mode c.args.lot.now _ _ t k one.map r) in
     refused-later (refused_of c.in-Err-check_ends.refusal) (height_refusal p q t) (ends_refusal p q t)
     (c.in_default.ensures.height mode k t p q (two.shows (one.shows s)) (recovers-same f mode c.args.lot.now _ _ t k (two.map ∙ one.map) r)
-    (subst (λ (m : Map). c.in-Ok.ends.end ≡ place_at f (own_in f m) p t) (sym (two.map ∙ one.map)) from.at_end)
+    (subst (λ (m : Map). c.in-Ok.ends.end ≡ place_at f (own f m) p t) (sym (two.map ∙ one.map)) from.at_end)
     (omega (arith, c.len.ensures)) (omega (arith, c.len-2.ensures)))
-    (c.in-Err-check_ends.ensures.ends f (own_in f m) p q t from (subst (λ (m : Map). IsEnds f (own_in f m) q t c.in-Ok-find_ends.ends) one.map into)
+    (c.in-Err-check_ends.ensures.ends f (own f m) p q t from (subst (λ (m : Map). IsEnds f (own f m) q t c.in-Ok-find_ends.ends) one.map into)
     (c.has_root.ensures.root p q (omega (arith, c.len.ensures)) (omega (arith, c.len-2.ensures))) c.begins-inside.ensures c.is_one_path-same.ensures)
 
 pub returns-clause-found : goal.returns-clause-found
@@ -72,29 +72,29 @@ returns-clause-found g c = λ mode k t s r.
     let here = length-drop c.args.depth c.args.path.now in
     let there = length-drop c.args.depth c.args.to.now in
     let from = c.in-Ok.ensures.found mode k t s r in
-    let into = subst (λ (m : Map). IsEnds f (own_in f m) q t c.in-Ok-find_ends.ends) one.map (c.in-Ok-find_ends.ensures.found mode k t (one.shows s) (recovers-same f mode c.args.lot.now _ _ t k one.map r)) in
+    let into = subst (λ (m : Map). IsEnds f (own f m) q t c.in-Ok-find_ends.ends) one.map (c.in-Ok-find_ends.ensures.found mode k t (one.shows s) (recovers-same f mode c.args.lot.now _ _ t k one.map r)) in
     let high = c.in_default.ensures.height mode k t p q (two.shows (one.shows s)) (recovers-same f mode c.args.lot.now _ _ t k (two.map ∙ one.map) r)
-    (subst (λ (m : Map). c.in-Ok.ends.end ≡ place_at f (own_in f m) p t) (sym (two.map ∙ one.map)) from.at_end)
+    (subst (λ (m : Map). c.in-Ok.ends.end ≡ place_at f (own f m) p t) (sym (two.map ∙ one.map)) from.at_end)
     (omega (arith, c.len.ensures)) (omega (arith, c.len-2.ensures)) in
-    let ends = c.in_default-check_ends.ensures.ends f (own_in f m) p q t from into
+    let ends = c.in_default-check_ends.ensures.ends f (own f m) p q t from into
     (c.has_root.ensures.root p q (omega (arith, c.len.ensures)) (omega (arith, c.len-2.ensures))) c.begins-inside.ensures c.is_one_path-same.ensures in
-    found-move c.move_of.result _ (IsMove f (own_in f m) p q t) (none-both (height_refusal p q t) (ends_refusal p q t) high ends) (c.move_of.ensures.step f (own_in f m) p q t from into c.is_one_path-same.ensures ends)
+    found-move c.move_of.result _ (IsMove f (own f m) p q t) (none-both (height_refusal p q t) (ends_refusal p q t) high ends) (c.move_of.ensures.step f (own f m) p q t from into c.is_one_path-same.ensures ends)
 
 pub returns-in-Err-check_height-clause-damaged : goal.returns-in-Err-check_height-clause-damaged
 returns-in-Err-check_height-clause-damaged g c = λ n e s.
-    let entry = g.F.Form.ENTRY in
+    let form = (form_of g.F.Form.VERSION) in
     let lot = c.args.lot.now in
     let one = c.find_ends.ensures.looked in
     let two = c.find_ends-2.ensures.looked in
     let from = c.in-Ok.ensures.are s in
     let same : c.in-Err-check_height.refusal ≡ Damaged n = cc in
-    subst (λ (m : Map). (r : Rule) × (n ≡ rule_number r) × IsBroken entry lot m r) (two.map ∙ one.map)
+    subst (λ (m : Map). (r : Rule) × (n ≡ rule_number r) × IsBroken form lot m r) (two.map ∙ one.map)
     (c.in-Err-check_height.ensures.damaged n (ap (λ x. Err x) same) (two.shows (one.shows s)) (subst (λ (m : Map). PlaceIs m c.in-Ok.ends.end) (sym (two.map ∙ one.map)) from.end)
-    (subst (λ (m : Map). PlaceReached entry lot m c.in-Ok.ends.end) (sym (two.map ∙ one.map)) from.end_reached))
+    (subst (λ (m : Map). PlaceReached form lot m c.in-Ok.ends.end) (sym (two.map ∙ one.map)) from.end_reached))
 
 pub returns-clause-damaged : goal.returns-clause-damaged
 returns-clause-damaged g c = λ n e s.
-    let entry = g.F.Form.ENTRY in
+    let form = (form_of g.F.Form.VERSION) in
     let lot = c.args.lot.now in
     let m : Map = g.V.View.map c.args.view.now c.args.disk.now lot in
     let name = last_name (drop c.args.depth c.args.path.now) in
@@ -103,6 +103,6 @@ returns-clause-damaged g c = λ n e s.
     let into = c.in-Ok-find_ends.ensures in
     let ends = c.in_default-check_ends.ensures in
     let below = c.has_root.ensures.below ends.rootless in
-    absurd (MatchResult-at_err (MoveIs entry lot m name) (λ r. ⊥) _ e
-    (c.move_of.ensures.is entry lot m name (from.are s) (subst (λ (x : Map). EndsAre entry lot x c.in-Ok-find_ends.ends) looked.map (into.are (looked.shows s))) from.fits into.fits
+    absurd (MatchResult-at_err (MoveIs form lot m name) (λ r. ⊥) _ e
+    (c.move_of.ensures.is form lot m name (from.are s) (subst (λ (x : Map). EndsAre form lot x c.in-Ok-find_ends.ends) looked.map (into.are (looked.shows s))) from.fits into.fits
     (from.named s (omega (arith, below.0, c.len.ensures))) ends.there.0 ends.there.1))

@@ -7,18 +7,16 @@ use Rattle.tree_spec.specs.declared.reply.Refusal.TheVariants.{Damaged}
 use Rattle.tree_spec.specs.Operations.{Rename}
 use Rattle.tree_spec.specs.Answers.{next}
 use Rattle.ice_rules.specs.Rules.{rule_number}
-use Rattle.ice_tree.specs.Outcomes.{RefusedAs}
+use Rattle.ice_look.specs.Outcomes.{RefusedAs}
 use Rattle.ice_tree.specs.Renames.{move_refusal}
-use Rattle.ice_tree.specs.Stages.{quota_refusal}
+use Rattle.ice_tree.specs.Quotas.{quota_refusal, HasFree}
 use Rattle.ice_tree.proofs.StageLaws.{refused-now, refused-later, none-both, recovers-same}
 use Rattle.ice_tree.proofs.RenameLaws.{move-stages}
 use Rattle.ice_reads.specs.Tables.{Map}
-use Rattle.ice_tree.specs.Broken.{IsBroken}
-use Rattle.ice_tree.specs.Grounds.{HasFree}
+use Rattle.ice_look.specs.Broken.{IsBroken, Overfull}
 use Rattle.ice_tree.proofs.RenameDamage.{row-fits, overfull-of}
-use Rattle.ice_tree.proofs.SoundLaws.{recovers_unbroken}
+use Rattle.ice_look.proofs.SoundLaws.{recovers_unbroken}
 use Rattle.ice_base.specs.declared.fault.Rule.TheVariants.{InodeTwice}
-use Rattle.ice_tree.specs.Broken.{Overfull}
 use Rattle.ice_reads.specs.Recovers.{MapRecovers}
 use Rattle.tree_spec.specs.Trees.{last_name}
 use Rattle.ice_tree.specs.Outcomes.{rename_refusals, rename_rules, sub_rules}
@@ -76,29 +74,29 @@ returns-in-Ok-check_quota-clause-room g c = λ s.
     let looked = c.find_move.ensures.looked in
     let few = sited-few c.args.lot.now _ c.requires.sited in
     let fits = c.in-Ok.ensures.fits in
-    row-fits g.F.Form.ENTRY c.args.lot.now m (form_of g.F.Form.VERSION) (ap form_of g.F.Form.is_one.0) g.F.Form.is_one.1 c.in-Ok.step c.need_of-need.result (omega (arith, fits.from.count)) (omega (arith, fits.to.count)) (c.is_overfull.ensures.room c.if-is_overfull.false) c.need_of-need.ensures.apart
+    row-fits (form_of g.F.Form.VERSION) c.args.lot.now m (form_of g.F.Form.VERSION) (ap form_of g.F.Form.is_one.0) (ap form_of g.F.Form.is_one.0) c.in-Ok.step c.need_of-need.result (omega (arith, fits.from.count)) (omega (arith, fits.to.count)) (c.is_overfull.ensures.room c.if-is_overfull.false) c.need_of-need.ensures.apart
     (subst (λ (x : Map). HasFree c.args.lot.now x c.need_of-need.result) looked.map (c.in-Ok-check_quota.ensures.enough (looked.shows s)))
 
 pub returns-in-Err-check_quota-clause-damaged : goal.returns-in-Err-check_quota-clause-damaged
 returns-in-Err-check_quota-clause-damaged g c = λ n e s.
     let looked = c.find_move.ensures.looked in
     let same : c.in-Err-check_quota.refusal ≡ Damaged n = cc in
-    subst (λ (m : Map). (r : Rule) × (n ≡ rule_number r) × IsBroken g.F.Form.ENTRY c.args.lot.now m r) looked.map
+    subst (λ (m : Map). (r : Rule) × (n ≡ rule_number r) × IsBroken (form_of g.F.Form.VERSION) c.args.lot.now m r) looked.map
     (c.in-Err-check_quota.ensures.damaged n (ap (λ x. Err x) same) (looked.shows s))
 
 pub returns-then-is_overfull-clause-damaged : goal.returns-then-is_overfull-clause-damaged
 returns-then-is_overfull-clause-damaged g c = λ n e s. (
   InodeTwice,
   cc,
-  inr (inl (overfull-of g.F.Form.ENTRY c.args.lot.now (g.K.View.map c.args.keep.now c.args.disk.now c.args.lot.now) (last_name (drop c.args.depth c.args.path.now)) c.in-Ok.step (c.in-Ok.ensures.is s) (c.is_overfull.ensures.many c.if-is_overfull.true))),
+  inr (inl (overfull-of (form_of g.F.Form.VERSION) c.args.lot.now (g.K.View.map c.args.keep.now c.args.disk.now c.args.lot.now) (last_name (drop c.args.depth c.args.path.now)) c.in-Ok.step (c.in-Ok.ensures.is s) (c.is_overfull.ensures.many c.if-is_overfull.true))),
 )
 
 pub returns-then-is_overfull-clause-found : goal.returns-then-is_overfull-clause-found
 returns-then-is_overfull-clause-found g c = λ mode k t s r.
     let lot = c.args.lot.now in
     let m : Map = g.K.View.map c.args.keep.now c.args.disk.now lot in
-    let x = overfull-of g.F.Form.ENTRY lot m (last_name (drop c.args.depth c.args.path.now)) c.in-Ok.step (c.in-Ok.ensures.is s) (c.is_overfull.ensures.many c.if-is_overfull.true) in
-    absurd (recovers_unbroken mode lot m t k InodeTwice (subst (λ f. MapRecovers f mode lot m t k) (ap form_of g.F.Form.is_one.0) r) (inr (inl (subst (λ e. Overfull e lot m) g.F.Form.is_one.1 x))))
+    let x = overfull-of (form_of g.F.Form.VERSION) lot m (last_name (drop c.args.depth c.args.path.now)) c.in-Ok.step (c.in-Ok.ensures.is s) (c.is_overfull.ensures.many c.if-is_overfull.true) in
+    absurd (recovers_unbroken mode lot m t k InodeTwice (subst (λ f. MapRecovers f mode lot m t k) (ap form_of g.F.Form.is_one.0) r) (inr (inl (subst (λ e. Overfull e lot m) (ap form_of g.F.Form.is_one.0) x))))
 
 pub is_overfull-requires-clause-few : goal.is_overfull-requires-clause-few
 is_overfull-requires-clause-few g c = sited-few c.args.lot.now _ c.requires.sited

@@ -17,4 +17,4 @@ returns-in-Some-spot_at-clause-step c = λ f o p q t a b same none. record {
 }
 
 pub returns-in-Some-spot_at-clause-is : goal.returns-in-Some-spot_at-clause-is
-returns-in-Some-spot_at-clause-is c = λ entry lot m name a b f g named there dir. move-is entry lot m name c.args.from.now c.args.into.now _ a b f g named there c.in-Some.ensures c.in-Some-spot_at.ensures
+returns-in-Some-spot_at-clause-is c = λ form lot m name a b f g named there dir. move-is form lot m name c.args.from.now c.args.into.now _ a b f g named there c.in-Some.ensures c.in-Some-spot_at.ensures

@@ -7,16 +7,15 @@ use Rattle.tree_spec.specs.Trees.{Tree}
 use Rattle.tree_spec.specs.declared.reply.Refusal.TheVariants.{Damaged}
 use Rattle.ice_reads.specs.Tables.{Map}
 use Rattle.ice_reads.specs.Recovers.{MapRecovers}
-use Rattle.ice_tree.specs.Renames.{move_refusal}
-use Rattle.ice_tree.specs.Stages.{or_else, paths_refusal, quota_refusal}
-use Rattle.ice_tree.proofs.EndLaws.{names-last}
-use Rattle.ice_tree.proofs.LookLaws.{as_model, as_accepted, fault_model, first_stage}
-use Rattle.ice_tree.proofs.Names.{name-of}
+use Rattle.ice_tree.specs.Renames.{move_refusal, MoveIs, RowFits}
+use Rattle.ice_look.specs.Stages.{or_else, paths_refusal}
+use Rattle.ice_tree.specs.Quotas.{quota_refusal}
+use Rattle.ice_look.proofs.EndLaws.{names-last, last-is}
+use Rattle.ice_look.proofs.LookLaws.{as_model, as_accepted, fault_model, first_stage}
+use Rattle.ice_look.proofs.Names.{name-of}
 use Rattle.ice_tree.proofs.RenameLaws.{rename-stages, names-short, renames-are, answer-next}
-use Rattle.ice_tree.specs.Broken.{IsBroken, IsBrokenBy}
-use Rattle.ice_tree.specs.Grounds.{MoveIs, RowFits}
-use Rattle.ice_tree.proofs.FaultLaws.{fault-names}
-use Rattle.ice_tree.proofs.SpotLaws.{last-is}
+use Rattle.ice_look.specs.Broken.{IsBroken, IsBrokenBy}
+use Rattle.ice_look.proofs.FaultLaws.{fault-names}
 use Rattle.ice_tree.specs.Outcomes.{rename_refusals, change_rules, rename_rules}
 use Rattle.ice_tree.proofs.Sets.{fault-set}
 use Rattle.ice_tree.proofs.renames.rename.Goals as goal
@@ -92,13 +91,13 @@ returns-in-Err-may_move-clause-damaged g c = λ n e s.
 
 pub returns-in-Err-put_moved-clause-damaged : goal.returns-in-Err-put_moved-clause-damaged
 returns-in-Err-put_moved-clause-damaged g c = λ n e s.
-    let entry = g.F.Form.ENTRY in
+    let form = (form_of g.F.Form.VERSION) in
     let lot = c.args.lot.now in
     let m : Map = g.K.View.map c.args.keep.now c.args.disk.now lot in
     let step = c.in-Ok.step in
     let looked = c.may_move.ensures.looked in
     let below = c.in-Ok.ensures.below.0 in
     let name = last-is c.args.path.now c.args.depth (c.len.result - 1) c.name-name.result (omega (arith, below, c.len.ensures)) (omega (arith, below, c.len.ensures)) (c.name-name.ensures []) in
-    let is = subst (λ (x : List ℕ). MoveIs entry lot m x step) (sym name) (c.in-Ok.ensures.is s) in
-    let broken = c.in-Err-put_moved.ensures.broken (looked.shows s) (subst (λ (x : Map). MoveIs entry lot x c.name-name.result step) (sym looked.map) is) (subst (λ (x : Map). RowFits entry lot x step) (sym looked.map) (c.in-Ok.ensures.room s)) in
-    fault-names (IsBroken entry lot m) c.in-Err-put_moved.fault _ c.refusal_of.ensures (subst (λ (x : Map). IsBrokenBy entry lot x c.in-Err-put_moved.fault) looked.map broken) n e
+    let is = subst (λ (x : List ℕ). MoveIs form lot m x step) (sym name) (c.in-Ok.ensures.is s) in
+    let broken = c.in-Err-put_moved.ensures.broken (looked.shows s) (subst (λ (x : Map). MoveIs form lot x c.name-name.result step) (sym looked.map) is) (subst (λ (x : Map). RowFits form lot x step) (sym looked.map) (c.in-Ok.ensures.room s)) in
+    fault-names (IsBroken form lot m) c.in-Err-put_moved.fault _ c.refusal_of.ensures (subst (λ (x : Map). IsBrokenBy form lot x c.in-Err-put_moved.fault) looked.map broken) n e

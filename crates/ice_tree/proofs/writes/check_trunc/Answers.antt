@@ -3,12 +3,12 @@ use Rattle.tree_spec.specs.Costs.{form_of}
 use Rattle.tree_spec.specs.Answers.{next}
 use Rattle.tree_spec.specs.Operations.{Trunc}
 use Rattle.tree_spec.specs.Replies.{refused_of}
-use Rattle.ice_tree.specs.Changes.{reach_refusal}
+use Rattle.ice_tree.specs.Writes.{reach_refusal}
 use Rattle.ice_reads.specs.Tables.{Map}
-use Rattle.ice_tree.specs.Broken.{IsBroken}
-use Rattle.ice_tree.specs.Outcomes.{RefusedAs}
+use Rattle.ice_look.specs.Broken.{IsBroken}
+use Rattle.ice_look.specs.Outcomes.{RefusedAs}
 use Rattle.ice_tree.proofs.FaultLaws.{broke-too}
-use Rattle.ice_tree.specs.Stages.{quota_refusal}
+use Rattle.ice_tree.specs.Quotas.{quota_refusal}
 use Rattle.ice_tree.proofs.FileLaws.{trunc-stages, reach-none, trunc-needs}
 use Rattle.ice_tree.proofs.StageLaws.{refused-now, refused-later, none-both, recovers-same}
 use Rattle.ice_tree.proofs.writes.check_trunc.Goals as goal
@@ -53,4 +53,4 @@ returns-in-Err-check_quota-clause-file g c = λ mode k t s r.
 pub returns-in-Err-check_quota-clause-damaged : goal.returns-in-Err-check_quota-clause-damaged
 returns-in-Err-check_quota-clause-damaged g c = λ n e s.
     let looked = c.reach_file.ensures.looked in
-    broke-too _ _ (λ r h. subst (λ (m : Map). IsBroken g.F.Form.ENTRY c.args.lot.now m r) looked.map h) c.in-Err-check_quota.refusal (λ n e. c.in-Err-check_quota.ensures.damaged n e (looked.shows s)) n e
+    broke-too _ _ (λ r h. subst (λ (m : Map). IsBroken (form_of g.F.Form.VERSION) c.args.lot.now m r) looked.map h) c.in-Err-check_quota.refusal (λ n e. c.in-Err-check_quota.ensures.damaged n e (looked.shows s)) n e

@@ -19,8 +19,8 @@ returns-in_err-write_at-clause-sound g c = λ mode k t p s takes.
     let x = err_from_is_err_and c.from_residual.result c.from_residual.ensures.1 in
     let e = c.in_err-write_at.ensures in
     rw (x.1, x.2)
-    (write-sound (form_of g.F.Form.VERSION) (ap form_of g.F.Form.is_one.0) g.F.Form.ENTRY g.F.Form.is_one.1 mode c.args.lot.now (g.K.View.map c.args.keep.now c.args.disk.now c.args.lot.now) t k p c.args.number (sited-few c.args.lot.now _ c.requires.sited)
-    c.args.at c.args.bytes.now takes _ e.faults (λ q. e.none (ap (λ y. Err y) q) s) (λ q. e.full (ap (λ y. Err y) q) s) (λ q. e.kind (ap (λ y. Err y) q) s) (λ q. file-confused c.args.lot.now g.F.Form.ENTRY (g.K.View.map c.args.keep.now c.args.disk.now c.args.lot.now) c.args.number c.args.at (e.file (ap (λ y. Err y) q) s) (e.misled (ap (λ y. Err y) q) s)) (λ q. e.unreserved (ap (λ y. Err y) q) s))
+    (write-sound (form_of g.F.Form.VERSION) (ap form_of g.F.Form.is_one.0) (form_of g.F.Form.VERSION) (ap form_of g.F.Form.is_one.0) mode c.args.lot.now (g.K.View.map c.args.keep.now c.args.disk.now c.args.lot.now) t k p c.args.number (sited-few c.args.lot.now _ c.requires.sited)
+    c.args.at c.args.bytes.now takes _ e.faults (λ q. e.none (ap (λ y. Err y) q) s) (λ q. e.full (ap (λ y. Err y) q) s) (λ q. e.kind (ap (λ y. Err y) q) s) (λ q. file-confused c.args.lot.now (form_of g.F.Form.VERSION) (ap form_of g.F.Form.is_one.0) (g.K.View.map c.args.keep.now c.args.disk.now c.args.lot.now) c.args.number c.args.at (e.file (ap (λ y. Err y) q) s) (e.misled (ap (λ y. Err y) q) s)) (λ q. e.unreserved (ap (λ y. Err y) q) s))
 
 pub returns-in_err-count_up-clause-sound : goal.returns-in_err-count_up-clause-sound
 returns-in_err-count_up-clause-sound g c = λ mode k t p s takes.
@@ -32,10 +32,10 @@ returns-in_err-count_up-clause-sound g c = λ mode k t p s takes.
     let few = sited-few lot _ c.requires.sited in
     let m = g.K.View.map c.args.keep.now c.args.disk.now lot in
     let m' = g.K.View.map c.write_at.new.keep c.write_at.new.disk lot in
-    let well = write-made f one g.F.Form.ENTRY g.F.Form.is_one.1 mode lot m t k p c.args.number few c.args.at c.args.bytes.now takes in
+    let well = write-made f one (form_of g.F.Form.VERSION) (ap form_of g.F.Form.is_one.0) mode lot m t k p c.args.number few c.args.at c.args.bytes.now takes in
     rw (x.1, x.2)
     (count_room f one mode lot m' (next (Write p c.args.at c.args.bytes.now) t) k
-    (write-recovers f one g.F.Form.ENTRY g.F.Form.is_one.1 mode lot m t k p c.args.number few c.args.at c.args.bytes.now takes m' (c.in_ok-write_at.ensures.written s well))
+    (write-recovers f one (form_of g.F.Form.VERSION) (ap form_of g.F.Form.is_one.0) mode lot m t k p c.args.number few c.args.at c.args.bytes.now takes m' (c.in_ok-write_at.ensures.written s well))
     t (length lot.groups) f (Write p c.args.at c.args.bytes.now) refl takes.accepted _ e.faults (λ q. e.full (ap (λ y. Err y) q) (c.write_at.ensures.spent.shows s)))
 
 pub returns-clause-set : goal.returns-clause-set
@@ -46,9 +46,9 @@ returns-clause-set g c = λ mode k t p s takes.
     let few = sited-few lot _ c.requires.sited in
     let m = g.K.View.map c.args.keep.now c.args.disk.now lot in
     let m' = g.K.View.map c.write_at.new.keep c.write_at.new.disk lot in
-    let well = write-made f one g.F.Form.ENTRY g.F.Form.is_one.1 mode lot m t k p c.args.number few c.args.at c.args.bytes.now takes in
+    let well = write-made f one (form_of g.F.Form.VERSION) (ap form_of g.F.Form.is_one.0) mode lot m t k p c.args.number few c.args.at c.args.bytes.now takes in
     counts_up f one mode lot m' (next (Write p c.args.at c.args.bytes.now) t) k
-    (write-recovers f one g.F.Form.ENTRY g.F.Form.is_one.1 mode lot m t k p c.args.number few c.args.at c.args.bytes.now takes m' (c.in_ok-write_at.ensures.written s well))
+    (write-recovers f one (form_of g.F.Form.VERSION) (ap form_of g.F.Form.is_one.0) mode lot m t k p c.args.number few c.args.at c.args.bytes.now takes m' (c.in_ok-write_at.ensures.written s well))
     few (g.K.View.map c.count_up.new.keep c.count_up.new.disk lot) (c.in_ok-count_up.ensures.counted (c.write_at.ensures.spent.shows s))
 
 pub returns-in_err-write_at-clause-broken : goal.returns-in_err-write_at-clause-broken
@@ -57,7 +57,7 @@ returns-in_err-write_at-clause-broken g c = λ s fits.
     let e = c.in_err-write_at.ensures in
     let m0 = g.K.View.map c.args.keep.now c.args.disk.now c.args.lot.now in
     rw (x.1, x.2)
-    (write-blamed g.F.Form.ENTRY c.args.lot.now m0 c.args.at (c.args.at + length c.args.bytes.now) c.args.number (sited-few c.args.lot.now _ c.requires.sited) c.requires.short fits _ e.faults
+    (write-blamed (form_of g.F.Form.VERSION) (ap form_of g.F.Form.is_one.0) c.args.lot.now m0 c.args.at (c.args.at + length c.args.bytes.now) c.args.number (sited-few c.args.lot.now _ c.requires.sited) c.requires.short fits _ e.faults
     (λ q. e.none (ap (λ y. Err y) q) s) (λ q. e.full (ap (λ y. Err y) q) s) (λ q. e.kind (ap (λ y. Err y) q) s) (λ q. e.unreserved (ap (λ y. Err y) q) s) (λ q. e.misled (ap (λ y. Err y) q) s))
 
 pub returns-in_err-count_up-clause-broken : goal.returns-in_err-count_up-clause-broken

@@ -4,12 +4,13 @@ use Rattle.tree_spec.specs.Answers.{answer}
 use Rattle.tree_spec.specs.Operations.{Write}
 use Rattle.tree_spec.specs.Replies.{refused_of}
 use Rattle.ice_tree.proofs.FileLaws.{takes_at-after}
-use Rattle.ice_tree.proofs.LookLaws.{fault_model}
+use Rattle.ice_look.proofs.LookLaws.{fault_model}
 use Rattle.ice_tree.proofs.ReplyLaws.{refused-model, accepted-model, accepted-recovers}
 use Rattle.ice_reads.specs.Tables.{Map}
-use Rattle.ice_tree.specs.Broken.{IsBroken, IsBrokenBy}
-use Rattle.ice_tree.specs.Grounds.{BytesFit}
-use Rattle.ice_tree.proofs.FaultLaws.{broke-too, fault-names}
+use Rattle.ice_look.specs.Broken.{IsBroken, IsBrokenBy}
+use Rattle.ice_tree.specs.Writes.{BytesFit}
+use Rattle.ice_tree.proofs.FaultLaws.{broke-too}
+use Rattle.ice_look.proofs.FaultLaws.{fault-names}
 use Rattle.ice_tree.specs.Outcomes.{write_refusals, change_rules}
 use Rattle.ice_tree.proofs.Sets.{fault-set}
 use Rattle.ice_tree.proofs.writes.write.Goals as goal
@@ -53,6 +54,6 @@ returns-in-Err-put_bytes-clause-damaged g c = λ n named s.
     let lot = c.args.lot.now in
     let m0 = g.K.View.map c.args.keep.now c.args.disk.now lot in
     let looked = c.check_write.ensures.looked in
-    let broken = c.in-Err-put_bytes.ensures.broken (looked.shows s) (subst (λ (m : Map). BytesFit g.F.Form.ENTRY lot m c.args.at (c.args.at + length c.args.bytes.now) c.in-Ok.number) (sym looked.map) (c.in-Ok.ensures.ready s)) in
-    fault-names (IsBroken g.F.Form.ENTRY lot m0) c.in-Err-put_bytes.fault c.refusal_of.result c.refusal_of.ensures
-    (subst (λ (m : Map). IsBrokenBy g.F.Form.ENTRY lot m c.in-Err-put_bytes.fault) looked.map broken) n named
+    let broken = c.in-Err-put_bytes.ensures.broken (looked.shows s) (subst (λ (m : Map). BytesFit (form_of g.F.Form.VERSION) lot m c.args.at (c.args.at + length c.args.bytes.now) c.in-Ok.number) (sym looked.map) (c.in-Ok.ensures.ready s)) in
+    fault-names (IsBroken (form_of g.F.Form.VERSION) lot m0) c.in-Err-put_bytes.fault c.refusal_of.result c.refusal_of.ensures
+    (subst (λ (m : Map). IsBrokenBy (form_of g.F.Form.VERSION) lot m c.in-Err-put_bytes.fault) looked.map broken) n named

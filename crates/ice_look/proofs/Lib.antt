@@ -1,0 +1,12 @@
+pub mod EndLaws
+pub mod Chains
+pub mod Names
+pub mod PlaceLaws
+mod BrokenLaws
+pub mod LookLaws
+mod HeightLaws
+mod ListLaws
+mod SpreadLaws
+pub mod FaultLaws
+pub mod MapDamage
+pub mod SoundLaws

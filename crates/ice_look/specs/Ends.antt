@@ -1,0 +1,48 @@
+-- Where a path and its directory end.
+use Rattle.std.specs.Prelude.{◌≡◌, ◌<◌, ◌*◌, ℕ, List, length}
+use Rattle.ice_base.specs.Lots.{LotView}
+use Rattle.tree_spec.specs.Trees.{Tree, Entries, Found, walk, parent, rows}
+use Rattle.tree_spec.specs.Trees as tree
+use Rattle.tree_spec.specs.Costs.{Form}
+use Rattle.ice_reads.specs.Tables.{Table}
+use Rattle.ice_reads.specs.Reads.{inode_on}
+use Rattle.ice_look.specs.declared.ends.Ends.{Ends}
+use Rattle.ice_look.specs.declared.ends.Spot.{Spot}
+use Rattle.ice_look.specs.Places.{place_at, PlaceFits, IsReached, PlaceIs, PlaceReached}
+use Rattle.ice_map.specs.Inodes.{inode_of}
+use Rattle.ice_dir.specs.Rows.{IsDirectory}
+
+-- the places where the walks to a path's directory and to the path itself end
+pub record IsEnds (f : Form) (o : Table) (names : List (List ℕ)) (t : Tree) (ends : Ends) : Type 0 where
+  pub at_parent : ends.parent ≡ place_at f o (parent names) t
+  pub at_end : ends.end ≡ place_at f o names t
+
+-- both fit the lot
+pub record EndsFit (lot : LotView) (ends : Ends) : Type 0 where
+  pub at_parent : PlaceFits lot ends.parent
+  pub at_end : PlaceFits lot ends.end
+
+-- a directory of the tree: its inode and the number of its entries
+pub record IsSpot (f : Form) (o : Table) (names : List (List ℕ)) (t : Tree) (spot : Spot) : Type 0 where
+  pub inside : Entries
+  pub there : walk names t ≡ Found (tree.Dir inside)
+  pub number : spot.number ≡ inode_on f o 0 names
+  pub count : spot.entries ≡ length (rows inside)
+
+-- its numbers fit the lot
+pub record SpotFits (lot : LotView) (spot : Spot) : Type 0 where
+  pub number : spot.number < 64 * length lot.groups
+  pub count : spot.entries < 64 * length lot.groups
+
+-- the ends of a path are what the directories lead to
+pub record EndsAre (form : Form) (lot : LotView) (m : ℕ → List ℕ) (ends : Ends) : Type 0 where
+  pub parent : PlaceIs m ends.parent
+  pub end : PlaceIs m ends.end
+  pub parent_reached : PlaceReached form lot m ends.parent
+  pub end_reached : PlaceReached form lot m ends.end
+
+-- a directory to which the directories lead, and how many entries it has
+pub record SpotIs (form : Form) (lot : LotView) (m : ℕ → List ℕ) (spot : Spot) : Type 0 where
+  pub reached : IsReached form lot m spot.number
+  pub dir : IsDirectory lot (inode_of m spot.number)
+  pub entries : (inode_of m spot.number).size ≡ spot.entries

@@ -1,0 +1,63 @@
+-- What a look at a tree may answer.
+use Rattle.std.specs.Prelude.{◌≡◌, ℕ, nat_eq, true, List, [], ◌∷◌, Option, Some, None, Result, Ok, Err, ⊤}
+use Rattle.std.specs.List.{list_any}
+use Rattle.ice_base.specs.declared.fault.OpFault.{OpFault}
+use Rattle.ice_base.specs.declared.fault.OpFault.TheVariants as op
+use Rattle.tree_spec.specs.Why.{Why}
+use Rattle.tree_spec.specs.Replies.{Response, Refused, Because, Fault, Memory, Plain, refused_of, number_of}
+use Rattle.tree_spec.specs.declared.reply.Refusal.{Refusal}
+use Rattle.tree_spec.specs.declared.reply.Refusal.TheVariants as code
+use Rattle.ice_rules.specs.Rules.{rule_number}
+
+-- the reply is the model's, but where the disk failed
+abbrev pub AsModel : Response → Response → Type 0
+AsModel (Err Fault) model = ⊤
+AsModel (Err Memory) model = Err Memory ≡ model
+AsModel (Err (Because r)) model = Err (Because r) ≡ model
+AsModel (Ok value) model = Ok value ≡ model
+
+-- what the reply of a call without a value means
+abbrev pub meant_plain : {A : Type 0} → Result A Refusal → Response
+meant_plain (Ok a) = Ok Plain
+meant_plain (Err r) = Err (refused_of r)
+
+-- a refusal is the one that was found, but where the disk failed
+abbrev pub RefusedAs : Refused → Option Why → Type 0
+RefusedAs Fault found = ⊤
+RefusedAs Memory found = ⊥
+RefusedAs (Because r) found = found ≡ Some r
+
+-- a fault of a call below as a refusal: want of space or nodes that the quota didn't show is a damaged bitmap
+abbrev pub refusal_by : OpFault → Refusal
+refusal_by op.Disk = code.Fault
+refusal_by (op.Damaged r) = code.Damaged (rule_number r)
+refusal_by op.NoSpace = code.Damaged 13
+refusal_by op.NoNodes = code.Damaged 13
+
+-- a refusal that names alone show comes before any call of the disk
+abbrev pub ShownBy : {A : Type 0} → Option Why → Result A Refusal → Type 0
+ShownBy None result = ⊤
+ShownBy (Some r) result = meant_plain result ≡ Err (Because r)
+
+-- ---- the refusals of each call, and the rules that its damage names, by their numbers
+
+-- a refusal is one of these, or it names damage by one of these rules, or the disk failed
+abbrev pub IsOneOf : List ℕ → List ℕ → Refusal → Type 0
+IsOneOf refusals rules (code.Damaged rule) = list_any (nat_eq rule) rules ≡ true
+IsOneOf refusals rules code.Fault = ⊤
+IsOneOf refusals rules r = list_any (nat_eq (number_of r)) refusals ≡ true
+
+abbrev pub read_refusals : List ℕ
+read_refusals = 1 ∷ 2 ∷ 3 ∷ 4 ∷ 5 ∷ 10 ∷ []
+
+-- `stat` and `list`
+abbrev pub look_refusals : List ℕ
+look_refusals = 1 ∷ 2 ∷ 3 ∷ 4 ∷ []
+
+-- those of a look at inodes: a kind, a pointer, the inode of an entry
+abbrev pub look_rules : List ℕ
+look_rules = 7 ∷ 8 ∷ 10 ∷ []
+
+-- with the name of an entry
+abbrev pub list_rules : List ℕ
+list_rules = 7 ∷ 8 ∷ 10 ∷ 11 ∷ []

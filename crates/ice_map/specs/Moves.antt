@@ -1,0 +1,34 @@
+-- How a map of an inode's blocks moves.
+use Rattle.std.specs.Prelude.{◌≡◌, ◌<◌, ℕ, ◌+◌, Bool, cond, nat_le, nat_lt, max, List, [], ◌∷◌}
+use Rattle.ice_base.specs.Lots.{LotView, sub_address}
+use Rattle.ice_base.specs.Spare.{lacks}
+use Rattle.ice_map.specs.declared.codec.Inode.{Inode}
+use Rattle.ice_map.specs.Maps.{nth_block, uses, Stays}
+use Rattle.ice_map.specs.Own.{MadeOf, MarksFollow}
+
+-- what block n of a map holds
+abbrev pub content_of : (ℕ → List ℕ) → Inode → ℕ → List ℕ
+content_of m inode n = m (nth_block m inode n)
+
+-- A map of c blocks became one of d: it is well made, the marks follow it, and every inode and every other used block stays.
+pub record Moved (lot : LotView) (m0 m1 : ℕ → List ℕ) (x y : Inode) (c d : ℕ) : Type 0 where
+  pub made : MadeOf lot m1 y d
+  pub marks : MarksFollow lot m0 m1 (uses m0 x c) (uses m1 y d)
+  pub stays : Stays lot m0 m1 (uses m0 x c)
+  pub kind : y.kind ≡ x.kind
+  pub size : y.size ≡ x.size
+
+-- block k of a map of c blocks was had at an address, as a new block where the map ended there
+pub record Reached (lot : LotView) (m0 m1 : ℕ → List ℕ) (x y : Inode) (c k at : ℕ) : Type 0 where
+  pub moved : Moved lot m0 m1 x y c (max c (k + 1))
+  pub here : nth_block m1 y k ≡ at
+  pub contents : (n : ℕ) → n < c → content_of m1 y n ≡ content_of m0 x n
+
+-- how many blocks a map of c blocks uses
+abbrev pub uses_of : ℕ → ℕ
+uses_of c = c + cond (nat_lt 12 c) 1 0
+
+-- what a map of c blocks may still cost beside a bitmap block and a data block for each new block:
+-- the sub-super block, the indirect block with its bitmap block
+abbrev pub due : (ℕ → Bool) → ℕ → ℕ → ℕ
+due held single c = lacks held (sub_address ∷ single ∷ []) + cond (nat_le c 12) 3 0
