@@ -98,6 +98,7 @@ fn gone_of(ends: &Ends) -> Result<Gone, Refusal>
 }
 
 /// What stands at a path. IsRoot: the path has no names.
+#[tactic(auto, using(ice_map::proofs::SizeLaws::size_laws))]
 fn find_gone<D: Disk, V: View<D>, F: Form>(
     view: &mut V,
     disk: &mut D,
@@ -132,6 +133,7 @@ fn find_gone<D: Disk, V: View<D>, F: Form>(
 }
 
 /// The refusals by the quota. A removal needs no node and gives one back; its directory has a block less where the last one was its only one.
+#[tactic(auto, using(ice_map::proofs::SizeLaws::size_laws))]
 fn check_gone<D: Disk, K: Keep<D>, P: Pool<D, K>, F: Form>(
     keep: &mut K,
     pool: &mut P,
@@ -164,6 +166,7 @@ fn check_gone<D: Disk, K: Keep<D>, P: Pool<D, K>, F: Form>(
 }
 
 /// What a removal takes away, where nothing but the names of the path refuses it.
+#[tactic(auto, using(ice_map::proofs::SizeLaws::size_laws))]
 fn may_remove<D: Disk, K: Keep<D>, P: Pool<D, K>, F: Form>(
     keep: &mut K,
     pool: &mut P,
@@ -199,6 +202,7 @@ fn may_remove<D: Disk, K: Keep<D>, P: Pool<D, K>, F: Form>(
 }
 
 /// Gives back the blocks of a file of so many bytes.
+#[tactic(auto, using(ice_map::proofs::SizeLaws::size_laws))]
 fn drop_bytes<D: Disk, K: Keep<D>, P: Pool<D, K>, F: Form>(
     keep: &mut K,
     pool: &mut P,

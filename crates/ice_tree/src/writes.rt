@@ -48,6 +48,7 @@ fn size_need(old: u32, new: u32) -> Need
 }
 
 /// The file at a path's end. BeyondEnd: it has fewer than `at` bytes.
+#[tactic(auto, using(ice_map::proofs::SizeLaws::size_laws))]
 fn reach_file<D: Disk, V: View<D>, F: Form>(
     view: &mut V,
     disk: &mut D,
@@ -92,6 +93,7 @@ fn reach_file<D: Disk, V: View<D>, F: Form>(
 }
 
 /// The file that is written, where nothing refuses that. FileBig: it would be too long.
+#[tactic(auto, using(ice_map::proofs::SizeLaws::size_laws))]
 fn check_write<D: Disk, K: Keep<D>, P: Pool<D, K>, F: Form>(
     keep: &mut K,
     pool: &mut P,
@@ -139,6 +141,7 @@ fn check_write<D: Disk, K: Keep<D>, P: Pool<D, K>, F: Form>(
 }
 
 /// The file that is cut, where nothing refuses that.
+#[tactic(auto, using(ice_map::proofs::SizeLaws::size_laws))]
 fn check_trunc<D: Disk, K: Keep<D>, P: Pool<D, K>, F: Form>(
     keep: &mut K,
     pool: &mut P,
@@ -179,6 +182,7 @@ fn check_trunc<D: Disk, K: Keep<D>, P: Pool<D, K>, F: Form>(
 }
 
 /// Puts the bytes into a file, as one more accepted operation.
+#[tactic(auto, using(ice_map::proofs::SizeLaws::size_laws))]
 fn put_bytes<D: Disk, K: Keep<D>, P: Pool<D, K>, F: Form>(
     keep: &mut K,
     pool: &mut P,
