@@ -19,14 +19,14 @@ use Rattle.ice_look.specs.declared.place.Place.{Place}
 use Rattle.ice_look.specs.declared.place.Place.TheVariants.{Dir}
 
 -- to how many files and directories at most so many names lead from an inode, itself among them
-abbrev pub spread : ℕ → (ℕ → List ℕ) → ℕ → ℕ → ℕ
-spread entry m zero number = 1
-spread entry m (suc levels) number = cond ((inode_of m number).kind == 2) (1 + sum_by (λ (row : Row). spread entry m levels row.1) (rows_of entry m number)) 1
+abbrev pub count_within : ℕ → (ℕ → List ℕ) → ℕ → ℕ → ℕ
+count_within entry m zero number = 1
+count_within entry m (suc levels) number = cond ((inode_of m number).kind == 2) (1 + sum_by (λ (row : Row). count_within entry m levels row.1) (rows_of entry m number)) 1
 
 -- the same from a place
-abbrev pub spread_at : ℕ → (ℕ → List ℕ) → ℕ → Place → ℕ
-spread_at entry m levels (Dir number size) = spread entry m levels number
-spread_at entry m levels _ = 1
+abbrev pub count_within_place : ℕ → (ℕ → List ℕ) → ℕ → Place → ℕ
+count_within_place entry m levels (Dir number size) = count_within entry m levels number
+count_within_place entry m levels _ = 1
 
 -- ---- inodes
 
@@ -81,11 +81,11 @@ pub record Overfull (entry : ℕ) (lot : LotView) (m : ℕ → List ℕ) : Type 
   pub many : 64 * length lot.groups ≤ (inode_of m one).size + (inode_of m other).size
 
 -- the entries below some inode lead to more files and directories than the lot has inodes, and so to one of them twice
-pub record Crowded (entry : ℕ) (lot : LotView) (m : ℕ → List ℕ) : Type 0 where
+pub record LeadsToTooMany (entry : ℕ) (lot : LotView) (m : ℕ → List ℕ) : Type 0 where
   pub number : ℕ
   pub levels : ℕ
   pub reached : IsReached entry lot m number
-  pub many : 64 * length lot.groups < spread entry m levels number
+  pub many : 64 * length lot.groups < count_within entry m levels number
 
 -- some directory has a row whose name is none
 pub record BadName (entry : ℕ) (lot : LotView) (m : ℕ → List ℕ) : Type 0 where
@@ -146,7 +146,7 @@ IsBroken entry lot m rule.Done = sub_rule lot.slot (m sub_address) ≡ Some rule
 IsBroken entry lot m rule.Counts = BadCount entry lot m
 IsBroken entry lot m rule.Kind = BadInode entry lot m
 IsBroken entry lot m rule.Pointer = BadPointer entry lot m ⊎ TwiceUsed entry lot m
-IsBroken entry lot m rule.InodeTwice = BadEntry entry lot m ⊎ Overfull entry lot m ⊎ Crowded entry lot m
+IsBroken entry lot m rule.InodeTwice = BadEntry entry lot m ⊎ Overfull entry lot m ⊎ LeadsToTooMany entry lot m
 IsBroken entry lot m rule.Name = BadName entry lot m
 IsBroken entry lot m rule.Bitmap = BadBitmap entry lot m
 IsBroken entry lot m _ = ⊥

@@ -10,7 +10,7 @@ use Rattle.ice_reads.specs.Reads.{Reads}
 use Rattle.ice_reads.specs.Tables.{own_in, rows_in}
 use Rattle.ice_look.specs.Places.{IsReached}
 use Rattle.ice_look.proofs.HeightLaws.{high, many}
-use Rattle.ice_look.proofs.SpreadLaws.{by_row}
+use Rattle.ice_look.proofs.WithinLaws.{by_row}
 use Rattle.ice_look.proofs.heights.+heights.Given as goal
 
 abbrev pub invariant-has_higher-loop-k : goal.invariant-has_higher-loop-k
