@@ -30,7 +30,7 @@ use crate::counts::count_up;
 use crate::quota::{Need, check_quota, dir_cost};
 use ice_base::{Disk, Form, Keep, Lot, OpFault, Pool, Rule, View};
 use ice_dir::{add, take};
-use ice_look::{DEEPEST, Ends, Place, DirAt, check_paths, find_ends, is_higher, refusal_of};
+use ice_look::{DEEPEST, DirAt, Ends, Place, check_paths, find_ends, is_higher, refusal_of};
 use tree_spec::{Name, Path, Refusal};
 
 /// A rename: the directory that loses an entry, the one that gains it, and whether both paths are one, so that nothing moves.

@@ -26,15 +26,19 @@ use crate::counts::count_up;
 use crate::quota::{Need, check_quota, file_cost};
 use ice_base::{Disk, Form, Keep, Lot, OpFault, Pool, View};
 use ice_file::{cut_to, write_at};
-use ice_look::{LONGEST_FILE, FileAt, check_path, file_at, refusal_of};
+use ice_look::{FileAt, LONGEST_FILE, check_path, file_at, refusal_of};
 use tree_spec::{Path, Refusal};
 
 /// What a file of another size costs: `new` in place of `old` bytes.
 fn size_need(old: u32, new: u32) -> Need
     requires old { old ≤ longest_file }
     requires new { new ≤ longest_file }
-    ensures { result ≡ record { nodes = 0; lost = 0; blocks = map_cost (file_blocks new);
-        freed = map_cost (file_blocks old) } }
+    ensures { result ≡ record {
+      nodes = 0;
+      lost = 0;
+      blocks = map_cost (file_blocks new);
+      freed = map_cost (file_blocks old);
+    } }
 {
     Need {
         nodes: 0,
