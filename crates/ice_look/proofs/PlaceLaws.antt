@@ -63,7 +63,7 @@ module _ (f : Form) (one : f ≡ form_one) (lot : LotView) (m : Map) (i h : ℕ)
   inode-own = ap (λ g. (own g m i).inode) one
 
   -- the number of an inode that stands for a tree is one of the lot
-  pub Reads-number : (t : Tree) → Reads f lot (own_in f m) i h t → i < 64 * length lot.groups
+  pub Reads-number : (t : Tree) → Reads f lot (own f m) i h t → i < 64 * length lot.groups
   Reads-number (tree.File bytes) r = r.0.number
   Reads-number (tree.Dir es) r = r.0.number
 

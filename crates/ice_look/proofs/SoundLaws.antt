@@ -365,26 +365,26 @@ module _ (mode : ℕ) (lot : LotView) (m : Map) (t : Tree) (k : ℕ) (r : MapRec
   sum-le p q [] h = omega arith
   sum-le p q (e ∷ rs) h = omega (arith, sum_by-cons p e rs, sum_by-cons q e rs, h 0 ([], 0) (omega arith), sum-le p q rs (All-tail (λ (row : Row). p row ≤ q row) e rs h))
 
-  within-nodes : (levels i h : ℕ) (u : Tree) → Reads form_one lot o i h u → count_within 64 m levels i ≤ nodes u
+  within-nodes : (levels i h : ℕ) (u : Tree) → Reads form_one lot o i h u → count_within form_one m levels i ≤ nodes u
   within-nodes zero i h u x = nodes-some u
-  within-nodes (suc levels) i h (File bytes) x = omega (arith, within-file 64 m (suc levels) i x.1.is_file)
+  within-nodes (suc levels) i h (File bytes) x = omega (arith, within-file form_one m (suc levels) i x.1.is_file)
   within-nodes (suc levels) i h (Dir es) x =
-      let each : All (λ (row : Row). by_row 64 m levels row ≤ many es row) (rows_in form_one (o i)) = (λ n d low.
+      let each : All (λ (row : Row). by_row form_one m levels row ≤ many es row) (rows_in form_one (o i)) = (λ n d low.
       let row : Row = get_or (rows_in form_one (o i)) n d in
       let c = row-under form_one lot o i h es x n row.0 row.1 (slice_get-get_or (rows_in form_one (o i)) n d low) in
       omega (arith, within-nodes levels row.1 (h + 1) c.there c.reads, ap many_of c.entry)) in
       omega (
         arith,
-        within-dir 64 m levels i x.1.is_dir,
-        ap (λ n. count_within 64 m n i) (one_more levels),
-        sum-le (by_row 64 m levels) (many es) (rows_in form_one (o i)) each,
+        within-dir form_one m levels i x.1.is_dir,
+        ap (λ n. count_within form_one m n i) (one_more levels),
+        sum-le (by_row form_one m levels) (many es) (rows_in form_one (o i)) each,
         sum-many es (rows_in form_one (o i)) x.1.differ,
       )
     where
       one_more : (n : ℕ) → suc n ≡ n + 1
       one_more n = omega arith
 
-  no-crowd : ¬ LeadsToTooMany 64 lot m
+  no-crowd : ¬ LeadsToTooMany form_one lot m
   no-crowd x =
       let s = stands x.reached.by in
       omega (arith, x.many, within-nodes x.levels x.number (0 + length s.names) s.part (stands-reads x.number s), nodes-within s.names t s.part s.found, free_nodes_are mode lot m t k r)

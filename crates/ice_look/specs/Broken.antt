@@ -21,13 +21,13 @@ use Rattle.ice_look.specs.declared.place.Place.TheVariants.{Dir}
 
 -- to how many files and directories at most so many names lead from an inode, itself among them
 abbrev pub count_within : ℕ → (ℕ → List ℕ) → ℕ → ℕ → ℕ
-count_within entry m zero number = 1
-count_within entry m (suc levels) number = cond ((inode_of m number).kind == 2) (1 + sum_by (λ (row : Row). count_within entry m levels row.1) (rows_of entry m number)) 1
+count_within form m zero number = 1
+count_within form m (suc levels) number = cond ((inode_of m number).kind == 2) (1 + sum_by (λ (row : Row). count_within form m levels row.1) (rows_of form m number)) 1
 
 -- the same from a place
 abbrev pub count_within_place : ℕ → (ℕ → List ℕ) → ℕ → Place → ℕ
-count_within_place entry m levels (Dir number size) = count_within entry m levels number
-count_within_place entry m levels _ = 1
+count_within_place form m levels (Dir number size) = count_within form m levels number
+count_within_place form m levels _ = 1
 
 -- ---- inodes
 
@@ -82,11 +82,11 @@ pub record Overfull (form : Form) (lot : LotView) (m : ℕ → List ℕ) : Type 
   pub many : 64 * length lot.groups ≤ (inode_of m one).size + (inode_of m other).size
 
 -- the entries below some inode lead to more files and directories than the lot has inodes, and so to one of them twice
-pub record LeadsToTooMany (entry : ℕ) (lot : LotView) (m : ℕ → List ℕ) : Type 0 where
+pub record LeadsToTooMany (form : Form) (lot : LotView) (m : ℕ → List ℕ) : Type 0 where
   pub number : ℕ
   pub levels : ℕ
-  pub reached : IsReached entry lot m number
-  pub many : 64 * length lot.groups < count_within entry m levels number
+  pub reached : IsReached form lot m number
+  pub many : 64 * length lot.groups < count_within form m levels number
 
 -- some directory has a row whose name is none
 pub record BadName (form : Form) (lot : LotView) (m : ℕ → List ℕ) : Type 0 where
@@ -138,19 +138,19 @@ BadBitmap form lot m = (¬ Reserved lot m) ⊎ FreeBlock form lot m ⊎ FreeInod
 -- ---- the rules
 
 -- the lot breaks this rule
-abbrev pub IsBroken : ℕ → LotView → (ℕ → List ℕ) → Rule → Type 0
-IsBroken entry lot m rule.Magic = sub_rule lot.slot (m sub_address) ≡ Some rule.Magic
-IsBroken entry lot m rule.Version = sub_rule lot.slot (m sub_address) ≡ Some rule.Version
-IsBroken entry lot m rule.Slot = sub_rule lot.slot (m sub_address) ≡ Some rule.Slot
-IsBroken entry lot m rule.Mode = sub_rule lot.slot (m sub_address) ≡ Some rule.Mode
-IsBroken entry lot m rule.Done = sub_rule lot.slot (m sub_address) ≡ Some rule.Done
-IsBroken entry lot m rule.Counts = BadCount entry lot m
-IsBroken entry lot m rule.Kind = BadInode entry lot m
-IsBroken entry lot m rule.Pointer = BadPointer entry lot m ⊎ TwiceUsed entry lot m
-IsBroken entry lot m rule.InodeTwice = BadEntry entry lot m ⊎ Overfull entry lot m ⊎ LeadsToTooMany entry lot m
-IsBroken entry lot m rule.Name = BadName entry lot m
-IsBroken entry lot m rule.Bitmap = BadBitmap entry lot m
-IsBroken entry lot m _ = ⊥
+abbrev pub IsBroken : Form → LotView → (ℕ → List ℕ) → Rule → Type 0
+IsBroken form lot m rule.Magic = sub_rule lot.slot (m sub_address) ≡ Some rule.Magic
+IsBroken form lot m rule.Version = sub_rule lot.slot (m sub_address) ≡ Some rule.Version
+IsBroken form lot m rule.Slot = sub_rule lot.slot (m sub_address) ≡ Some rule.Slot
+IsBroken form lot m rule.Mode = sub_rule lot.slot (m sub_address) ≡ Some rule.Mode
+IsBroken form lot m rule.Done = sub_rule lot.slot (m sub_address) ≡ Some rule.Done
+IsBroken form lot m rule.Counts = BadCount form lot m
+IsBroken form lot m rule.Kind = BadInode form lot m
+IsBroken form lot m rule.Pointer = BadPointer form lot m ⊎ TwiceUsed form lot m
+IsBroken form lot m rule.InodeTwice = BadEntry form lot m ⊎ Overfull form lot m ⊎ LeadsToTooMany form lot m
+IsBroken form lot m rule.Name = BadName form lot m
+IsBroken form lot m rule.Bitmap = BadBitmap form lot m
+IsBroken form lot m _ = ⊥
 
 -- a fault is the disk's, or it names a rule of which this holds
 abbrev pub IsFaultBy : (Rule → Type 0) → OpFault → Type 0

@@ -16,7 +16,7 @@ use Rattle.tree_spec.specs.declared.reply.Refusal.{Refusal}
 use Rattle.tree_spec.specs.declared.reply.Refusal.TheVariants.{Damaged}
 use Rattle.ice_reads.specs.Reads.{Reads, inode_on}
 use Rattle.ice_reads.specs.Recovers.{MapRecovers}
-use Rattle.ice_reads.specs.Tables.{own_in}
+use Rattle.ice_map.specs.Own.{own}
 use Rattle.ice_rules.specs.Rules.{rule_number}
 use Rattle.ice_look.specs.Broken.{IsBroken}
 use Rattle.ice_look.specs.Outcomes.{AsModel, RefusedAs, ShownBy}
@@ -42,11 +42,11 @@ FailsByDiskAlone view version lot v e result = (mode k : ℕ) (t : Tree) → IfS
 
 -- inode `number`, reached by h names, stands for this tree
 abbrev pub ReadsIn : ℕ → LotView → (ℕ → List ℕ) → ℕ → ℕ → Tree → Type 0
-ReadsIn version lot m number h t = Reads (form_of version) lot (own_in (form_of version) m) number h t
+ReadsIn version lot m number h t = Reads (form_of version) lot (own (form_of version) m) number h t
 
 -- the inode to which the names lead from the root
 abbrev pub inode_at : ℕ → (ℕ → List ℕ) → List (List ℕ) → ℕ
-inode_at version m names = inode_on (form_of version) (own_in (form_of version) m) 0 names
+inode_at version m names = inode_on (form_of version) (own (form_of version) m) 0 names
 
 -- ---- refusals
 
@@ -72,4 +72,4 @@ Untouched version paths v e w f = (r : Why) → paths_refusal (form_of version) 
 
 -- a rule that the refusal names as damaged is one that the lot breaks
 abbrev pub NamesBroken : {A V D : Type 0} → view.Ghosts V D → ℕ → LotView → V → D → Result A Refusal → Type 0
-NamesBroken view entry lot v e result = (n : ℕ) → IsErrOf result (Damaged n) → IfShown view lot v e (λ old. (r : Rule) × (n ≡ rule_number r) × IsBroken entry lot old r)
+NamesBroken view form lot v e result = (n : ℕ) → IsErrOf result (Damaged n) → IfShown view lot v e (λ old. (r : Rule) × (n ≡ rule_number r) × IsBroken form lot old r)

@@ -42,7 +42,7 @@ pub record EndsAre (form : Form) (lot : LotView) (m : ℕ → List ℕ) (ends : 
   pub end_reached : PlaceReached form lot m ends.end
 
 -- a directory to which the directories lead, and how many entries it has
-pub record DirIs (entry : ℕ) (lot : LotView) (m : ℕ → List ℕ) (spot : DirAt) : Type 0 where
-  pub reached : IsReached entry lot m spot.number
+pub record DirIs (form : Form) (lot : LotView) (m : ℕ → List ℕ) (spot : DirAt) : Type 0 where
+  pub reached : IsReached form lot m spot.number
   pub dir : IsDirectory lot (inode_of m spot.number)
   pub entries : (inode_of m spot.number).size ≡ spot.entries

@@ -7,7 +7,7 @@ ghost use Rattle.ice_base.specs.declared.fault.OpFault.TheVariants.{Disk as Faul
 ghost use Rattle.tree_spec.specs.Costs.{form_of};
 ghost use Rattle.tree_spec.specs.Names.{is_name};
 ghost use Rattle.tree_spec.specs.Trees.{last_name};
-ghost use Rattle.ice_reads.specs.Tables.{own_in};
+ghost use Rattle.ice_map.specs.Own.{own};
 ghost use Rattle.ice_look.specs.Broken.{IsBrokenBy};
 ghost use Rattle.ice_look.specs.Ends.{IsEnds, EndsFit, EndsAre};
 ghost use Rattle.ice_look.specs.Places.{PlaceNamed, IsWalkFault};
@@ -52,7 +52,7 @@ pub fn find_ends<D: Disk, V: View<D>, F: Form>(
     requires depth { depth ≤ length path.now }
     // Over a lot that recovers a tree, it finds what the tree has; the disk alone may fail.
     ensures found { IfRecovers V.View F.VERSION lot.now view.old disk.old (λ old t _.
-        IfOk result (IsEnds (form_of F.VERSION) (own_in (form_of F.VERSION) old)
+        IfOk result (IsEnds (form_of F.VERSION) (own (form_of F.VERSION) old)
         (drop depth path.now) t)) }
     ensures sound { FailsByDiskAlone V.View F.VERSION lot.now view.old disk.old result }
     // What it answers of any lot, damaged or not.
@@ -61,10 +61,10 @@ pub fn find_ends<D: Disk, V: View<D>, F: Form>(
         IfOk result (EndsAre (form_of F.VERSION) lot.now old)) }
     ensures named { IfShown V.View lot.now view.old disk.old (λ old.
         depth < length path.now → IfOk result (λ ends.
-        PlaceNamed F.ENTRY old ends.parent (last_name (drop depth path.now)) ends.end)) }
+        PlaceNamed (form_of F.VERSION) old ends.parent (last_name (drop depth path.now)) ends.end)) }
     // Damage that it names is there.
     ensures broken { IfShown V.View lot.now view.old disk.old (λ old.
-        IfErr result (IsBrokenBy F.ENTRY lot.now old)) }
+        IfErr result (IsBrokenBy (form_of F.VERSION) lot.now old)) }
     // What stays as it was.
     ensures looked { Looked D.Disk V.View lot.now view.old disk.old view.new disk.new }
     // Which refusals there are, and when a fault comes.

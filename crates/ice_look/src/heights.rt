@@ -9,7 +9,7 @@ ghost use Rattle.ice_map.specs.Inodes.{inode_of};
 ghost use Rattle.ice_dir.specs.Rows.{HasEntry, IsDirectory};
 ghost use Rattle.tree_spec.specs.Costs.{form_of, nodes};
 ghost use Rattle.tree_spec.specs.Trees.{Tree, Entries, Dir, Found, rows, height};
-ghost use Rattle.ice_reads.specs.Tables.{own_in};
+ghost use Rattle.ice_map.specs.Own.{own};
 ghost use Rattle.ice_look.specs.Broken.{IsBrokenBy, count_within, count_within_place};
 ghost use Rattle.ice_look.specs.Heights.{IsEntry, IsChild, IsHeightFault};
 ghost use Rattle.ice_look.specs.Places.{IsReached, PlaceFits, PlaceIs, PlaceReached, place_by};
@@ -35,19 +35,19 @@ fn entry_place<D: Disk, V: View<D>, F: Form>(
     ensures place { (h : ℕ) (es : Entries) → IfShown V.View lot.now view.old disk.old (λ old.
         ReadsIn F.VERSION lot.now old number h (Dir es) → k < length (rows es)
         → IfOk result (IsChild (form_of F.VERSION) lot.now
-        (own_in (form_of F.VERSION) old) number h k es)) }
+        (own (form_of F.VERSION) old) number h k es)) }
     ensures sound { (h : ℕ) (es : Entries) → IfShown V.View lot.now view.old disk.old (λ old.
         ReadsIn F.VERSION lot.now old number h (Dir es) → k < length (rows es)
         → FailsByDisk result) }
     // What it answers of any lot, damaged or not.
     ensures fits { IfOk result (PlaceFits lot.now) }
     ensures child { IfShown V.View lot.now view.old disk.old (λ old.
-        IsReached F.ENTRY lot.now old number → HasEntry lot.now k (inode_of old number)
-        → IfOk result (IsEntry F.ENTRY lot.now old number k)) }
+        IsReached (form_of F.VERSION) lot.now old number → HasEntry lot.now k (inode_of old number)
+        → IfOk result (IsEntry (form_of F.VERSION) lot.now old number k)) }
     // Damage that it names is there.
     ensures broken { IfShown V.View lot.now view.old disk.old (λ old.
-        IsReached F.ENTRY lot.now old number → HasEntry lot.now k (inode_of old number)
-        → IfErr result (IsBrokenBy F.ENTRY lot.now old)) }
+        IsReached (form_of F.VERSION) lot.now old number → HasEntry lot.now k (inode_of old number)
+        → IfErr result (IsBrokenBy (form_of F.VERSION) lot.now old)) }
     // What stays as it was.
     ensures looked { Looked D.Disk V.View lot.now view.old disk.old view.new disk.new }
     // Which refusals there are, and when a fault comes.
@@ -90,12 +90,12 @@ fn has_higher<D: Disk, V: View<D>, F: Form>(
         IsReached (form_of F.VERSION) lot.now old number → IsDirectory lot.now (inode_of old number)
         → (inode_of old number).size ≡ size
         → IfOk result (λ b. b ≡ false
-        → budget.old + 1 ≤ budget.new + count_within F.ENTRY old (levels + 1) number)) }
+        → budget.old + 1 ≤ budget.new + count_within (form_of F.VERSION) old (levels + 1) number)) }
     ensures broken { IfShown V.View lot.now view.old disk.old (λ old.
         IsReached (form_of F.VERSION) lot.now old number → IsDirectory lot.now (inode_of old number)
         → (inode_of old number).size ≡ size
-        → IfErr result (λ e. IsBrokenBy F.ENTRY lot.now old e
-        ⊎ ((e ≡ Damaged InodeTwice) × (budget.old + 1 < count_within F.ENTRY old (levels + 1) number)))) }
+        → IfErr result (λ e. IsBrokenBy (form_of F.VERSION) lot.now old e
+        ⊎ ((e ≡ Damaged InodeTwice) × (budget.old + 1 < count_within (form_of F.VERSION) old (levels + 1) number)))) }
     // What stays as it was.
     ensures falls { budget.new ≤ budget.old }
     ensures looked { Looked D.Disk V.View lot.now view.old disk.old view.new disk.new }
@@ -143,11 +143,11 @@ pub fn is_higher<D: Disk, V: View<D>, F: Form>(
     ensures pays { IfShown V.View lot.now view.old disk.old (λ old.
         PlaceIs old place → PlaceReached (form_of F.VERSION) lot.now old place
         → IfOk result (λ b. b ≡ false
-        → budget.old ≤ budget.new + count_within_place F.ENTRY old levels place)) }
+        → budget.old ≤ budget.new + count_within_place (form_of F.VERSION) old levels place)) }
     ensures broken { IfShown V.View lot.now view.old disk.old (λ old.
-        PlaceIs old place → PlaceReached F.ENTRY lot.now old place
-        → IfErr result (λ e. IsBrokenBy F.ENTRY lot.now old e
-        ⊎ ((e ≡ Damaged InodeTwice) × (budget.old < count_within_place F.ENTRY old levels place)))) }
+        PlaceIs old place → PlaceReached (form_of F.VERSION) lot.now old place
+        → IfErr result (λ e. IsBrokenBy (form_of F.VERSION) lot.now old e
+        ⊎ ((e ≡ Damaged InodeTwice) × (budget.old < count_within_place (form_of F.VERSION) old levels place)))) }
     // What stays as it was.
     ensures falls { budget.new ≤ budget.old }
     ensures looked { Looked D.Disk V.View lot.now view.old disk.old view.new disk.new }

@@ -14,7 +14,8 @@ ghost use Rattle.tree_spec.specs.Replies.{meant, Tallies};
 ghost use Rattle.tree_spec.specs.Trees.{Entries, Dir, rows};
 ghost use Rattle.tree_spec.specs.declared.reply.Refusal.TheVariants.{Fault};
 ghost use Rattle.tree_spec.specs.declared.reply.Value.TheVariants.{Listed};
-ghost use Rattle.ice_reads.specs.Tables.{own_in, rows_in};
+ghost use Rattle.ice_map.specs.Own.{own};
+ghost use Rattle.ice_reads.specs.Tables.{rows_in};
 ghost use Rattle.ice_look.specs.Broken.{BadEntry, IsBrokenBy};
 ghost use Rattle.ice_look.specs.Listings.{listed_as, IsListFault};
 ghost use Rattle.ice_look.specs.Outcomes.{IsOneOf, look_refusals, list_rules};
@@ -47,19 +48,19 @@ fn add_entry<D: Disk, V: View<D>, F: Form>(
     ensures added { (h : ℕ) (es : Entries) (row : Row)
         → IfShown V.View lot.now view.old disk.old (λ old.
         ReadsIn F.VERSION lot.now old number h (Dir es)
-        → slice_get (rows_in (form_of F.VERSION) (own_in (form_of F.VERSION) old number))
-        k ≡ Some row → IsReached F.ENTRY lot.now old number → ¬ BadEntry F.ENTRY lot.now old
+        → slice_get (rows_in (form_of F.VERSION) (own (form_of F.VERSION) old number))
+        k ≡ Some row → IsReached (form_of F.VERSION) lot.now old number → ¬ BadEntry (form_of F.VERSION) lot.now old
         → OnOk result (room.new.entries ≡ room.old.entries ++ listed_as es row ∷ [])) }
     ensures sound { (h : ℕ) (es : Entries) → IfShown V.View lot.now view.old disk.old (λ old.
         ReadsIn F.VERSION lot.now old number h (Dir es) → k < length (rows es)
-        → IsReached F.ENTRY lot.now old number → ¬ BadEntry F.ENTRY lot.now old
+        → IsReached (form_of F.VERSION) lot.now old number → ¬ BadEntry (form_of F.VERSION) lot.now old
         → FailsByDisk result) }
     // What it answers of any lot, damaged or not.
     ensures one { OnOk result (length room.new.entries ≡ length room.old.entries + 1) }
     // Damage that it names is there.
     ensures broken { IfShown V.View lot.now view.old disk.old (λ old.
-        IsReached F.ENTRY lot.now old number → HasEntry lot.now k (inode_of old number)
-        → IfErr result (IsBrokenBy F.ENTRY lot.now old)) }
+        IsReached (form_of F.VERSION) lot.now old number → HasEntry lot.now k (inode_of old number)
+        → IfErr result (IsBrokenBy (form_of F.VERSION) lot.now old)) }
     // What stays as it was.
     ensures kept { OnErr result (room.new.entries ≡ room.old.entries) }
     ensures bytes { room.new.bytes ≡ room.old.bytes }
@@ -94,19 +95,19 @@ fn add_entries<D: Disk, V: View<D>, F: Form>(
     // Over a lot that recovers a tree, it finds what the tree has; the disk alone may fail.
     ensures listed { (h : ℕ) (es : Entries) → IfShown V.View lot.now view.old disk.old (λ old.
         ReadsIn F.VERSION lot.now old number h (Dir es) → count ≡ length (rows es)
-        → IsReached F.ENTRY lot.now old number → ¬ BadEntry F.ENTRY lot.now old
+        → IsReached (form_of F.VERSION) lot.now old number → ¬ BadEntry (form_of F.VERSION) lot.now old
         → OnOk result (room.new.entries ≡ map (listed_as es)
-        (rows_in (form_of F.VERSION) (own_in (form_of F.VERSION) old number)))) }
+        (rows_in (form_of F.VERSION) (own (form_of F.VERSION) old number)))) }
     ensures sound { (h : ℕ) (es : Entries) → IfShown V.View lot.now view.old disk.old (λ old.
         ReadsIn F.VERSION lot.now old number h (Dir es) → count ≡ length (rows es)
-        → IsReached F.ENTRY lot.now old number → ¬ BadEntry F.ENTRY lot.now old
+        → IsReached (form_of F.VERSION) lot.now old number → ¬ BadEntry (form_of F.VERSION) lot.now old
         → FailsByDisk result) }
     // What it answers of any lot, damaged or not.
     ensures all { OnOk result (length room.new.entries ≡ count) }
     // Damage that it names is there.
     ensures broken { IfShown V.View lot.now view.old disk.old (λ old.
-        IsReached F.ENTRY lot.now old number → IsDirectory lot.now (inode_of old number)
-        → count ≤ (inode_of old number).size → IfErr result (IsBrokenBy F.ENTRY lot.now old)) }
+        IsReached (form_of F.VERSION) lot.now old number → IsDirectory lot.now (inode_of old number)
+        → count ≤ (inode_of old number).size → IfErr result (IsBrokenBy (form_of F.VERSION) lot.now old)) }
     // What stays as it was.
     ensures bytes { room.new.bytes ≡ room.old.bytes }
     ensures rows { room.new.rows ≡ room.old.rows }
@@ -160,7 +161,7 @@ pub fn list<D: Disk, V: View<D>, F: Form>(
     // What it answers of any lot, damaged or not.
     ensures tallies { Tallies result room.new }
     // Damage that it names is there.
-    ensures damaged { NamesBroken V.View F.ENTRY lot.now view.old disk.old result }
+    ensures damaged { NamesBroken V.View (form_of F.VERSION) lot.now view.old disk.old result }
     // Names alone refuse a path before any call of the disk.
     ensures paths { RefusesPaths F.VERSION (drop depth path.now ∷ []) result }
     ensures untouched { Untouched F.VERSION (drop depth path.now ∷ [])

@@ -3,14 +3,14 @@ ghost use Rattle.std.specs.Prelude.{◌≡◌, ◌≤◌, ◌<◌, ◌*◌, ℕ,
 ghost use Rattle.ice_base.specs.Disk.{Rose};
 ghost use Rattle.ice_base.specs.Lots.{is_sited};
 ghost use Rattle.ice_base.specs.Views.{Looked, IfShown};
-ghost use Rattle.ice_file.specs.Files.{longest_file, most_at_once};
+ghost use Rattle.tree_spec.specs.Held.{most_bytes};
 ghost use Rattle.tree_spec.specs.Answers.{answer};
 ghost use Rattle.tree_spec.specs.Costs.{form_of, form_one};
 ghost use Rattle.tree_spec.specs.Operations.{Read, Stat};
 ghost use Rattle.tree_spec.specs.Replies.{meant, Tallies};
 ghost use Rattle.tree_spec.specs.Trees.{Found, File, walk};
 ghost use Rattle.tree_spec.specs.declared.reply.Refusal.TheVariants.{Fault};
-ghost use Rattle.ice_reads.specs.Tables.{own_in};
+ghost use Rattle.ice_map.specs.Own.{own};
 ghost use Rattle.ice_look.specs.Outcomes.{IsOneOf, read_refusals, look_refusals, look_rules};
 ghost use Rattle.ice_look.specs.Places.{IsReached, PlaceIs};
 ghost use Rattle.ice_look.specs.Stages.{file_refusal, dir_refusal};
@@ -55,9 +55,9 @@ pub fn file_at<D: Disk, V: View<D>, F: Form>(
     ensures is { IfShown V.View lot.now view.old disk.old (λ old.
         IfOk result (λ file. PlaceIs old (AtFile file.number file.size))) }
     ensures reached { IfShown V.View lot.now view.old disk.old (λ old.
-        IfOk result (λ file. IsReached F.ENTRY lot.now old file.number)) }
+        IfOk result (λ file. IsReached (form_of F.VERSION) lot.now old file.number)) }
     // Damage that it names is there.
-    ensures damaged { NamesBroken V.View F.ENTRY lot.now view.old disk.old result }
+    ensures damaged { NamesBroken V.View (form_of F.VERSION) lot.now view.old disk.old result }
     // What stays as it was.
     ensures looked { Looked D.Disk V.View lot.now view.old disk.old view.new disk.new }
     // Which refusals there are, and when a fault comes.
@@ -94,16 +94,16 @@ pub(crate) fn dir_at<D: Disk, V: View<D>, F: Form>(
     requires depth { depth ≤ length path.now }
     // Over a lot that recovers a tree, it finds what the tree has.
     ensures found { IfRecovers V.View F.VERSION lot.now view.old disk.old (λ old t _.
-        Finds (IsDirAt (form_of F.VERSION) (own_in (form_of F.VERSION) old)
+        Finds (IsDirAt (form_of F.VERSION) (own (form_of F.VERSION) old)
         (drop depth path.now) t) (dir_refusal (walk (drop depth path.now) t)) result) }
     // What it answers of any lot, damaged or not.
     ensures fits { IfOk result (DirFits lot.now) }
     ensures is { IfShown V.View lot.now view.old disk.old (λ old.
         IfOk result (λ dir. PlaceIs old (AtDir dir.number dir.entries))) }
     ensures reached { IfShown V.View lot.now view.old disk.old (λ old.
-        IfOk result (λ dir. IsReached F.ENTRY lot.now old dir.number)) }
+        IfOk result (λ dir. IsReached (form_of F.VERSION) lot.now old dir.number)) }
     // Damage that it names is there.
-    ensures damaged { NamesBroken V.View F.ENTRY lot.now view.old disk.old result }
+    ensures damaged { NamesBroken V.View (form_of F.VERSION) lot.now view.old disk.old result }
     // What stays as it was.
     ensures looked { Looked D.Disk V.View lot.now view.old disk.old view.new disk.new }
     // Which refusals there are, and when a fault comes.
@@ -148,7 +148,7 @@ pub fn read<D: Disk, V: View<D>, F: Form>(
     // What it answers of any lot, damaged or not.
     ensures tallies { Tallies result room.new }
     // Damage that it names is there.
-    ensures damaged { NamesBroken V.View F.ENTRY lot.now view.old disk.old result }
+    ensures damaged { NamesBroken V.View (form_of F.VERSION) lot.now view.old disk.old result }
     // Names alone refuse a path before any call of the disk.
     ensures paths { RefusesPaths F.VERSION (drop depth path.now ∷ []) result }
     ensures untouched { Untouched F.VERSION (drop depth path.now ∷ [])
@@ -196,7 +196,7 @@ pub fn stat<D: Disk, V: View<D>, F: Form>(
     // What it answers of any lot, damaged or not.
     ensures tallies { (room : Held) → Tallies result room }
     // Damage that it names is there.
-    ensures damaged { NamesBroken V.View F.ENTRY lot.now view.old disk.old result }
+    ensures damaged { NamesBroken V.View (form_of F.VERSION) lot.now view.old disk.old result }
     // Names alone refuse a path before any call of the disk.
     ensures paths { RefusesPaths F.VERSION (drop depth path.now ∷ []) result }
     ensures untouched { Untouched F.VERSION (drop depth path.now ∷ [])

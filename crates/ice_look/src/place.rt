@@ -11,7 +11,8 @@ ghost use Rattle.ice_look.specs.Broken.{BadEntry, IsBrokenBy};
 ghost use Rattle.ice_look.specs.Places.{place_by, place_at, IsNode, Reached, PlaceFits, PlaceOf, PlaceIs, PlaceReached, PlaceNamed, IsWalkFault};
 ghost use Rattle.tree_spec.specs.Trees.{Tree, child, Found};
 ghost use Rattle.tree_spec.specs.Costs.{form_of};
-ghost use Rattle.ice_reads.specs.Tables.{own_in, rows_in, inode_named};
+ghost use Rattle.ice_map.specs.Own.{own};
+ghost use Rattle.ice_reads.specs.Tables.{rows_in, inode_named};
 ghost use Rattle.ice_look.specs.Calls.{IfRecovers, FailsByDisk, FailsByDiskAlone, ReadsIn};
 
 use ice_base::{Disk, Form, Lot, OpFault, Rule, View};
@@ -50,7 +51,7 @@ pub(crate) fn look<D: Disk, V: View<D>, F: Form>(
     ensures at { IfOk result (PlaceOf number) }
     ensures is { IfShown V.View lot.now view.old disk.old (λ old. IfOk result (PlaceIs old)) }
     ensures reached { IfShown V.View lot.now view.old disk.old (λ old.
-        Reached F.ENTRY lot.now old number → IfOk result (PlaceReached F.ENTRY lot.now old)) }
+        Reached (form_of F.VERSION) lot.now old number → IfOk result (PlaceReached (form_of F.VERSION) lot.now old)) }
     // Damage that it names is there.
     ensures broken { IfShown V.View lot.now view.old disk.old (λ old.
         Reached (form_of F.VERSION) lot.now old number → IfErr result (IsBrokenBy (form_of F.VERSION) lot.now old)) }
@@ -94,12 +95,12 @@ pub(crate) fn enter<D: Disk, V: View<D>, F: Form>(
     ensures at { IfOk result (PlaceOf number) }
     ensures is { IfShown V.View lot.now view.old disk.old (λ old. IfOk result (PlaceIs old)) }
     ensures reached { IfShown V.View lot.now view.old disk.old (λ old.
-        Reached F.ENTRY lot.now old number → IfOk result (PlaceReached F.ENTRY lot.now old)) }
+        Reached (form_of F.VERSION) lot.now old number → IfOk result (PlaceReached (form_of F.VERSION) lot.now old)) }
     // Damage that it names is there.
     ensures broken { IfShown V.View lot.now view.old disk.old (λ old.
-        Reached F.ENTRY lot.now old number
-        → (64 * length lot.now.groups ≤ number → BadEntry F.ENTRY lot.now old)
-        → IfErr result (IsBrokenBy F.ENTRY lot.now old)) }
+        Reached (form_of F.VERSION) lot.now old number
+        → (64 * length lot.now.groups ≤ number → BadEntry (form_of F.VERSION) lot.now old)
+        → IfErr result (IsBrokenBy (form_of F.VERSION) lot.now old)) }
     // What stays as it was.
     ensures looked { Looked D.Disk V.View lot.now view.old disk.old view.new disk.new }
     // Which refusals there are, and when a fault comes.
@@ -132,12 +133,12 @@ pub(crate) fn enter_named<D: Disk, V: View<D>, F: Form>(
     ensures at { IfOk result (PlaceOf number) }
     ensures is { IfShown V.View lot.now view.old disk.old (λ old. IfOk result (PlaceIs old)) }
     ensures reached { IfShown V.View lot.now view.old disk.old (λ old.
-        Reached F.ENTRY lot.now old number → IfOk result (PlaceReached F.ENTRY lot.now old)) }
+        Reached (form_of F.VERSION) lot.now old number → IfOk result (PlaceReached (form_of F.VERSION) lot.now old)) }
     // Damage that it names is there.
     ensures broken { IfShown V.View lot.now view.old disk.old (λ old.
-        Reached F.ENTRY lot.now old number
-        → ((number ≡ 0) ⊎ (64 * length lot.now.groups ≤ number) → BadEntry F.ENTRY lot.now old)
-        → IfErr result (IsBrokenBy F.ENTRY lot.now old)) }
+        Reached (form_of F.VERSION) lot.now old number
+        → ((number ≡ 0) ⊎ (64 * length lot.now.groups ≤ number) → BadEntry (form_of F.VERSION) lot.now old)
+        → IfErr result (IsBrokenBy (form_of F.VERSION) lot.now old)) }
     // What stays as it was.
     ensures looked { Looked D.Disk V.View lot.now view.old disk.old view.new disk.new }
     // Which refusals there are, and when a fault comes.
@@ -164,12 +165,12 @@ pub(crate) fn step<D: Disk, V: View<D>, F: Form>(
     // Over a lot that recovers a tree, it finds what the tree has; the disk alone may fail.
     ensures place { (i h : ℕ) (t : Tree) → IfShown V.View lot.now view.old disk.old (λ old.
         ReadsIn F.VERSION lot.now old i h t → from ≡ place_by i (Found t)
-        → PlaceReached F.ENTRY lot.now old from → ¬ BadEntry F.ENTRY lot.now old
+        → PlaceReached (form_of F.VERSION) lot.now old from → ¬ BadEntry (form_of F.VERSION) lot.now old
         → IfOk result (λ p. p ≡ place_by (inode_named name.now
-        (rows_in (form_of F.VERSION) (own_in (form_of F.VERSION) old i))) (child name.now t))) }
+        (rows_in (form_of F.VERSION) (own (form_of F.VERSION) old i))) (child name.now t))) }
     ensures sound { (i h : ℕ) (t : Tree) → IfShown V.View lot.now view.old disk.old (λ old.
         ReadsIn F.VERSION lot.now old i h t → from ≡ place_by i (Found t)
-        → PlaceReached F.ENTRY lot.now old from → ¬ BadEntry F.ENTRY lot.now old
+        → PlaceReached (form_of F.VERSION) lot.now old from → ¬ BadEntry (form_of F.VERSION) lot.now old
         → FailsByDisk result) }
     // What it answers of any lot, damaged or not.
     ensures missing { from ≡ Missing → result ≡ Ok Missing }
@@ -179,11 +180,11 @@ pub(crate) fn step<D: Disk, V: View<D>, F: Form>(
     ensures reached { IfShown V.View lot.now view.old disk.old (λ old.
         PlaceReached (form_of F.VERSION) lot.now old from → IfOk result (PlaceReached (form_of F.VERSION) lot.now old)) }
     ensures named { IfShown V.View lot.now view.old disk.old (λ old.
-        IfOk result (PlaceNamed F.ENTRY old from name.now)) }
+        IfOk result (PlaceNamed (form_of F.VERSION) old from name.now)) }
     // Damage that it names is there.
     ensures broken { IfShown V.View lot.now view.old disk.old (λ old.
-        PlaceIs old from → PlaceReached F.ENTRY lot.now old from
-        → IfErr result (IsBrokenBy F.ENTRY lot.now old)) }
+        PlaceIs old from → PlaceReached (form_of F.VERSION) lot.now old from
+        → IfErr result (IsBrokenBy (form_of F.VERSION) lot.now old)) }
     // What stays as it was.
     ensures looked { Looked D.Disk V.View lot.now view.old disk.old view.new disk.new }
     // Which refusals there are, and when a fault comes.
@@ -218,17 +219,17 @@ pub(crate) fn walk<D: Disk, V: View<D>, F: Form>(
     requires within { end ≤ length path.now }
     // Over a lot that recovers a tree, it finds what the tree has; the disk alone may fail.
     ensures place { IfRecovers V.View F.VERSION lot.now view.old disk.old (λ old t _.
-        IfOk result (λ p. p ≡ place_at (form_of F.VERSION) (own_in (form_of F.VERSION) old)
+        IfOk result (λ p. p ≡ place_at (form_of F.VERSION) (own (form_of F.VERSION) old)
         (take (end - depth) (drop depth path.now)) t)) }
     ensures sound { FailsByDiskAlone V.View F.VERSION lot.now view.old disk.old result }
     // What it answers of any lot, damaged or not.
     ensures fits { IfOk result (PlaceFits lot.now) }
     ensures is { IfShown V.View lot.now view.old disk.old (λ old. IfOk result (PlaceIs old)) }
     ensures reached { IfShown V.View lot.now view.old disk.old (λ old.
-        IfOk result (PlaceReached F.ENTRY lot.now old)) }
+        IfOk result (PlaceReached (form_of F.VERSION) lot.now old)) }
     // Damage that it names is there.
     ensures broken { IfShown V.View lot.now view.old disk.old (λ old.
-        IfErr result (IsBrokenBy F.ENTRY lot.now old)) }
+        IfErr result (IsBrokenBy (form_of F.VERSION) lot.now old)) }
     // What stays as it was.
     ensures looked { Looked D.Disk V.View lot.now view.old disk.old view.new disk.new }
     // Which refusals there are, and when a fault comes.

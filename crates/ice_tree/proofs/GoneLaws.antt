@@ -214,7 +214,7 @@ its-blocks (tree.Dir Nil) e = refl
 its-blocks (tree.Dir (Entry c t es)) e = absurd (subst T e tt)
 
 -- what its removal needs
-pub gone-needs : (f : Form) → f ≡ form_one → (mode : ℕ) (lot : LotView) (m : Map) (t : Tree) (k : ℕ) (p : Names) (gone : Removal) (need : Need) → MapRecovers f mode lot m t k → IsRemoval f (own_in f m) p t gone → removal_refusal p t ≡ None
+pub gone-needs : (f : Form) → f ≡ form_one → (mode : ℕ) (lot : LotView) (m : Map) (t : Tree) (k : ℕ) (p : Names) (gone : Removal) (need : Need) → MapRecovers f mode lot m t k → IsRemoval f (own f m) p t gone → removal_refusal p t ≡ None
     → need.nodes ≡ 0 → need.lost ≡ 1 → need.blocks ≡ map_cost (dir_blocks f (gone.spot.entries - 1)) → need.freed ≡ map_cost (dir_blocks f gone.spot.entries) + map_cost (file_blocks gone.bytes) → Needs f t (next (Remove p) t) need
 gone-needs f one mode lot m t k p gone need r is none n l b d =
     let g = removable p t none in

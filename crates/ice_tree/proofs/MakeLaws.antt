@@ -190,7 +190,7 @@ module _ (mode : ℕ) (lot : LotView) (m0 : Map) (t : Tree) (k : ℕ) (p : Names
 
 -- ---- the same in the form that a cube has
 
-module _ (f : Form) (one : f ≡ form_one) (entry : ℕ) (sized : entry ≡ 64) (mode : ℕ) (lot : LotView) (m0 : Map) (t : Tree) (k : ℕ) (p : Names) (dir : Bool) (spot : DirAt) (name : List ℕ) (few : length lot.groups ≤ 64)
+module _ (f : Form) (one : f ≡ form_one) (form : Form) (sized : form ≡ form_one) (mode : ℕ) (lot : LotView) (m0 : Map) (t : Tree) (k : ℕ) (p : Names) (dir : Bool) (spot : DirAt) (name : List ℕ) (few : length lot.groups ≤ 64)
     (x : Takes f mode lot m0 t k p dir spot name) where
   as_one : Takes form_one mode lot m0 t k p dir spot name
   as_one = subst (λ g. Takes g mode lot m0 t k p dir spot name) one x

@@ -28,7 +28,7 @@ use Rattle.ice_look.proofs.MapDamage.{map-dir, bad-pointer}
 use Rattle.tree_spec.specs.Costs.{form_one, Form}
 use Rattle.ice_tree.proofs.MapDamage.{dir-few, misleads-same}
 
-module _ (entry : ℕ) (e64 : entry ≡ 64) (lot : LotView) (few : length lot.groups ≤ 64) (m0 : Map) (spot : DirAt) (fits : NewFits entry lot m0 spot) where
+module _ (form : Form) (e64 : form ≡ form_one) (lot : LotView) (few : length lot.groups ≤ 64) (m0 : Map) (spot : DirAt) (fits : NewFits form lot m0 spot) where
   -- no inode can be taken
   pub take-blamed : (e : OpFault) → IsTakeInodeFault e → (e ≡ NoNodes → AllUsed true lot m0) → (e ≡ Damaged Counts → counted true m0 ≡ 2 ^ 32 - 1) → IsBrokenBy form lot m0 e
   take-blamed Disk h none full = tt

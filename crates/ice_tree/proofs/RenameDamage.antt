@@ -41,7 +41,7 @@ none h = cc
 
 module _ (form : Form) (lot : LotView) (m : ℕ → List ℕ) where
   -- a directory at a place
-  place-spot : (p : Place) (spot : DirAt) → p ≡ Dir spot.number spot.entries → PlaceFits lot p → PlaceIs m p → PlaceReached entry lot m p → DirIs entry lot m spot
+  place-spot : (p : Place) (spot : DirAt) → p ≡ Dir spot.number spot.entries → PlaceFits lot p → PlaceIs m p → PlaceReached form lot m p → DirIs form lot m spot
   place-spot p spot at fits is reached =
       let f = subst (PlaceFits lot) at fits in
       let i = subst (PlaceIs m) at is in
@@ -69,12 +69,12 @@ module _ (form : Form) (lot : LotView) (m : ℕ → List ℕ) where
       }
 
   -- a look for the height of a tree that spent its budget, which has all inodes of the lot
-  pub height-broken : (place : Place) (number size levels budget : ℕ) → place ≡ Dir number size → 64 * length lot.groups ≤ budget → PlaceReached entry lot m place
-      → (e : OpFault) → IsBrokenBy entry lot m e ⊎ ((e ≡ Damaged InodeTwice) × (budget < count_within_place entry m levels place)) → IsBrokenBy entry lot m e
+  pub height-broken : (place : Place) (number size levels budget : ℕ) → place ≡ Dir number size → 64 * length lot.groups ≤ budget → PlaceReached form lot m place
+      → (e : OpFault) → IsBrokenBy form lot m e ⊎ ((e ≡ Damaged InodeTwice) × (budget < count_within_place form m levels place)) → IsBrokenBy form lot m e
   height-broken place number size levels budget at all reached e (inl b) = b
   height-broken place number size levels budget at all reached e (inr x) =
-      let many = subst (λ (p : Place). budget < count_within_place entry m levels p) at x.1 in
-      subst (IsBrokenBy entry lot m) (sym x.0) (inr (inr (record { number = number; levels = levels; reached = subst (PlaceReached entry lot m) at reached; many = omega (arith, all, many) })))
+      let many = subst (λ (p : Place). budget < count_within_place form m levels p) at x.1 in
+      subst (IsBrokenBy form lot m) (sym x.0) (inr (inr (record { number = number; levels = levels; reached = subst (PlaceReached form lot m) at reached; many = omega (arith, all, many) })))
 
   -- two directories that have too many entries
   pub overfull-of : (name : List ℕ) (step : Move) → MoveIs form lot m name step → (step.from.number ≢ step.to.number) × (64 * length lot.groups ≤ step.from.entries + step.to.entries) → Overfull form lot m

@@ -130,7 +130,7 @@ new-needs f one o p t spot dir is none b c more less =
     record { nodes_move = omega arith; blocks_move = omega arith }
 
 -- what was found before a look holds after it
-pub takes-after : (f : Form) (mode : ℕ) (lot : LotView) (m m' : Map) (t : Tree) (k : ℕ) (p : Names) (dir : Bool) (spot : DirAt) (name : List ℕ) → m' ≡ m → MapRecovers f mode lot m t k → IsDirAt f (own_in f m) (parent p) t spot
+pub takes-after : (f : Form) (mode : ℕ) (lot : LotView) (m m' : Map) (t : Tree) (k : ℕ) (p : Names) (dir : Bool) (spot : DirAt) (name : List ℕ) → m' ≡ m → MapRecovers f mode lot m t k → IsDirAt f (own f m) (parent p) t spot
     → name ≡ last_name p → is_name name ≡ true → refusal t k (length lot.groups) f (new_operation dir p) ≡ None → Takes f mode lot m' t k p dir spot name
 takes-after f mode lot m m' t k p dir spot name same r is last proper none =
     subst (λ (x : Map). Takes f mode lot x t k p dir spot name) (sym same) (record { recovers = r; spot_is = is; name_is = last; proper = proper; accepted = none })

@@ -36,14 +36,14 @@ new_refusal p t = or_else (walk_refusal (parent_walk p t)) (or_else (if is_root 
 -- the map recovers a tree that takes the new directory or file, the spot is the directory of its path, and the name is the path's last one
 pub record Takes (f : Form) (mode : ℕ) (lot : LotView) (m : Map) (t : Tree) (k : ℕ) (p : List (List ℕ)) (dir : Bool) (spot : DirAt) (name : List ℕ) : Type 0 where
   pub recovers : MapRecovers f mode lot m t k
-  pub spot_is : IsDirAt f (own_in f m) (parent p) t spot
+  pub spot_is : IsDirAt f (own f m) (parent p) t spot
   pub name_is : name ≡ last_name p
   pub proper : is_name name ≡ true
   pub accepted : refusal t k (length lot.groups) f (new_operation dir p) ≡ None
 
 -- such a directory, with what a new entry for a new inode needs
-pub record NewFits (entry : ℕ) (lot : LotView) (m : ℕ → List ℕ) (spot : DirAt) : Type 0 where
-  pub spot_is : DirIs entry lot m spot
+pub record NewFits (form : Form) (lot : LotView) (m : ℕ → List ℕ) (spot : DirAt) : Type 0 where
+  pub spot_is : DirIs form lot m spot
   pub room : spot.entries + 1 < 64 * length lot.groups
   pub node : 1 ≤ free_count true lot m
   pub blocks : uses_of (dir_blocks form (spot.entries + 1)) ≤ uses_of (dir_blocks form spot.entries) + free_count false lot m

@@ -56,7 +56,7 @@ pub record RemovalFits (lot : LotView) (gone : Removal) : Type 0 where
 -- the map recovers a tree that loses what stands at the path, and the name is the path's last one
 pub record Loses (f : Form) (mode : ℕ) (lot : LotView) (m : Map) (t : Tree) (k : ℕ) (p : List (List ℕ)) (gone : Removal) (name : List ℕ) : Type 0 where
   pub recovers : MapRecovers f mode lot m t k
-  pub gone_is : IsRemoval f (own_in f m) p t gone
+  pub gone_is : IsRemoval f (own f m) p t gone
   pub name_is : name ≡ last_name p
   pub accepted : refusal t k (length lot.groups) f (Remove p) ≡ None
 
@@ -70,10 +70,10 @@ pub record StandsLoose (f : Form) (mode : ℕ) (lot : LotView) (m : Map) (t : Tr
   pub bytes_are : bytes ≡ length (bytes_of tree)
 
 -- what is removed: a directory names it so, and a file has its bytes
-pub record RemovalIs (entry : ℕ) (lot : LotView) (m : ℕ → List ℕ) (name : List ℕ) (gone : Removal) : Type 0 where
-  pub spot_is : DirIs entry lot m gone.spot
-  pub named : look_up name (rows_of entry m gone.spot.number) ≡ Some gone.number
-  pub reached : IsReached entry lot m gone.number
+pub record RemovalIs (form : Form) (lot : LotView) (m : ℕ → List ℕ) (name : List ℕ) (gone : Removal) : Type 0 where
+  pub spot_is : DirIs form lot m gone.spot
+  pub named : look_up name (rows_of form m gone.spot.number) ≡ Some gone.number
+  pub reached : IsReached form lot m gone.number
   pub file : 0 < gone.bytes → ReachesTo 0 (inode_of m gone.number)
 
 -- what is damaged of a file or an empty directory at an inode, whether or not a directory names it, by the rule on counts, pointers or bitmaps

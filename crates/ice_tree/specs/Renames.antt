@@ -18,7 +18,7 @@ use Rattle.ice_tree.specs.declared.renames.Move.{Move}
 use Rattle.ice_look.specs.Ends.{IsDirAt, DirFits, DirIs}
 use Rattle.ice_look.specs.Stages.{or_else}
 use Rattle.ice_base.specs.Used.{free_count}
-use Rattle.ice_file.specs.Writes.{uses_of}
+use Rattle.ice_map.specs.Moves.{uses_of}
 use Rattle.ice_dir.specs.Changes.{dir_blocks}
 use Rattle.ice_tree.specs.Quotas.{CanCount}
 
@@ -69,9 +69,9 @@ pub record Renames (f : Form) (mode : ℕ) (lot : LotView) (m : Map) (t : Tree) 
   pub accepted : refusal t k (length lot.groups) f (Rename p q) ≡ None
 
 -- what is renamed: a directory names it so, and another one is to take it
-pub record MoveIs (entry : ℕ) (lot : LotView) (m : ℕ → List ℕ) (name : List ℕ) (step : Move) : Type 0 where
-  pub from_is : DirIs entry lot m step.from
-  pub to_is : DirIs entry lot m step.to
+pub record MoveIs (form : Form) (lot : LotView) (m : ℕ → List ℕ) (name : List ℕ) (step : Move) : Type 0 where
+  pub from_is : DirIs form lot m step.from
+  pub to_is : DirIs form lot m step.to
   pub number : ℕ
   pub below : number < 64 * length lot.groups
   pub named : look_up name (rows_of form m step.from.number) ≡ Some number

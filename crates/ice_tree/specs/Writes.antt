@@ -5,7 +5,7 @@ use Rattle.tree_spec.specs.Why.{Why}
 use Rattle.tree_spec.specs.Why as why
 use Rattle.tree_spec.specs.Trees.{Tree, Found, walk}
 use Rattle.tree_spec.specs.Trees as tree
-use Rattle.tree_spec.specs.Costs.{Form}
+use Rattle.tree_spec.specs.Costs.{Form, form_one}
 use Rattle.tree_spec.specs.Operations.{Operation}
 use Rattle.tree_spec.specs.Answers.{bytes_found, refusal}
 use Rattle.ice_file.specs.Files.{ReachesTo}

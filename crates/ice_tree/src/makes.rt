@@ -5,12 +5,13 @@ ghost use Rattle.ice_base.specs.Lots.{LotView, is_sited, sub_address};
 ghost use Rattle.ice_base.specs.Views.{Looked, Spent, AsShown, IfShown};
 ghost use Rattle.ice_base.specs.declared.fault.OpFault.TheVariants.{Disk as FaultDisk};
 ghost use Rattle.tree_spec.specs.Answers.{answer, next, refusal, is_root};
-ghost use Rattle.tree_spec.specs.Costs.{Form, form_of};
+ghost use Rattle.tree_spec.specs.Costs.{Form as CubeForm, form_of};
 ghost use Rattle.tree_spec.specs.Operations.{Mkdir, Make};
 ghost use Rattle.tree_spec.specs.Trees.{Tree, parent};
 ghost use Rattle.tree_spec.specs.declared.reply.Refusal.TheVariants.{Fault, Damaged, NotFound, NotDir, IsRoot, Exists};
 ghost use Rattle.ice_reads.specs.Recovers.{MapRecovers};
-ghost use Rattle.ice_reads.specs.Tables.{Table, own_in};
+ghost use Rattle.ice_reads.specs.Tables.{Table};
+ghost use Rattle.ice_map.specs.Own.{own};
 ghost use Rattle.ice_look.specs.Broken.{IsBrokenBy};
 ghost use Rattle.ice_look.specs.Ends.{IsEnds, EndsFit, IsDirAt, DirFits, EndsAre, DirIs};
 ghost use Rattle.ice_tree.specs.Makes.{new_operation, new_refusal, new_inode, Takes, NewFits};
@@ -36,8 +37,8 @@ fn new_spot(ends: &Ends, root: bool) -> Result<DirAt, Refusal>
     // What it answers of any lot, damaged or not.
     ensures fits { (lot : LotView) → EndsFit lot ends.now → IfOk result (DirFits lot) }
     ensures below { OnOk result (root ≡ false) }
-    ensures is { (entry : ℕ) (lot : LotView) (m : ℕ → List ℕ) → EndsAre entry lot m ends.now
-        → EndsFit lot ends.now → IfOk result (DirIs entry lot m) }
+    ensures is { (form : CubeForm) (lot : LotView) (m : ℕ → List ℕ) → EndsAre form lot m ends.now
+        → EndsFit lot ends.now → IfOk result (DirIs form lot m) }
     // Which refusals there are, and when a fault comes.
     ensures set { IfErr result (λ r. (r ≡ NotFound) ⊎ (r ≡ NotDir) ⊎ (r ≡ IsRoot) ⊎ (r ≡ Exists)) }
 {
@@ -79,7 +80,7 @@ fn check_new<D: Disk, K: Keep<D>, P: Pool<D, K>, F: Form>(
     ensures spot { (dir : Bool) (mode k : ℕ) (t : Tree)
         → IfShown K.View lot.now keep.old disk.old (λ old.
         MapRecovers (form_of F.VERSION) mode lot.now old t k
-        → Accepts (IsDirAt (form_of F.VERSION) (own_in (form_of F.VERSION) old)
+        → Accepts (IsDirAt (form_of F.VERSION) (own (form_of F.VERSION) old)
         (parent (drop depth path.now)) t)
         (refusal t k (length lot.now.groups) (form_of F.VERSION)
         (new_operation dir (drop depth path.now))) result) }
@@ -87,9 +88,9 @@ fn check_new<D: Disk, K: Keep<D>, P: Pool<D, K>, F: Form>(
     ensures fits { IfOk result (DirFits lot.now) }
     ensures below { OnOk result (depth < length path.now) }
     ensures ready { IfShown K.View lot.now keep.old disk.old (λ old.
-        IfOk result (NewFits F.ENTRY lot.now old)) }
+        IfOk result (NewFits (form_of F.VERSION) lot.now old)) }
     // Damage that it names is there.
-    ensures damaged { NamesBroken K.View F.ENTRY lot.now keep.old disk.old result }
+    ensures damaged { NamesBroken K.View (form_of F.VERSION) lot.now keep.old disk.old result }
     // Names alone refuse a path before any call of the disk.
     ensures paths { RefusesPaths F.VERSION (drop depth path.now ∷ []) result }
     ensures untouched { UntouchedAll F.VERSION (drop depth path.now ∷ [])
@@ -168,7 +169,7 @@ fn put_node<D: Disk, K: Keep<D>, P: Pool<D, K>, F: Form>(
         → FailsByDisk result) }
     // Damage that it names is there.
     ensures broken { IfShown K.View lot.now keep.old disk.old (λ old.
-        NewFits F.ENTRY lot.now old spot.now → IfErr result (IsBrokenBy F.ENTRY lot.now old)) }
+        NewFits (form_of F.VERSION) lot.now old spot.now → IfErr result (IsBrokenBy (form_of F.VERSION) lot.now old)) }
     // What it spends of the keep, and what stays as it was.
     ensures spent { Spent D.Disk K.View lot.now 11 keep.old disk.old keep.new disk.new }
     ensures done { KeepsDone K.View lot.now keep.old disk.old keep.new disk.new result }
@@ -212,7 +213,7 @@ fn put_new<D: Disk, K: Keep<D>, P: Pool<D, K>, F: Form>(
         → FailsByDisk result) }
     // Damage that it names is there.
     ensures broken { IfShown K.View lot.now keep.old disk.old (λ old.
-        NewFits F.ENTRY lot.now old spot.now → IfErr result (IsBrokenBy F.ENTRY lot.now old)) }
+        NewFits (form_of F.VERSION) lot.now old spot.now → IfErr result (IsBrokenBy (form_of F.VERSION) lot.now old)) }
     // What it spends of the keep, and what stays as it was.
     ensures counted { OnOk result (K.held keep.new sub_address ≡ true) }
     ensures spent { Spent D.Disk K.View lot.now 12 keep.old disk.old keep.new disk.new }
@@ -246,7 +247,7 @@ fn make_node<D: Disk, K: Keep<D>, P: Pool<D, K>, F: Form>(
     ensures changed { ChangesAs K.View F.VERSION lot.now keep.old disk.old keep.new disk.new
         (new_operation dir (drop depth path.now)) result }
     // Damage that it names is there.
-    ensures damaged { NamesBroken K.View F.ENTRY lot.now keep.old disk.old result }
+    ensures damaged { NamesBroken K.View (form_of F.VERSION) lot.now keep.old disk.old result }
     // Names alone refuse a path before any call of the disk.
     ensures paths { RefusesPaths F.VERSION (drop depth path.now ∷ []) result }
     ensures untouched { UntouchedAll F.VERSION (drop depth path.now ∷ [])
@@ -290,7 +291,7 @@ pub fn mkdir<D: Disk, K: Keep<D>, P: Pool<D, K>, F: Form>(
     ensures changed { ChangesAs K.View F.VERSION lot.now keep.old disk.old keep.new disk.new
         (Mkdir (drop depth path.now)) result }
     // Damage that it names is there.
-    ensures damaged { NamesBroken K.View F.ENTRY lot.now keep.old disk.old result }
+    ensures damaged { NamesBroken K.View (form_of F.VERSION) lot.now keep.old disk.old result }
     // Names alone refuse a path before any call of the disk.
     ensures paths { RefusesPaths F.VERSION (drop depth path.now ∷ []) result }
     ensures untouched { UntouchedAll F.VERSION (drop depth path.now ∷ [])
@@ -326,7 +327,7 @@ pub fn make<D: Disk, K: Keep<D>, P: Pool<D, K>, F: Form>(
     ensures changed { ChangesAs K.View F.VERSION lot.now keep.old disk.old keep.new disk.new
         (Make (drop depth path.now)) result }
     // Damage that it names is there.
-    ensures damaged { NamesBroken K.View F.ENTRY lot.now keep.old disk.old result }
+    ensures damaged { NamesBroken K.View (form_of F.VERSION) lot.now keep.old disk.old result }
     // Names alone refuse a path before any call of the disk.
     ensures paths { RefusesPaths F.VERSION (drop depth path.now ∷ []) result }
     ensures untouched { UntouchedAll F.VERSION (drop depth path.now ∷ [])

@@ -4,10 +4,9 @@ ghost use Rattle.ice_base.specs.Disk.{Rose};
 ghost use Rattle.ice_base.specs.Lots.{is_sited};
 ghost use Rattle.ice_base.specs.Used.{free_count};
 ghost use Rattle.ice_base.specs.Views.{Looked, IfShown};
-ghost use Rattle.tree_spec.specs.Costs.{form_of, map_cost, file_blocks, dir_blocks};
+ghost use Rattle.tree_spec.specs.Costs.{form_of, map_cost, file_blocks, dir_blocks, form_one};
 ghost use Rattle.tree_spec.specs.Trees.{Tree};
 ghost use Rattle.tree_spec.specs.declared.reply.Refusal.TheVariants.{NoNodes, NoSpace, Fault};
-ghost use Rattle.ice_file.specs.Files.{longest_file};
 ghost use Rattle.ice_reads.specs.Recovers.{MapRecovers};
 ghost use Rattle.ice_tree.specs.Quotas.{Needs, CanCount, HasFree, quota_refusal, nodes_refusal, blocks_refusal, done_refusal};
 ghost use Rattle.ice_look.specs.Outcomes.{IsOneOf};
@@ -71,7 +70,7 @@ fn check_nodes<D: Disk, K: Keep<D>, P: Pool<D, K>, F: Form>(
     ensures enough { IfShown K.View lot.now keep.old disk.old (λ old.
         OnOk result (need.now.nodes ≤ need.now.lost + free_count true lot.now old)) }
     // Damage that it names is there.
-    ensures damaged { NamesBroken K.View F.ENTRY lot.now keep.old disk.old result }
+    ensures damaged { NamesBroken K.View (form_of F.VERSION) lot.now keep.old disk.old result }
     // What stays as it was.
     ensures looked { Looked D.Disk K.View lot.now keep.old disk.old keep.new disk.new }
     // Which refusals there are, and when a fault comes.
@@ -113,7 +112,7 @@ fn check_blocks<D: Disk, K: Keep<D>, P: Pool<D, K>, F: Form>(
     ensures enough { IfShown K.View lot.now keep.old disk.old (λ old.
         OnOk result (need.now.blocks ≤ need.now.freed + free_count false lot.now old)) }
     // Damage that it names is there.
-    ensures damaged { NamesBroken K.View F.ENTRY lot.now keep.old disk.old result }
+    ensures damaged { NamesBroken K.View (form_of F.VERSION) lot.now keep.old disk.old result }
     // What stays as it was.
     ensures looked { Looked D.Disk K.View lot.now keep.old disk.old keep.new disk.new }
     // Which refusals there are, and when a fault comes.
@@ -149,7 +148,7 @@ fn check_done<D: Disk, K: Keep<D>, F: Form>(
     // What it answers of any lot, damaged or not.
     ensures enough { IfShown K.View lot.now keep.old disk.old (λ old. OnOk result (CanCount old)) }
     // Damage that it names is there.
-    ensures damaged { NamesBroken K.View F.ENTRY lot.now keep.old disk.old result }
+    ensures damaged { NamesBroken K.View (form_of F.VERSION) lot.now keep.old disk.old result }
     // What stays as it was.
     ensures looked { Looked D.Disk K.View lot.now keep.old disk.old keep.new disk.new }
     // Which refusals there are, and when a fault comes.
@@ -186,7 +185,7 @@ pub(crate) fn check_quota<D: Disk, K: Keep<D>, P: Pool<D, K>, F: Form>(
     ensures enough { IfShown K.View lot.now keep.old disk.old (λ old.
         OnOk result (HasFree lot.now old need.now)) }
     // Damage that it names is there.
-    ensures damaged { NamesBroken K.View F.ENTRY lot.now keep.old disk.old result }
+    ensures damaged { NamesBroken K.View (form_of F.VERSION) lot.now keep.old disk.old result }
     // What stays as it was.
     ensures looked { Looked D.Disk K.View lot.now keep.old disk.old keep.new disk.new }
     // Which refusals there are, and when a fault comes.

@@ -8,11 +8,12 @@ ghost use Rattle.ice_base.specs.declared.fault.OpFault.TheVariants.{Disk as Faul
 ghost use Rattle.ice_map.specs.Inodes.{inode_of};
 ghost use Rattle.ice_file.specs.Files.{ReachesTo};
 ghost use Rattle.tree_spec.specs.Answers.{answer, next, is_root};
-ghost use Rattle.tree_spec.specs.Costs.{Form, form_of};
+ghost use Rattle.tree_spec.specs.Costs.{Form as CubeForm, form_of};
 ghost use Rattle.tree_spec.specs.Operations.{Remove};
 ghost use Rattle.tree_spec.specs.Trees.{Tree, last_name};
 ghost use Rattle.tree_spec.specs.declared.reply.Refusal.TheVariants.{NotDir, Fault, Damaged};
-ghost use Rattle.ice_reads.specs.Tables.{Table, own_in};
+ghost use Rattle.ice_reads.specs.Tables.{Table};
+ghost use Rattle.ice_map.specs.Own.{own};
 ghost use Rattle.ice_reads.specs.Recovers.{MapRecovers};
 ghost use Rattle.ice_steps.specs.Beside.{Beside};
 ghost use Rattle.ice_look.specs.Broken.{IsBrokenBy, IsFaultBy};
@@ -72,10 +73,10 @@ fn removal_of(ends: &Ends) -> Result<Removal, Refusal>
         → IsEnds f o p t ends.now → Accepts (IsRemoval f o p t) (removal_refusal p t) result }
     // What it answers of any lot, damaged or not.
     ensures fits { (lot : LotView) → EndsFit lot ends.now → IfOk result (RemovalFits lot) }
-    ensures is { (entry : ℕ) (lot : LotView) (m : ℕ → List ℕ) (name : List ℕ)
-        → EndsAre entry lot m ends.now → EndsFit lot ends.now
-        → PlaceNamed entry m ends.now.parent name ends.now.end
-        → IfOk result (RemovalIs entry lot m name) }
+    ensures is { (form : CubeForm) (lot : LotView) (m : ℕ → List ℕ) (name : List ℕ)
+        → EndsAre form lot m ends.now → EndsFit lot ends.now
+        → PlaceNamed form m ends.now.parent name ends.now.end
+        → IfOk result (RemovalIs form lot m name) }
     // Damage that it names is there.
     ensures undamaged { (n : ℕ) → IsErrOf result (Damaged n) → ⊥ }
     // Which refusals there are, and when a fault comes.
@@ -96,6 +97,7 @@ fn removal_of(ends: &Ends) -> Result<Removal, Refusal>
 }
 
 /// What stands at a path. IsRoot: the path has no names.
+#[tactic(auto, using(ice_map::proofs::SizeLaws::size_laws))]
 fn find_removal<D: Disk, V: View<D>, F: Form>(
     view: &mut V,
     disk: &mut D,
@@ -109,15 +111,15 @@ fn find_removal<D: Disk, V: View<D>, F: Form>(
     requires depth { depth ≤ length path.now }
     // Over a lot that recovers a tree, it finds what the tree has.
     ensures found { IfRecovers V.View F.VERSION lot.now view.old disk.old (λ old t _.
-        Accepts (IsRemoval (form_of F.VERSION) (own_in (form_of F.VERSION) old)
+        Accepts (IsRemoval (form_of F.VERSION) (own (form_of F.VERSION) old)
         (drop depth path.now) t) (removal_refusal (drop depth path.now) t) result) }
     // What it answers of any lot, damaged or not.
     ensures fits { IfOk result (RemovalFits lot.now) }
     ensures below { OnOk result (depth < length path.now) }
     ensures is { IfShown V.View lot.now view.old disk.old (λ old.
-        IfOk result (RemovalIs F.ENTRY lot.now old (last_name (drop depth path.now)))) }
+        IfOk result (RemovalIs (form_of F.VERSION) lot.now old (last_name (drop depth path.now)))) }
     // Damage that it names is there.
-    ensures damaged { NamesBroken V.View F.ENTRY lot.now view.old disk.old result }
+    ensures damaged { NamesBroken V.View (form_of F.VERSION) lot.now view.old disk.old result }
     // What stays as it was.
     ensures looked { Looked D.Disk V.View lot.now view.old disk.old view.new disk.new }
     // Which refusals there are, and when a fault comes.
@@ -134,6 +136,7 @@ fn find_removal<D: Disk, V: View<D>, F: Form>(
 }
 
 /// The refusals by the quota. A removal needs no node and gives one back; its directory has a block less where the last one was its only one.
+#[tactic(auto, using(ice_map::proofs::SizeLaws::size_laws))]
 fn check_removal<D: Disk, K: Keep<D>, P: Pool<D, K>, F: Form>(
     keep: &mut K,
     pool: &mut P,
@@ -148,13 +151,13 @@ fn check_removal<D: Disk, K: Keep<D>, P: Pool<D, K>, F: Form>(
     ensures quota { (mode k : ℕ) (t : Tree) (p : List (List ℕ))
         → IfShown K.View lot.now keep.old disk.old (λ old.
         MapRecovers (form_of F.VERSION) mode lot.now old t k
-        → IsRemoval (form_of F.VERSION) (own_in (form_of F.VERSION) old) p t gone.now
+        → IsRemoval (form_of F.VERSION) (own (form_of F.VERSION) old) p t gone.now
         → removal_refusal p t ≡ None → RefusedBy
         (quota_refusal (length lot.now.groups) (form_of F.VERSION) k (next (Remove p) t)) result) }
     // What it answers of any lot, damaged or not.
     ensures room { IfShown K.View lot.now keep.old disk.old (λ old. OnOk result (CanCount old)) }
     // Damage that it names is there.
-    ensures damaged { NamesBroken K.View F.ENTRY lot.now keep.old disk.old result }
+    ensures damaged { NamesBroken K.View (form_of F.VERSION) lot.now keep.old disk.old result }
     // What stays as it was.
     ensures looked { Looked D.Disk K.View lot.now keep.old disk.old keep.new disk.new }
     // Which refusals there are, and when a fault comes.
@@ -186,7 +189,7 @@ fn may_remove<D: Disk, K: Keep<D>, P: Pool<D, K>, F: Form>(
     requires depth { depth ≤ length path.now }
     // Over a lot that recovers a tree, it finds what the tree has.
     ensures found { IfRecovers K.View F.VERSION lot.now keep.old disk.old (λ old t k.
-        Accepts (IsRemoval (form_of F.VERSION) (own_in (form_of F.VERSION) old)
+        Accepts (IsRemoval (form_of F.VERSION) (own (form_of F.VERSION) old)
         (drop depth path.now) t) (or_else (removal_refusal (drop depth path.now) t)
         (quota_refusal (length lot.now.groups) (form_of F.VERSION) k
         (next (Remove (drop depth path.now)) t))) result) }
@@ -194,10 +197,10 @@ fn may_remove<D: Disk, K: Keep<D>, P: Pool<D, K>, F: Form>(
     ensures fits { IfOk result (RemovalFits lot.now) }
     ensures below { OnOk result (depth < length path.now) }
     ensures is { IfShown K.View lot.now keep.old disk.old (λ old.
-        IfOk result (RemovalIs F.ENTRY lot.now old (last_name (drop depth path.now)))) }
+        IfOk result (RemovalIs (form_of F.VERSION) lot.now old (last_name (drop depth path.now)))) }
     ensures room { IfShown K.View lot.now keep.old disk.old (λ old. OnOk result (CanCount old)) }
     // Damage that it names is there.
-    ensures damaged { NamesBroken K.View F.ENTRY lot.now keep.old disk.old result }
+    ensures damaged { NamesBroken K.View (form_of F.VERSION) lot.now keep.old disk.old result }
     // What stays as it was.
     ensures looked { Looked D.Disk K.View lot.now keep.old disk.old keep.new disk.new }
     // Which refusals there are, and when a fault comes.
@@ -334,8 +337,8 @@ fn take_away<D: Disk, K: Keep<D>, P: Pool<D, K>, F: Form>(
         OnOk result (Freed new gone.now.number)) }
     // Damage that it names is there.
     ensures broken { IfShown K.View lot.now keep.old disk.old (λ old.
-        RemovalIs F.ENTRY lot.now old name.now gone.now
-        → IfErr result (IsBrokenBy F.ENTRY lot.now old)) }
+        RemovalIs (form_of F.VERSION) lot.now old name.now gone.now
+        → IfErr result (IsBrokenBy (form_of F.VERSION) lot.now old)) }
     // What it spends of the keep, and what stays as it was.
     ensures spent { Spent D.Disk K.View lot.now 83 keep.old disk.old keep.new disk.new }
     ensures done { KeepsDone K.View lot.now keep.old disk.old keep.new disk.new result }
@@ -376,8 +379,8 @@ fn put_away<D: Disk, K: Keep<D>, P: Pool<D, K>, F: Form>(
         OnOk result (Freed new gone.now.number)) }
     // Damage that it names is there.
     ensures broken { IfShown K.View lot.now keep.old disk.old (λ old.
-        RemovalIs F.ENTRY lot.now old name.now gone.now → CanCount old
-        → IfErr result (IsBrokenBy F.ENTRY lot.now old)) }
+        RemovalIs (form_of F.VERSION) lot.now old name.now gone.now → CanCount old
+        → IfErr result (IsBrokenBy (form_of F.VERSION) lot.now old)) }
     // What it spends of the keep, and what stays as it was.
     ensures counted { OnOk result (K.held keep.new sub_address ≡ true) }
     ensures spent { Spent D.Disk K.View lot.now 84 keep.old disk.old keep.new disk.new }
@@ -414,7 +417,7 @@ pub fn remove<D: Disk, K: Keep<D>, P: Pool<D, K>, F: Form>(
         MapRecovers (form_of F.VERSION) mode lot.now old t k
         → OnOk result (Freed new (inode_at F.VERSION old (drop depth path.now)))) }
     // Damage that it names is there.
-    ensures damaged { NamesBroken K.View F.ENTRY lot.now keep.old disk.old result }
+    ensures damaged { NamesBroken K.View (form_of F.VERSION) lot.now keep.old disk.old result }
     // Names alone refuse a path before any call of the disk.
     ensures paths { RefusesPaths F.VERSION (drop depth path.now ∷ []) result }
     ensures untouched { UntouchedAll F.VERSION (drop depth path.now ∷ [])

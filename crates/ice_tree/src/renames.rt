@@ -6,7 +6,7 @@ ghost use Rattle.ice_base.specs.Views.{Looked, Spent, IfShown};
 ghost use Rattle.ice_base.specs.declared.fault.OpFault.TheVariants.{Disk as FaultDisk};
 ghost use Rattle.ice_base.specs.declared.fault.Rule.{Rule};
 ghost use Rattle.tree_spec.specs.Answers.{answer, refusal, next, is_root, is_found, is_not_found, is_not_dir, deepest};
-ghost use Rattle.tree_spec.specs.Costs.{Form, form_of, map_cost, dir_blocks};
+ghost use Rattle.tree_spec.specs.Costs.{Form as CubeForm, form_of, map_cost, dir_blocks};
 ghost use Rattle.tree_spec.specs.Operations.{Rename};
 ghost use Rattle.tree_spec.specs.Routes.{is_prefix, is_same_name, is_same_path};
 ghost use Rattle.tree_spec.specs.Trees.{last_name, Tree, Walk, needs_dir};
@@ -149,13 +149,13 @@ fn check_height<D: Disk, V: View<D>, F: Form>(
     ensures height { (mode k : ℕ) (t : Tree) (p q : List (List ℕ))
         → IfShown V.View lot.now view.old disk.old (λ old.
         MapRecovers (form_of F.VERSION) mode lot.now old t k
-        → place ≡ place_at (form_of F.VERSION) (own_in (form_of F.VERSION) old) p t
+        → place ≡ place_at (form_of F.VERSION) (own (form_of F.VERSION) old) p t
         → length p ≡ here → length q ≡ there → RefusedBy (height_refusal p q t) result) }
     // Damage that it names is there.
     ensures damaged { (n : ℕ) → IsErrOf result (Damaged n)
         → IfShown V.View lot.now view.old disk.old (λ old.
-        PlaceIs old place → PlaceReached F.ENTRY lot.now old place → (r : Rule)
-        × (n ≡ rule_number r) × IsBroken F.ENTRY lot.now old r) }
+        PlaceIs old place → PlaceReached (form_of F.VERSION) lot.now old place → (r : Rule)
+        × (n ≡ rule_number r) × IsBroken (form_of F.VERSION) lot.now old r) }
     // What stays as it was.
     ensures looked { Looked D.Disk V.View lot.now view.old disk.old view.new disk.new }
     // Which refusals there are, and when a fault comes.
@@ -243,11 +243,11 @@ fn move_of(from: &Ends, into: &Ends, same: bool) -> Result<Move, Refusal>
     // What it answers of any lot, damaged or not.
     ensures fits { (lot : LotView) → EndsFit lot from.now → EndsFit lot into.now
         → IfOk result (MoveFits lot) }
-    ensures is { (entry : ℕ) (lot : LotView) (m : ℕ → List ℕ) (name : List ℕ)
-        → EndsAre entry lot m from.now → EndsAre entry lot m into.now → EndsFit lot from.now
-        → EndsFit lot into.now → PlaceNamed entry m from.now.parent name from.now.end
+    ensures is { (form : CubeForm) (lot : LotView) (m : ℕ → List ℕ) (name : List ℕ)
+        → EndsAre form lot m from.now → EndsAre form lot m into.now → EndsFit lot from.now
+        → EndsFit lot into.now → PlaceNamed form m from.now.parent name from.now.end
         → is_place from.now.end ≡ true → is_dir_place into.now.parent ≡ true
-        → MatchResult result (MoveIs entry lot m name) (λ r. ⊥) }
+        → MatchResult result (MoveIs form lot m name) (λ r. ⊥) }
     // Which refusals there are, and when a fault comes.
     ensures set { IfErr result (IsOneOf rename_refusals look_rules) }
     ensures faultless { IsErrOf result Fault → ⊥ }
@@ -282,15 +282,15 @@ fn find_move<D: Disk, V: View<D>, F: Form>(
     requires shallow { length to.now ≤ depth + deepest }
     // Over a lot that recovers a tree, it finds what the tree has.
     ensures found { IfRecovers V.View F.VERSION lot.now view.old disk.old (λ old t _.
-        Accepts (IsMove (form_of F.VERSION) (own_in (form_of F.VERSION) old) (drop depth path.now)
+        Accepts (IsMove (form_of F.VERSION) (own (form_of F.VERSION) old) (drop depth path.now)
         (drop depth to.now) t) (move_refusal (drop depth path.now) (drop depth to.now) t) result) }
     // What it answers of any lot, damaged or not.
     ensures fits { IfOk result (MoveFits lot.now) }
     ensures below { OnOk result ((depth < length path.now) × (depth < length to.now)) }
     ensures is { IfShown V.View lot.now view.old disk.old (λ old.
-        IfOk result (MoveIs F.ENTRY lot.now old (last_name (drop depth path.now)))) }
+        IfOk result (MoveIs (form_of F.VERSION) lot.now old (last_name (drop depth path.now)))) }
     // Damage that it names is there.
-    ensures damaged { NamesBroken V.View F.ENTRY lot.now view.old disk.old result }
+    ensures damaged { NamesBroken V.View (form_of F.VERSION) lot.now view.old disk.old result }
     // What stays as it was.
     ensures looked { Looked D.Disk V.View lot.now view.old disk.old view.new disk.new }
     // Which refusals there are, and when a fault comes.
@@ -400,7 +400,7 @@ fn may_move<D: Disk, K: Keep<D>, P: Pool<D, K>, F: Form>(
         (drop depth path.now ∷ drop depth to.now ∷ []) ≡ None }
     // Over a lot that recovers a tree, it finds what the tree has.
     ensures found { IfRecovers K.View F.VERSION lot.now keep.old disk.old (λ old t k.
-        Accepts (IsMove (form_of F.VERSION) (own_in (form_of F.VERSION) old) (drop depth path.now)
+        Accepts (IsMove (form_of F.VERSION) (own (form_of F.VERSION) old) (drop depth path.now)
         (drop depth to.now) t) (refusal t k (length lot.now.groups) (form_of F.VERSION)
         (Rename (drop depth path.now) (drop depth to.now))) result) }
     // What it answers of any lot, damaged or not.
@@ -409,9 +409,9 @@ fn may_move<D: Disk, K: Keep<D>, P: Pool<D, K>, F: Form>(
     ensures is { IfShown K.View lot.now keep.old disk.old (λ old.
         IfOk result (MoveIs (form_of F.VERSION) lot.now old (last_name (drop depth path.now)))) }
     ensures room { IfShown K.View lot.now keep.old disk.old (λ old.
-        IfOk result (RowFits F.ENTRY lot.now old)) }
+        IfOk result (RowFits (form_of F.VERSION) lot.now old)) }
     // Damage that it names is there.
-    ensures damaged { NamesBroken K.View F.ENTRY lot.now keep.old disk.old result }
+    ensures damaged { NamesBroken K.View (form_of F.VERSION) lot.now keep.old disk.old result }
     // What stays as it was.
     ensures looked { Looked D.Disk K.View lot.now keep.old disk.old keep.new disk.new }
     // Which refusals there are, and when a fault comes.
@@ -463,8 +463,8 @@ fn move_row<D: Disk, K: Keep<D>, P: Pool<D, K>, F: Form>(
         → FailsByDisk result }
     // Damage that it names is there.
     ensures broken { IfShown K.View lot.now keep.old disk.old (λ old.
-        MoveIs F.ENTRY lot.now old name.now step.now → RowFits F.ENTRY lot.now old step.now
-        → step.now.same ≡ false → IfErr result (IsBrokenBy F.ENTRY lot.now old)) }
+        MoveIs (form_of F.VERSION) lot.now old name.now step.now → RowFits (form_of F.VERSION) lot.now old step.now
+        → step.now.same ≡ false → IfErr result (IsBrokenBy (form_of F.VERSION) lot.now old)) }
     // What it spends of the keep, and what stays as it was.
     ensures spent { Spent D.Disk K.View lot.now 16 keep.old disk.old keep.new disk.new }
     ensures done { KeepsDone K.View lot.now keep.old disk.old keep.new disk.new result }
@@ -513,8 +513,8 @@ fn put_moved<D: Disk, K: Keep<D>, P: Pool<D, K>, F: Form>(
         (K.map keep.old disk.old lot.now) t k p q step.now name.now new.now → FailsByDisk result }
     // Damage that it names is there.
     ensures broken { IfShown K.View lot.now keep.old disk.old (λ old.
-        MoveIs F.ENTRY lot.now old name.now step.now → RowFits F.ENTRY lot.now old step.now
-        → IfErr result (IsBrokenBy F.ENTRY lot.now old)) }
+        MoveIs (form_of F.VERSION) lot.now old name.now step.now → RowFits (form_of F.VERSION) lot.now old step.now
+        → IfErr result (IsBrokenBy (form_of F.VERSION) lot.now old)) }
     // What it spends of the keep, and what stays as it was.
     ensures counted { OnOk result (K.held keep.new sub_address ≡ true) }
     ensures spent { Spent D.Disk K.View lot.now 17 keep.old disk.old keep.new disk.new }
@@ -553,7 +553,7 @@ pub fn rename<D: Disk, K: Keep<D>, P: Pool<D, K>, F: Form>(
     ensures changed { ChangesAs K.View F.VERSION lot.now keep.old disk.old keep.new disk.new
         (Rename (drop depth path.now) (drop depth to.now)) result }
     // Damage that it names is there.
-    ensures damaged { NamesBroken K.View F.ENTRY lot.now keep.old disk.old result }
+    ensures damaged { NamesBroken K.View (form_of F.VERSION) lot.now keep.old disk.old result }
     // Names alone refuse a path before any call of the disk.
     ensures paths { RefusesPaths F.VERSION (drop depth path.now ∷ drop depth to.now ∷ []) result }
     ensures untouched { UntouchedAll F.VERSION (drop depth path.now ∷ drop depth to.now ∷ [])

@@ -12,7 +12,7 @@ ghost use Rattle.tree_spec.specs.Operations.{Write, Trunc};
 ghost use Rattle.tree_spec.specs.Trees.{Tree};
 ghost use Rattle.tree_spec.specs.declared.reply.Refusal.TheVariants.{Fault};
 ghost use Rattle.ice_reads.specs.Recovers.{MapRecovers};
-ghost use Rattle.ice_reads.specs.Tables.{own_in};
+ghost use Rattle.ice_map.specs.Own.{own};
 ghost use Rattle.ice_look.specs.Broken.{IsBrokenBy};
 ghost use Rattle.ice_tree.specs.Writes.{IsFile, FileFits, TakesAt, reach_refusal, FileIs, BytesFit};
 ghost use Rattle.ice_tree.specs.Quotas.{CanCount};
@@ -31,8 +31,8 @@ use tree_spec::{Path, Refusal};
 
 /// What a file of another size costs: `new` in place of `old` bytes.
 fn size_need(old: u32, new: u32) -> Need
-    requires old { old ≤ longest_file }
-    requires new { new ≤ longest_file }
+    requires old { old ≤ form_one.longest_file }
+    requires new { new ≤ form_one.longest_file }
     ensures { result ≡ record {
       nodes = 0;
       lost = 0;
@@ -64,7 +64,7 @@ fn reach_file<D: Disk, V: View<D>, F: Form>(
     requires depth { depth ≤ length path.now }
     // Over a lot that recovers a tree, it finds what the tree has.
     ensures found { IfRecovers V.View F.VERSION lot.now view.old disk.old (λ old t _.
-        Finds (IsFile (form_of F.VERSION) (own_in (form_of F.VERSION) old)
+        Finds (IsFile (form_of F.VERSION) (own (form_of F.VERSION) old)
         (drop depth path.now) t at) (reach_refusal (form_of F.VERSION) (drop depth path.now) at t)
         result) }
     // What it answers of any lot, damaged or not.
@@ -76,7 +76,7 @@ fn reach_file<D: Disk, V: View<D>, F: Form>(
     ensures size { IfShown V.View lot.now view.old disk.old (λ old.
         IfOk result (λ file. (inode_of old file.number).size ≡ file.size)) }
     // Damage that it names is there.
-    ensures damaged { NamesBroken V.View F.ENTRY lot.now view.old disk.old result }
+    ensures damaged { NamesBroken V.View (form_of F.VERSION) lot.now view.old disk.old result }
     // Names alone refuse a path before any call of the disk.
     ensures paths { RefusesPaths F.VERSION (drop depth path.now ∷ []) result }
     ensures untouched { Untouched F.VERSION (drop depth path.now ∷ [])
@@ -125,11 +125,11 @@ fn check_write<D: Disk, K: Keep<D>, P: Pool<D, K>, F: Form>(
         (Write (drop depth path.now) at bytes.now)) result) }
     // What it answers of any lot, damaged or not.
     ensures fits { IfOk result (λ number. number < 64 * length lot.now.groups) }
-    ensures short { OnOk result (at + length bytes.now ≤ longest_file) }
+    ensures short { OnOk result (at + length bytes.now ≤ (form_of F.VERSION).longest_file) }
     ensures ready { IfShown K.View lot.now keep.old disk.old (λ old.
-        IfOk result (BytesFit F.ENTRY lot.now old at (at + length bytes.now))) }
+        IfOk result (BytesFit (form_of F.VERSION) lot.now old at (at + length bytes.now))) }
     // Damage that it names is there.
-    ensures damaged { NamesBroken K.View F.ENTRY lot.now keep.old disk.old result }
+    ensures damaged { NamesBroken K.View (form_of F.VERSION) lot.now keep.old disk.old result }
     // Names alone refuse a path before any call of the disk.
     ensures paths { RefusesPaths F.VERSION (drop depth path.now ∷ []) result }
     ensures untouched { UntouchedAll F.VERSION (drop depth path.now ∷ [])
@@ -182,7 +182,7 @@ fn check_trunc<D: Disk, K: Keep<D>, P: Pool<D, K>, F: Form>(
         IfOk result (FileIs (form_of F.VERSION) lot.now old len)) }
     ensures room { IfShown K.View lot.now keep.old disk.old (λ old. OnOk result (CanCount old)) }
     // Damage that it names is there.
-    ensures damaged { NamesBroken K.View F.ENTRY lot.now keep.old disk.old result }
+    ensures damaged { NamesBroken K.View (form_of F.VERSION) lot.now keep.old disk.old result }
     // Names alone refuse a path before any call of the disk.
     ensures paths { RefusesPaths F.VERSION (drop depth path.now ∷ []) result }
     ensures untouched { UntouchedAll F.VERSION (drop depth path.now ∷ [])
@@ -220,7 +220,7 @@ fn put_bytes<D: Disk, K: Keep<D>, P: Pool<D, K>, F: Form>(
     requires number { number < 64 * length lot.now.groups }
     requires room { 49 ≤ K.room keep.old }
     requires few { length bytes.now ≤ most_at_once }
-    requires short { at + length bytes.now ≤ longest_file }
+    requires short { at + length bytes.now ≤ (form_of F.VERSION).longest_file }
     // Where it takes the operation, the lot recovers the changed tree; the disk alone may fail.
     ensures set { (mode k : ℕ) (t : Tree) (p : List (List ℕ))
         → AsShown K.View lot.now keep.old disk.old keep.new disk.new (λ old new.
@@ -233,8 +233,8 @@ fn put_bytes<D: Disk, K: Keep<D>, P: Pool<D, K>, F: Form>(
         → FailsByDisk result) }
     // Damage that it names is there.
     ensures broken { IfShown K.View lot.now keep.old disk.old (λ old.
-        BytesFit F.ENTRY lot.now old at (at + length bytes.now) number
-        → IfErr result (IsBrokenBy F.ENTRY lot.now old)) }
+        BytesFit (form_of F.VERSION) lot.now old at (at + length bytes.now) number
+        → IfErr result (IsBrokenBy (form_of F.VERSION) lot.now old)) }
     // What it spends of the keep, and what stays as it was.
     ensures counted { OnOk result (K.held keep.new sub_address ≡ true) }
     ensures spent { Spent D.Disk K.View lot.now 49 keep.old disk.old keep.new disk.new }
@@ -272,8 +272,8 @@ fn put_cut<D: Disk, K: Keep<D>, P: Pool<D, K>, F: Form>(
         → FailsByDisk result) }
     // Damage that it names is there.
     ensures broken { IfShown K.View lot.now keep.old disk.old (λ old.
-        FileIs F.ENTRY lot.now old len number → CanCount old
-        → IfErr result (IsBrokenBy F.ENTRY lot.now old)) }
+        FileIs (form_of F.VERSION) lot.now old len number → CanCount old
+        → IfErr result (IsBrokenBy (form_of F.VERSION) lot.now old)) }
     // What it spends of the keep, and what stays as it was.
     ensures counted { OnOk result (K.held keep.new sub_address ≡ true) }
     ensures spent { Spent D.Disk K.View lot.now 73 keep.old disk.old keep.new disk.new }
@@ -309,7 +309,7 @@ pub fn write<D: Disk, K: Keep<D>, P: Pool<D, K>, F: Form>(
     ensures changed { ChangesAs K.View F.VERSION lot.now keep.old disk.old keep.new disk.new
         (Write (drop depth path.now) at bytes.now) result }
     // Damage that it names is there.
-    ensures damaged { NamesBroken K.View F.ENTRY lot.now keep.old disk.old result }
+    ensures damaged { NamesBroken K.View (form_of F.VERSION) lot.now keep.old disk.old result }
     // Names alone refuse a path before any call of the disk.
     ensures paths { RefusesPaths F.VERSION (drop depth path.now ∷ []) result }
     ensures untouched { UntouchedAll F.VERSION (drop depth path.now ∷ [])
@@ -353,7 +353,7 @@ pub fn trunc<D: Disk, K: Keep<D>, P: Pool<D, K>, F: Form>(
     ensures changed { ChangesAs K.View F.VERSION lot.now keep.old disk.old keep.new disk.new
         (Trunc (drop depth path.now) len) result }
     // Damage that it names is there.
-    ensures damaged { NamesBroken K.View F.ENTRY lot.now keep.old disk.old result }
+    ensures damaged { NamesBroken K.View (form_of F.VERSION) lot.now keep.old disk.old result }
     // Names alone refuse a path before any call of the disk.
     ensures paths { RefusesPaths F.VERSION (drop depth path.now ∷ []) result }
     ensures untouched { UntouchedAll F.VERSION (drop depth path.now ∷ [])

@@ -113,8 +113,8 @@ has_higher-loop-k-preserved g t c = record {
       let is = subst (λ (n : Map). PlaceIs n c.in_ok-place.place) (sym (then.map ∙ inv.looked.map)) child.is in
       let by = subst (λ (n : Map). PlaceReached (form_of g.F.Form.VERSION) lot n c.in_ok-place.place) (sym (then.map ∙ inv.looked.map)) child.reached in
       let shown = then.shows (inv.looked.shows s) in
-      row-pays g.F.Form.ENTRY m lot c.args.levels c.args.number c.loop-k.k c.args.budget.now c.in_ok-place.place child c.loop-k.budget (inv.pays s reached dir size) c.is_higher.new.budget
-      (subst (λ (n : Map). c.loop-k.budget ≤ c.is_higher.new.budget + count_within_place g.F.Form.ENTRY n c.args.levels c.in_ok-place.place) (then.map ∙ inv.looked.map)
+      row-pays (form_of g.F.Form.VERSION) m lot c.args.levels c.args.number c.loop-k.k c.args.budget.now c.in_ok-place.place child c.loop-k.budget (inv.pays s reached dir size) c.is_higher.new.budget
+      (subst (λ (n : Map). c.loop-k.budget ≤ c.is_higher.new.budget + count_within_place (form_of g.F.Form.VERSION) n c.args.levels c.in_ok-place.place) (then.map ∙ inv.looked.map)
       (c.in_ok-higher.ensures.pays shown is by c.if-higher.false));
   low = λ h es s r is fits.
       let f = form_of g.F.Form.VERSION in
@@ -194,8 +194,8 @@ has_higher-returns-in_err-higher-clause-broken g t c = λ s reached dir size.
     let by = subst (λ (n : Map). PlaceReached (form_of g.F.Form.VERSION) lot n c.in_ok-place.place) (sym (then.map ∙ inv.looked.map)) child.reached in
     let shown = then.shows (inv.looked.shows s) in
     rw (p.1, p.2)
-    (row-fault g.F.Form.ENTRY m lot c.args.levels c.args.number c.loop-k.k c.args.budget.now c.in_ok-place.place child c.loop-k.budget (inv.pays s reached dir size) dir.kind c.in_err-higher.field-0.0
-    (subst (λ (n : Map). IsBrokenBy g.F.Form.ENTRY lot n c.in_err-higher.field-0.0 ⊎ ((c.in_err-higher.field-0.0 ≡ Damaged InodeTwice) × (c.loop-k.budget < count_within_place g.F.Form.ENTRY n c.args.levels c.in_ok-place.place))) (then.map ∙ inv.looked.map)
+    (row-fault (form_of g.F.Form.VERSION) m lot c.args.levels c.args.number c.loop-k.k c.args.budget.now c.in_ok-place.place child c.loop-k.budget (inv.pays s reached dir size) dir.kind c.in_err-higher.field-0.0
+    (subst (λ (n : Map). IsBrokenBy (form_of g.F.Form.VERSION) lot n c.in_err-higher.field-0.0 ⊎ ((c.in_err-higher.field-0.0 ≡ Damaged InodeTwice) × (c.loop-k.budget < count_within_place (form_of g.F.Form.VERSION) n c.args.levels c.in_ok-place.place))) (then.map ∙ inv.looked.map)
     (c.in_err-higher.ensures.broken shown is by)))
 
 pub has_higher-returns-clause-pays : goal.has_higher-returns-clause-pays
@@ -203,7 +203,7 @@ has_higher-returns-clause-pays g t c = λ s reached dir size e.
     let m = g.V.View.map c.args.view.now c.args.disk.now c.args.lot.now in
     omega (
       arith,
-      within-dir g.F.Form.ENTRY m c.args.levels c.args.number dir.kind,
+      within-dir (form_of g.F.Form.VERSION) m c.args.levels c.args.number dir.kind,
       c.loop-k.invariant.pays s reached dir size,
       rows-whole (form_of g.F.Form.VERSION) m c.args.levels c.args.number c.loop-k.k (omega (arith, length-rows (form_of g.F.Form.VERSION) m c.args.number (ap form_of g.F.Form.is_one.0), size, c.loop-k-test.false)),
     )

@@ -33,12 +33,12 @@ returns-in-Err-add_entries-clause-answers g c = λ mode k t s recovers.
     let names = drop c.args.depth c.args.path.now in
     let x = c.in-Ok.ensures.found mode k t s recovers in
     let looked = c.dir_at.ensures.looked in
-    let r : Reads f c.args.lot.now (own_in f m) c.in-Ok.dir.number (0 + length names) (Dir x.inside) =
-    subst (λ j. Reads f c.args.lot.now (own_in f m) j (0 + length names) (Dir x.inside)) (sym x.number) (Reads-part f c.args.lot.now (own_in f m) names 0 0 t (Dir x.inside) x.there recovers.holds.reads) in
+    let r : Reads f c.args.lot.now (own f m) c.in-Ok.dir.number (0 + length names) (Dir x.inside) =
+    subst (λ j. Reads f c.args.lot.now (own f m) j (0 + length names) (Dir x.inside)) (sym x.number) (Reads-part f c.args.lot.now (own f m) names 0 0 t (Dir x.inside) x.there recovers.holds.reads) in
     fault_model _ c.in-Err-add_entries.fault _ c.refusal_of.ensures
-    (c.in-Err-add_entries.ensures.sound (0 + length names) x.inside (looked.shows s) (subst (λ (m : ℕ → List ℕ). Reads f c.args.lot.now (own_in f m) c.in-Ok.dir.number (0 + length names) (Dir x.inside)) (sym looked.map) r) x.count
-    (subst (λ (m : ℕ → List ℕ). IsReached g.F.Form.ENTRY c.args.lot.now m c.in-Ok.dir.number) (sym looked.map) (c.in-Ok.ensures.reached s))
-    (λ b. no-bad-entry f (ap form_of g.F.Form.is_one.0) g.F.Form.ENTRY g.F.Form.is_one.1 mode c.args.lot.now m t k recovers (subst (BadEntry g.F.Form.ENTRY c.args.lot.now) looked.map b)))
+    (c.in-Err-add_entries.ensures.sound (0 + length names) x.inside (looked.shows s) (subst (λ (m : ℕ → List ℕ). Reads f c.args.lot.now (own f m) c.in-Ok.dir.number (0 + length names) (Dir x.inside)) (sym looked.map) r) x.count
+    (subst (λ (m : ℕ → List ℕ). IsReached (form_of g.F.Form.VERSION) c.args.lot.now m c.in-Ok.dir.number) (sym looked.map) (c.in-Ok.ensures.reached s))
+    (λ b. no-bad-entry f (ap form_of g.F.Form.is_one.0) (form_of g.F.Form.VERSION) (ap form_of g.F.Form.is_one.0) mode c.args.lot.now m t k recovers (subst (BadEntry (form_of g.F.Form.VERSION) c.args.lot.now) looked.map b)))
 
 pub returns-in-Ok-add_entries-clause-answers : goal.returns-in-Ok-add_entries-clause-answers
 returns-in-Ok-add_entries-clause-answers g c = λ mode k t s recovers.
@@ -47,15 +47,15 @@ returns-in-Ok-add_entries-clause-answers g c = λ mode k t s recovers.
     let names = drop c.args.depth c.args.path.now in
     let x = c.in-Ok.ensures.found mode k t s recovers in
     let looked = c.dir_at.ensures.looked in
-    let r : Reads f c.args.lot.now (own_in f m) c.in-Ok.dir.number (0 + length names) (Dir x.inside) =
-    subst (λ j. Reads f c.args.lot.now (own_in f m) j (0 + length names) (Dir x.inside)) (sym x.number) (Reads-part f c.args.lot.now (own_in f m) names 0 0 t (Dir x.inside) x.there recovers.holds.reads) in
-    let there = c.in-Ok-add_entries.ensures.listed (0 + length names) x.inside (looked.shows s) (subst (λ (m : ℕ → List ℕ). Reads f c.args.lot.now (own_in f m) c.in-Ok.dir.number (0 + length names) (Dir x.inside)) (sym looked.map) r) x.count
-    (subst (λ (m : ℕ → List ℕ). IsReached g.F.Form.ENTRY c.args.lot.now m c.in-Ok.dir.number) (sym looked.map) (c.in-Ok.ensures.reached s))
-    (λ b. no-bad-entry f (ap form_of g.F.Form.is_one.0) g.F.Form.ENTRY g.F.Form.is_one.1 mode c.args.lot.now m t k recovers (subst (BadEntry g.F.Form.ENTRY c.args.lot.now) looked.map b)) in
-    let here : c.add_entries.new.room.entries ≡ map (listed_as x.inside) (rows_in f (own_in f m c.in-Ok.dir.number)) = there ∙ ap (λ (m : ℕ → List ℕ). map (listed_as x.inside) (rows_in f (own_in f m c.in-Ok.dir.number))) looked.map in
+    let r : Reads f c.args.lot.now (own f m) c.in-Ok.dir.number (0 + length names) (Dir x.inside) =
+    subst (λ j. Reads f c.args.lot.now (own f m) j (0 + length names) (Dir x.inside)) (sym x.number) (Reads-part f c.args.lot.now (own f m) names 0 0 t (Dir x.inside) x.there recovers.holds.reads) in
+    let there = c.in-Ok-add_entries.ensures.listed (0 + length names) x.inside (looked.shows s) (subst (λ (m : ℕ → List ℕ). Reads f c.args.lot.now (own f m) c.in-Ok.dir.number (0 + length names) (Dir x.inside)) (sym looked.map) r) x.count
+    (subst (λ (m : ℕ → List ℕ). IsReached (form_of g.F.Form.VERSION) c.args.lot.now m c.in-Ok.dir.number) (sym looked.map) (c.in-Ok.ensures.reached s))
+    (λ b. no-bad-entry f (ap form_of g.F.Form.is_one.0) (form_of g.F.Form.VERSION) (ap form_of g.F.Form.is_one.0) mode c.args.lot.now m t k recovers (subst (BadEntry (form_of g.F.Form.VERSION) c.args.lot.now) looked.map b)) in
+    let here : c.add_entries.new.room.entries ≡ map (listed_as x.inside) (rows_in f (own f m c.in-Ok.dir.number)) = there ∙ ap (λ (m : ℕ → List ℕ). map (listed_as x.inside) (rows_in f (own f m c.in-Ok.dir.number))) looked.map in
     ap (λ v. Ok (accepted_of v c.in_order.new.room)) c.in_order.ensures.number
     ∙ list-value t k (length c.args.lot.now.groups) f names c.in_default.ensures.refusal x.inside x.there c.in_order.new.room.entries c.in_order.new.room.rows
-    (sorted-listing x.inside (rows_in f (own_in f m c.in-Ok.dir.number)) c.in_order.new.room.entries r.1.sorted r.1.differ r.1.maps (subst (λ es. IsPermutation es c.in_order.new.room.entries) here c.in_order.ensures.permutation) c.in_order.ensures.sorted)
+    (sorted-listing x.inside (rows_in f (own f m c.in-Ok.dir.number)) c.in_order.new.room.entries r.1.sorted r.1.differ r.1.maps (subst (λ es. IsPermutation es c.in_order.new.room.entries) here c.in_order.ensures.permutation) c.in_order.ensures.sorted)
     c.in_order.ensures.rows
 
 pub returns-in-Ok-add_entries-clause-tallies : goal.returns-in-Ok-add_entries-clause-tallies
