@@ -7,7 +7,7 @@ use Rattle.ice_base.specs.declared.fault.OpFault.TheVariants.{Disk}
 use Rattle.ice_base.specs.declared.fault.Rule.{Rule}
 use Rattle.ice_base.specs.declared.view.View as view
 use Rattle.tree_spec.specs.Answers.{answer}
-use Rattle.tree_spec.specs.Costs.{form_of}
+use Rattle.tree_spec.specs.Costs.{form_of, Form}
 use Rattle.tree_spec.specs.Operations.{Operation}
 use Rattle.tree_spec.specs.Replies.{Response, refused_of}
 use Rattle.tree_spec.specs.Trees.{Tree}
@@ -71,5 +71,5 @@ abbrev pub Untouched : {V D : Type 0} → ℕ → List (List (List ℕ)) → V �
 Untouched version paths v e w f = (r : Why) → paths_refusal (form_of version) paths ≡ Some r → (f ≡ e) × (w ≡ v)
 
 -- a rule that the refusal names as damaged is one that the lot breaks
-abbrev pub NamesBroken : {A V D : Type 0} → view.Ghosts V D → ℕ → LotView → V → D → Result A Refusal → Type 0
+abbrev pub NamesBroken : {A V D : Type 0} → view.Ghosts V D → Form → LotView → V → D → Result A Refusal → Type 0
 NamesBroken view form lot v e result = (n : ℕ) → IsErrOf result (Damaged n) → IfShown view lot v e (λ old. (r : Rule) × (n ≡ rule_number r) × IsBroken form lot old r)
