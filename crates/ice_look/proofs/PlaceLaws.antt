@@ -102,7 +102,7 @@ module _ (f : Form) (one : f ≡ form_one) (lot : LotView) (m : Map) (i h : ℕ)
       places-lead lot m (inode_of m i) (map_length form_one (inode_of m i)) n (places-own t r) (omega (arith, long, b, s, small))
 
   -- a directory's place
-  pub dir-is : (t : Tree) (number size : ℕ) → Dir number size ≡ place_by i (Found t) → (es : Entries) × (t ≡ tree.Dir es) × (number ≡ i)
+  dir-is : (t : Tree) (number size : ℕ) → Dir number size ≡ place_by i (Found t) → (es : Entries) × (t ≡ tree.Dir es) × (number ≡ i)
   dir-is (tree.File bytes) number size is = absurd (no is)
     where
       no : Dir number size ≡ File i (length bytes) → ⊥
