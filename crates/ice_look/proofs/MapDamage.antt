@@ -22,11 +22,11 @@ use Rattle.ice_base.specs.declared.fault.Rule.TheVariants.{Kind, Pointer}
 
 -- how many blocks the map of a directory has
 pub map-dir : (form : Form) (inode : Inode) → inode.kind ≡ 2 → map_length form inode ≡ dir_blocks form inode.size
-map-dir form inode kind = ap (λ k. blocks_for (cond (k == 2) (form * inode.size) inode.size)) kind
+map-dir form inode kind = ap (λ k. blocks_for (cond (k == 2) (entry_size form * inode.size) inode.size)) kind
 
 -- how many blocks that of a file has
 pub map-file : (form : Form) (inode : Inode) → inode.kind ≡ 1 → map_length form inode ≡ blocks_for inode.size
-map-file form inode kind = ap (λ k. blocks_for (cond (k == 2) (form * inode.size) inode.size)) kind
+map-file form inode kind = ap (λ k. blocks_for (cond (k == 2) (entry_size form * inode.size) inode.size)) kind
 
 -- what is damaged at an inode whose map has c blocks
 module _ (form : Form) (lot : LotView) (m : Map) (number c : ℕ) (reached : IsReached form lot m number) (node : IsNode lot (inode_of m number)) (long : map_length form (inode_of m number) ≡ c) where

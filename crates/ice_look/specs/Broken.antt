@@ -20,12 +20,12 @@ use Rattle.tree_spec.specs.Costs.{Form}
 use Rattle.ice_look.specs.declared.place.Place.TheVariants.{Dir}
 
 -- to how many files and directories at most so many names lead from an inode, itself among them
-abbrev pub count_within : ℕ → (ℕ → List ℕ) → ℕ → ℕ → ℕ
+abbrev pub count_within : Form → (ℕ → List ℕ) → ℕ → ℕ → ℕ
 count_within form m zero number = 1
 count_within form m (suc levels) number = cond ((inode_of m number).kind == 2) (1 + sum_by (λ (row : Row). count_within form m levels row.1) (rows_of form m number)) 1
 
 -- the same from a place
-abbrev pub count_within_place : ℕ → (ℕ → List ℕ) → ℕ → Place → ℕ
+abbrev pub count_within_place : Form → (ℕ → List ℕ) → ℕ → Place → ℕ
 count_within_place form m levels (Dir number size) = count_within form m levels number
 count_within_place form m levels _ = 1
 
