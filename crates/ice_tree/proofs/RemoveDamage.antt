@@ -20,7 +20,7 @@ use Rattle.ice_look.specs.Broken.{IsFaultBy}
 use Rattle.ice_tree.specs.Removes.{free_inode, Freed, RemovalIs, LooseBroken}
 use Rattle.ice_file.specs.Files.{ReachesTo}
 use Rattle.ice_dir.specs.Changes.{EntryGone}
-use Rattle.tree_spec.specs.Costs.{Form}
+use Rattle.tree_spec.specs.Costs.{Form, form_one}
 use Rattle.ice_tree.specs.declared.removes.Removal.{Removal}
 
 -- what was found holds after a look too
@@ -61,9 +61,9 @@ freed-counted m1 m2 number done set free =
     }
 
 -- a file that was there before its entry was taken is there after it
-pub file-stays : (form : Form) (lot : LotView) (m0 m1 : ℕ → List ℕ) (name : List ℕ) (gone : Removal) → RemovalIs form lot m0 name gone → EntryGone lot form m0 m1 gone.spot.number → 0 < gone.bytes → ReachesTo 0 (inode_of m1 gone.number)
+pub file-stays : (form : Form) (lot : LotView) (m0 m1 : ℕ → List ℕ) (name : List ℕ) (gone : Removal) → RemovalIs form lot m0 name gone → EntryGone lot form m0 m1 gone.spot.number → 0 < gone.bytes → ReachesTo form_one 0 (inode_of m1 gone.number)
 file-stays form lot m0 m1 name gone is took pos =
     let file = is.file pos in
     let dir = is.spot_is.dir in
     let other : gone.number ≢ gone.spot.number = λ e. let k = ap (λ i. (inode_of m0 i).kind) e in let f = file.kind in let d = dir.kind in absurd (omega arith) in
-    subst (ReachesTo form 0) (sym (took.others gone.number other)) file
+    subst (ReachesTo form_one 0) (sym (took.others gone.number other)) file

@@ -74,7 +74,7 @@ pub record RemovalIs (form : Form) (lot : LotView) (m : ℕ → List ℕ) (name 
   pub spot_is : DirIs form lot m gone.spot
   pub named : look_up name (rows_of form m gone.spot.number) ≡ Some gone.number
   pub reached : IsReached form lot m gone.number
-  pub file : 0 < gone.bytes → ReachesTo 0 (inode_of m gone.number)
+  pub file : 0 < gone.bytes → ReachesTo form_one 0 (inode_of m gone.number)
 
 -- what is damaged of a file or an empty directory at an inode, whether or not a directory names it, by the rule on counts, pointers or bitmaps
 abbrev pub LooseBroken : LotView → (ℕ → List ℕ) → ℕ → Rule → Type 0

@@ -8,7 +8,7 @@ ghost use Rattle.ice_base.specs.declared.fault.OpFault.TheVariants.{Disk as Faul
 ghost use Rattle.ice_map.specs.Inodes.{inode_of};
 ghost use Rattle.ice_file.specs.Files.{ReachesTo};
 ghost use Rattle.tree_spec.specs.Answers.{answer, next, is_root};
-ghost use Rattle.tree_spec.specs.Costs.{Form as CubeForm, form_of};
+ghost use Rattle.tree_spec.specs.Costs.{Form as CubeForm, form_one, form_of};
 ghost use Rattle.tree_spec.specs.Operations.{Remove};
 ghost use Rattle.tree_spec.specs.Trees.{Tree, last_name};
 ghost use Rattle.tree_spec.specs.declared.reply.Refusal.TheVariants.{NotDir, Fault, Damaged};
@@ -239,7 +239,7 @@ fn drop_bytes<D: Disk, K: Keep<D>, P: Pool<D, K>, F: Form>(
         StandsLoose (form_of F.VERSION) mode lot.now old t k number bytes → FailsByDisk result) }
     // Damage that it names is there.
     ensures broken { IfShown K.View lot.now keep.old disk.old (λ old.
-        (0 < bytes → ReachesTo (form_of F.VERSION) 0 (inode_of old number))
+        (0 < bytes → ReachesTo form_one 0 (inode_of old number))
         → IfErr result (IsFaultBy (LooseBroken lot.now old number))) }
     // What it spends of the keep, and what stays as it was.
     ensures spent { Spent D.Disk K.View lot.now 72 keep.old disk.old keep.new disk.new }
@@ -297,7 +297,7 @@ fn clear<D: Disk, K: Keep<D>, P: Pool<D, K>, F: Form>(
         OnOk result (Freed new number)) }
     // Damage that it names is there.
     ensures broken { IfShown K.View lot.now keep.old disk.old (λ old.
-        (0 < bytes → ReachesTo (form_of F.VERSION) 0 (inode_of old number))
+        (0 < bytes → ReachesTo form_one 0 (inode_of old number))
         → IfErr result (IsFaultBy (LooseBroken lot.now old number))) }
     // What it spends of the keep, and what stays as it was.
     ensures spent { Spent D.Disk K.View lot.now 75 keep.old disk.old keep.new disk.new }
