@@ -3,7 +3,7 @@ ghost use Rattle.std.specs.Prelude.{◌≡◌, ◌≤◌, ◌<◌, ◌*◌, ℕ,
 ghost use Rattle.ice_base.specs.Disk.{Rose};
 ghost use Rattle.ice_base.specs.Lots.{is_sited};
 ghost use Rattle.ice_base.specs.Views.{Looked, IfShown};
-ghost use Rattle.tree_spec.specs.Held.{most_bytes};
+ghost use Rattle.tree_spec.specs.Held.{Held, most_bytes};
 ghost use Rattle.tree_spec.specs.Answers.{answer};
 ghost use Rattle.tree_spec.specs.Costs.{form_of, form_one};
 ghost use Rattle.tree_spec.specs.Operations.{Read, Stat};
