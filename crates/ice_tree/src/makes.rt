@@ -5,7 +5,7 @@ ghost use Rattle.ice_base.specs.Lots.{LotView, is_sited, sub_address};
 ghost use Rattle.ice_base.specs.Views.{Looked, Spent, AsShown, IfShown};
 ghost use Rattle.ice_base.specs.declared.fault.OpFault.TheVariants.{Disk as FaultDisk};
 ghost use Rattle.tree_spec.specs.Answers.{answer, next, refusal, is_root};
-ghost use Rattle.tree_spec.specs.Costs.{Form as CubeForm, form_of};
+ghost use Rattle.tree_spec.specs.Costs.{Form, form_of};
 ghost use Rattle.tree_spec.specs.Operations.{Mkdir, Make};
 ghost use Rattle.tree_spec.specs.Trees.{Tree, parent};
 ghost use Rattle.tree_spec.specs.declared.reply.Refusal.TheVariants.{Fault, Damaged, NotFound, NotDir, IsRoot, Exists};
@@ -37,7 +37,7 @@ fn new_spot(ends: &Ends, root: bool) -> Result<DirAt, Refusal>
     // What it answers of any lot, damaged or not.
     ensures fits { (lot : LotView) → EndsFit lot ends.now → IfOk result (DirFits lot) }
     ensures below { OnOk result (root ≡ false) }
-    ensures is { (form : CubeForm) (lot : LotView) (m : ℕ → List ℕ) → EndsAre form lot m ends.now
+    ensures is { (form : Form) (lot : LotView) (m : ℕ → List ℕ) → EndsAre form lot m ends.now
         → EndsFit lot ends.now → IfOk result (DirIs form lot m) }
     // Which refusals there are, and when a fault comes.
     ensures set { IfErr result (λ r. (r ≡ NotFound) ⊎ (r ≡ NotDir) ⊎ (r ≡ IsRoot) ⊎ (r ≡ Exists)) }

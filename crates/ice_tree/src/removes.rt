@@ -8,7 +8,7 @@ ghost use Rattle.ice_base.specs.declared.fault.OpFault.TheVariants.{Disk as Faul
 ghost use Rattle.ice_map.specs.Inodes.{inode_of};
 ghost use Rattle.ice_file.specs.Files.{ReachesTo};
 ghost use Rattle.tree_spec.specs.Answers.{answer, next, is_root};
-ghost use Rattle.tree_spec.specs.Costs.{Form as CubeForm, form_one, form_of};
+ghost use Rattle.tree_spec.specs.Costs.{Form, form_one, form_of};
 ghost use Rattle.tree_spec.specs.Operations.{Remove};
 ghost use Rattle.tree_spec.specs.Trees.{Tree, last_name};
 ghost use Rattle.tree_spec.specs.declared.reply.Refusal.TheVariants.{NotDir, Fault, Damaged};
@@ -73,7 +73,7 @@ fn removal_of(ends: &Ends) -> Result<Removal, Refusal>
         → IsEnds f o p t ends.now → Accepts (IsRemoval f o p t) (removal_refusal p t) result }
     // What it answers of any lot, damaged or not.
     ensures fits { (lot : LotView) → EndsFit lot ends.now → IfOk result (RemovalFits lot) }
-    ensures is { (form : CubeForm) (lot : LotView) (m : ℕ → List ℕ) (name : List ℕ)
+    ensures is { (form : Form) (lot : LotView) (m : ℕ → List ℕ) (name : List ℕ)
         → EndsAre form lot m ends.now → EndsFit lot ends.now
         → PlaceNamed form m ends.now.parent name ends.now.end
         → IfOk result (RemovalIs form lot m name) }

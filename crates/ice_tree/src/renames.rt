@@ -6,7 +6,7 @@ ghost use Rattle.ice_base.specs.Views.{Looked, Spent, IfShown};
 ghost use Rattle.ice_base.specs.declared.fault.OpFault.TheVariants.{Disk as FaultDisk};
 ghost use Rattle.ice_base.specs.declared.fault.Rule.{Rule};
 ghost use Rattle.tree_spec.specs.Answers.{answer, refusal, next, is_root, is_found, is_not_found, is_not_dir, deepest};
-ghost use Rattle.tree_spec.specs.Costs.{Form as CubeForm, form_of, map_cost, dir_blocks};
+ghost use Rattle.tree_spec.specs.Costs.{Form, form_of, map_cost, dir_blocks};
 ghost use Rattle.tree_spec.specs.Operations.{Rename};
 ghost use Rattle.tree_spec.specs.Routes.{is_prefix, is_same_name, is_same_path};
 ghost use Rattle.tree_spec.specs.Trees.{last_name, Tree, Walk, needs_dir};
@@ -243,7 +243,7 @@ fn move_of(from: &Ends, into: &Ends, same: bool) -> Result<Move, Refusal>
     // What it answers of any lot, damaged or not.
     ensures fits { (lot : LotView) → EndsFit lot from.now → EndsFit lot into.now
         → IfOk result (MoveFits lot) }
-    ensures is { (form : CubeForm) (lot : LotView) (m : ℕ → List ℕ) (name : List ℕ)
+    ensures is { (form : Form) (lot : LotView) (m : ℕ → List ℕ) (name : List ℕ)
         → EndsAre form lot m from.now → EndsAre form lot m into.now → EndsFit lot from.now
         → EndsFit lot into.now → PlaceNamed form m from.now.parent name from.now.end
         → is_place from.now.end ≡ true → is_dir_place into.now.parent ≡ true
