@@ -26,8 +26,8 @@ use crate::counts::count_up;
 use crate::quota::{Need, check_quota, file_cost};
 use ice_base::{Disk, Form, Keep, Lot, OpFault, Pool, View};
 use ice_file::{cut_to, write_at};
-use ice_map::longest_file;
 use ice_look::{FileAt, check_path, file_at, refusal_of};
+use ice_map::longest_file;
 use tree_spec::{Path, Refusal};
 
 /// What a file of another size costs: `new` in place of `old` bytes.

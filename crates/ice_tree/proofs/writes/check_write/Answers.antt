@@ -43,7 +43,7 @@ returns-in-Ok-check_quota-clause-file g c = λ mode k t s r.
     let later = recovers-same f mode c.args.lot.now (g.K.View.map c.args.keep.now c.args.disk.now c.args.lot.now) (g.K.View.map c.reach_file.new.view c.reach_file.new.disk c.args.lot.now) t k c.reach_file.ensures.looked.map r in
     let needs = write-needs f p t file.bytes c.args.at c.args.bytes.now file.there file.reaches c.in-Ok.file.size c.max.result c.size_need-need.result file.size (omega arith) c.size_need-need.ensures in (
       write-stages t k n f p c.args.at c.args.bytes.now ∙ none-both (reach_refusal f p c.args.at t) (or_else (big f c.args.at c.args.bytes.now) (quota_refusal n f k (next (Write p c.args.at c.args.bytes.now) t))) (reach-none f p c.args.at t names file.bytes file.there file.reaches)
-          (none-both (big f c.args.at c.args.bytes.now) (quota_refusal n f k (next (Write p c.args.at c.args.bytes.now) t)) (not-big f c.args.at (c.args.at + length c.args.bytes.now) 274432 c.args.bytes.now (ap form_of g.F.Form.is_one.0) refl refl c.if-end-gt-LONGEST_FILE.false) (c.in-Ok-check_quota.ensures.quota mode k t (next (Write p c.args.at c.args.bytes.now) t) (c.reach_file.ensures.looked.shows s) later needs)),
+          (none-both (big f c.args.at c.args.bytes.now) (quota_refusal n f k (next (Write p c.args.at c.args.bytes.now) t)) (not-big f c.args.at (c.args.at + length c.args.bytes.now) c.longest_file-longest.result c.args.bytes.now (ap form_of g.F.Form.is_one.0) c.longest_file-longest.ensures.one refl c.if-end-longest.false) (c.in-Ok-check_quota.ensures.quota mode k t (next (Write p c.args.at c.args.bytes.now) t) (c.reach_file.ensures.looked.shows s) later needs)),
       file.number,
     )
 
