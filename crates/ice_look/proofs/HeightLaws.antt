@@ -36,7 +36,7 @@ use Rattle.ice_base.specs.declared.fault.OpFault.{OpFault}
 use Rattle.ice_base.specs.declared.fault.OpFault.TheVariants.{Disk, Damaged}
 use Rattle.ice_base.specs.declared.fault.Rule.TheVariants.{Kind, Pointer, Name}
 use Rattle.ice_dir.specs.Faults.{IsEntryFault}
-use Rattle.tree_spec.specs.Trees.{Tree, Entries, Nil, Entry, rows, by_bytes, child, found_or_not, Walk, Found, NotFound, without, height, height_in, total_in}
+use Rattle.tree_spec.specs.Trees.{Tree, Entries, Nil, Entry, rows, by_bytes, found_or_not, Found, without, height, height_in, total_in}
 use Rattle.tree_spec.specs.Trees as tree
 use Rattle.tree_spec.proofs.Trees.{same_name, is_same_name-refl, is_same_name-sym, find-without}
 use Rattle.tree_spec.proofs.Sums.{no_later, height-child}
@@ -254,9 +254,6 @@ module _ (f : Form) (lot : LotView) (o : Table) (i h k : ℕ) (es : Entries) (r 
   pub child-spent : (first now later : ℕ) → first + sum_by (many es) (drop k (rows_in f (o i))) ≤ now + sum_by (many es) (rows_in f (o i)) → now ≤ later + nodes c.tree
       → first + sum_by (many es) (drop (k + 1) (rows_in f (o i))) ≤ later + sum_by (many es) (rows_in f (o i))
   child-spent first now later spent step = let e = child-sum in omega arith
-
-  pub child-left : (first now : ℕ) → first + sum_by (many es) (drop k (rows_in f (o i))) ≤ now + sum_by (many es) (rows_in f (o i)) → first + 1 ≤ now + nodes (tree.Dir es)
-  child-left first now spent = let s = fits-rows f lot o i h es r in omega arith
 
   pub child-low : (n : ℕ) → All (λ (row : Row). high es row ≤ n + 1) (take k (rows_in f (o i))) → nat_lt n (height c.tree) ≡ false → All (λ (row : Row). high es row ≤ n + 1) (take (k + 1) (rows_in f (o i)))
   child-low n low is =

@@ -6,7 +6,7 @@ mod BrokenLaws
 pub mod LookLaws
 mod HeightLaws
 mod ListLaws
-mod SpreadLaws
+mod WithinLaws
 pub mod FaultLaws
 pub mod MapDamage
 pub mod SoundLaws

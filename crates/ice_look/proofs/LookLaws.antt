@@ -36,9 +36,11 @@ use Rattle.ice_look.specs.declared.place.Place.TheVariants.{File, Dir, Missing, 
 
 -- ---- the walk that ends at a place
 
+-- a walk to inode i found a file, and n and s are that inode and its bytes
 abbrev pub EndsAtFile : ℕ → ℕ → ℕ → Walk → Type 0
 EndsAtFile i n s w = (bytes : List ℕ) × (w ≡ Found (tree.File bytes)) × (n ≡ i) × (s ≡ length bytes)
 
+-- the place of a file is where a walk found one
 pub ends_file : (i n s : ℕ) (w : Walk) → File n s ≡ place_by i w → EndsAtFile i n s w
 ends_file i n s (Found (tree.File bytes)) is = (bytes, refl, number is, size is)
   where
@@ -60,9 +62,11 @@ ends_file i n s NotDir is = absurd (no is)
     no : File n s ≡ Blocked → ⊥
     no is = cc
 
+-- a walk to inode i found a directory, and n and s are that inode and its entries
 abbrev pub EndsAtDir : ℕ → ℕ → ℕ → Walk → Type 0
 EndsAtDir i n s w = (es : Entries) × (w ≡ Found (tree.Dir es)) × (n ≡ i) × (s ≡ length (rows es))
 
+-- that of a directory is where a walk found one
 pub ends_dir : (i n s : ℕ) (w : Walk) → Dir n s ≡ place_by i w → EndsAtDir i n s w
 ends_dir i n s (Found (tree.Dir es)) is = (es, refl, number is, size is)
   where
@@ -84,6 +88,7 @@ ends_dir i n s NotDir is = absurd (no is)
     no : Dir n s ≡ Blocked → ⊥
     no is = cc
 
+-- nothing is there where a walk found nothing
 pub ends_missing : (i : ℕ) (w : Walk) → Missing ≡ place_by i w → w ≡ NotFound
 ends_missing i (Found (tree.File bytes)) is = absurd (no is)
   where
@@ -99,6 +104,7 @@ ends_missing i NotDir is = absurd (no is)
     no : Missing ≡ Blocked → ⊥
     no is = cc
 
+-- and the way is blocked where a walk met a file with a name left
 pub ends_blocked : (i : ℕ) (w : Walk) → Blocked ≡ place_by i w → w ≡ NotDir
 ends_blocked i (Found (tree.File bytes)) is = absurd (no is)
   where
@@ -124,6 +130,7 @@ whole_path f o path depth end t p q all same is = sym same ∙ is ∙ ap (λ nam
 pub fault_as : (r : Refusal) (e : OpFault) (found : Option Why) → r ≡ refusal_by e → e ≡ Disk → RefusedAs (refused_of r) found
 fault_as r e found is disk = subst (λ x. RefusedAs (refused_of x) found) (sym (is ∙ ap refusal_by disk)) tt
 
+-- and any reply
 pub fault_model : (r : Refusal) (e : OpFault) (model : Response) → r ≡ refusal_by e → e ≡ Disk → AsModel (Err (refused_of r)) model
 fault_model r e model is disk = subst (λ x. AsModel (Err (refused_of x)) model) (sym (is ∙ ap refusal_by disk)) tt
 
@@ -134,6 +141,7 @@ module _ (t : Tree) (k n : ℕ) (f : Form) (op : Operation) where
   as_model Memory found is first = absurd is
   as_model (Because w) found is first = sym (ap (λ x. (answer_by x op t).0) (first w is))
 
+  -- what no stage refuses is accepted with the model's value
   pub as_accepted : refusal t k n f op ≡ None → Ok (accepted_value op t) ≡ (answer t k n f op).0
   as_accepted h = sym (ap (λ x. (answer_by x op t).0) h)
 
@@ -141,6 +149,7 @@ module _ (t : Tree) (k n : ℕ) (f : Form) (op : Operation) where
 pub first_stage : (a b : Option Why) (w : Why) → a ≡ Some w → or_else a b ≡ Some w
 first_stage a b w h = ap (λ x. or_else x b) h
 
+-- where the first stage refuses nothing, the second decides
 pub later_stage : (a b : Option Why) → a ≡ None → or_else a b ≡ b
 later_stage a b h = ap (λ x. or_else x b) h
 

@@ -20,27 +20,32 @@ use Rattle.ice_base.specs.declared.fault.OpFault.TheVariants.{Disk, Damaged}
 use Rattle.tree_spec.specs.Costs.{Form, form_one}
 use Rattle.ice_base.specs.declared.fault.Rule.TheVariants.{Kind, Pointer}
 
--- how many blocks the map of a directory has, and that of a file
+-- how many blocks the map of a directory has
 pub map-dir : (form : Form) (inode : Inode) → inode.kind ≡ 2 → map_length form inode ≡ dir_blocks form inode.size
 map-dir form inode kind = ap (λ k. blocks_for (cond (k == 2) (entry_size form * inode.size) inode.size)) kind
 
+-- how many blocks that of a file has
 pub map-file : (form : Form) (inode : Inode) → inode.kind ≡ 1 → map_length form inode ≡ blocks_for inode.size
 map-file form inode kind = ap (λ k. blocks_for (cond (k == 2) (entry_size form * inode.size) inode.size)) kind
 
 -- what is damaged at an inode whose map has c blocks
 module _ (form : Form) (lot : LotView) (m : Map) (number c : ℕ) (reached : IsReached form lot m number) (node : IsNode lot (inode_of m number)) (long : map_length form (inode_of m number) ≡ c) where
+  -- fewer blocks are counted than it uses
   pub few-counted : counted false m < uses_of c → FewCounted form lot m
   few-counted h =
       let l = length-uses m (inode_of m number) (map_length form (inode_of m number)) in
       let s = ap uses_of long in
       record { one = number; other = number; reached = reached; reached_too = reached; node = node; node_too = node; few = omega arith }
 
+  -- a block of it is marked free
   pub free-block : UsesUnmarked m (inode_of m number) c → FreeBlock form lot m
   free-block u = record { number = number; reached = reached; node = node; bad = subst (UsesUnmarked m (inode_of m number)) (sym long) u }
 
+  -- a block of it is no data place, or its indirect block is none
   pub bad-pointer : Misleads lot m (inode_of m number) c → BadPointer form lot m
   bad-pointer u = record { number = number; reached = reached; node = node; bad = subst (Misleads lot m (inode_of m number)) (sym long) u }
 
+  -- a block stands twice in it
   pub twice-used : HasTwice (uses m (inode_of m number) c) → TwiceUsed form lot m
   twice-used t = record {
     one = number;

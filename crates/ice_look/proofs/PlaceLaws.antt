@@ -62,6 +62,7 @@ module _ (f : Form) (one : f ≡ form_one) (lot : LotView) (m : Map) (i h : ℕ)
   pub inode-own : (own f m i).inode ≡ inode_of m i
   inode-own = ap (λ g. (own g m i).inode) one
 
+  -- the number of an inode that stands for a tree is one of the lot
   pub Reads-number : (t : Tree) → Reads f lot (own f m) i h t → i < 64 * length lot.groups
   Reads-number (tree.File bytes) r = r.0.number
   Reads-number (tree.Dir es) r = r.0.number
@@ -79,10 +80,6 @@ module _ (f : Form) (one : f ≡ form_one) (lot : LotView) (m : Map) (i h : ℕ)
   pub Reads-file : (t : Tree) → Reads f lot (own f m) i h t → (x : Inode) → x ≡ inode_of m i → x.kind ≡ 1 → File i x.size ≡ place_by i (Found t)
   Reads-file (tree.File bytes) r x is k = ap (λ n. File i n) (ap (λ (y : Inode). y.size) (is ∙ sym inode-own) ∙ sym (length-file_bytes (own f m i)) ∙ ap length r.1.bytes_are)
   Reads-file (tree.Dir es) r x is k = absurd (one_not_two x.kind k (ap (λ (y : Inode). y.kind) (is ∙ sym inode-own) ∙ r.1.is_dir))
-
-  pub Reads-dir : (t : Tree) → Reads f lot (own f m) i h t → (x : Inode) → x ≡ inode_of m i → x.kind ≡ 2 → Dir i x.size ≡ place_by i (Found t)
-  Reads-dir (tree.File bytes) r x is k = absurd (one_not_two x.kind (ap (λ (y : Inode). y.kind) (is ∙ sym inode-own) ∙ r.1.is_file) k)
-  Reads-dir (tree.Dir es) r x is k = ap (λ n. Dir i n) (ap (λ (y : Inode). y.size) (is ∙ sym inode-own) ∙ sym r.1.count)
 
   -- what is known of the inode itself
   Reads-inode : (t : Tree) → Reads f lot (own f m) i h t → IsInode f lot (own f m i) i h
@@ -105,7 +102,7 @@ module _ (f : Form) (one : f ≡ form_one) (lot : LotView) (m : Map) (i h : ℕ)
       places-lead lot m (inode_of m i) (map_length form_one (inode_of m i)) n (places-own t r) (omega (arith, long, b, s, small))
 
   -- a directory's place
-  pub dir-is : (t : Tree) (number size : ℕ) → Dir number size ≡ place_by i (Found t) → (es : Entries) × (t ≡ tree.Dir es) × (number ≡ i)
+  dir-is : (t : Tree) (number size : ℕ) → Dir number size ≡ place_by i (Found t) → (es : Entries) × (t ≡ tree.Dir es) × (number ≡ i)
   dir-is (tree.File bytes) number size is = absurd (no is)
     where
       no : Dir number size ≡ File i (length bytes) → ⊥
@@ -184,6 +181,7 @@ walk-more names c t = walk-append names (c ∷ []) t ∙ by (walk names t)
     by NotDir = refl
 
 module _ (f : Form) (lot : LotView) (o : Table) where
+  -- the inode one name further is the one that the row of that name has
   pub inode_on-more : (i : ℕ) (names : List (List ℕ)) (c : List ℕ) → inode_on f o i (names ++ c ∷ []) ≡ inode_named c (rows_in f (o (inode_on f o i names)))
   inode_on-more i [] c = refl
   inode_on-more i (d ∷ names) c = inode_on-more (inode_named d (rows_in f (o i))) names c

@@ -41,13 +41,13 @@ use Rattle.ice_reads.proofs.LookUps.{child-found, look_up-find}
 use Rattle.ice_reads.proofs.Numbers.{used-one, used-apart, uses-flat}
 use Rattle.ice_steps.proofs.Quotas.{free_nodes_are, counts_small}
 use Rattle.ice_map.proofs.UsesLaws.{times-has}
-use Rattle.ice_look.specs.Broken.{BadInode, BadPointer, node_uses, TwiceUsed, BadEntry, Overfull, Crowded, spread, BadName, ManyCounted, FewCounted, FreeBlock, FreeInode, IsBroken}
-use Rattle.ice_look.specs.declared.ends.Spot.{Spot}
-use Rattle.ice_look.specs.Ends.{IsSpot}
+use Rattle.ice_look.specs.Broken.{BadInode, BadPointer, node_uses, TwiceUsed, BadEntry, Overfull, LeadsToTooMany, count_within, BadName, ManyCounted, FewCounted, FreeBlock, FreeInode, IsBroken}
+use Rattle.ice_look.specs.declared.looks.DirAt.{DirAt}
+use Rattle.ice_look.specs.Ends.{IsDirAt}
 use Rattle.ice_look.specs.Places.{IsNode, Reached, Root, Named, IsReached}
 use Rattle.ice_look.proofs.PlaceLaws.{places-lead, Reads-node, inode_on-more}
 use Rattle.ice_look.proofs.HeightLaws.{many, many_of, sum-many, row-child as row-under}
-use Rattle.ice_look.proofs.SpreadLaws.{by_row, spread-dir, spread-file}
+use Rattle.ice_look.proofs.WithinLaws.{by_row, within-dir, within-file}
 
 no_file : (k : ℕ) → k ≡ 1 → k ≡ 2 → ⊥
 no_file k a b = omega arith
@@ -153,7 +153,7 @@ rows-nodes Nil = omega arith
 rows-nodes (Entry c t es) = omega (arith, nodes-some t, rows-nodes es)
 
 -- a tree has more nodes than a directory of it has entries
-pub spot-nodes : (f : Form) (o : Table) (names : List (List ℕ)) (t : Tree) (spot : Spot) → IsSpot f o names t spot → spot.entries + 1 ≤ nodes t
+pub spot-nodes : (f : Form) (o : Table) (names : List (List ℕ)) (t : Tree) (spot : DirAt) → IsDirAt f o names t spot → spot.entries + 1 ≤ nodes t
 spot-nodes f o names t spot is = omega (arith, is.count, rows-nodes is.inside, nodes-within names t (Dir is.inside) is.there)
 
 module _ (mode : ℕ) (lot : LotView) (m : Map) (t : Tree) (k : ℕ) (r : MapRecovers form_one mode lot m t k) where
@@ -365,18 +365,18 @@ module _ (mode : ℕ) (lot : LotView) (m : Map) (t : Tree) (k : ℕ) (r : MapRec
   sum-le p q [] h = omega arith
   sum-le p q (e ∷ rs) h = omega (arith, sum_by-cons p e rs, sum_by-cons q e rs, h 0 ([], 0) (omega arith), sum-le p q rs (All-tail (λ (row : Row). p row ≤ q row) e rs h))
 
-  spread-nodes : (levels i h : ℕ) (u : Tree) → Reads form_one lot o i h u → spread form_one m levels i ≤ nodes u
-  spread-nodes zero i h u x = nodes-some u
-  spread-nodes (suc levels) i h (File bytes) x = omega (arith, spread-file form_one m (suc levels) i x.1.is_file)
-  spread-nodes (suc levels) i h (Dir es) x =
+  within-nodes : (levels i h : ℕ) (u : Tree) → Reads form_one lot o i h u → count_within form_one m levels i ≤ nodes u
+  within-nodes zero i h u x = nodes-some u
+  within-nodes (suc levels) i h (File bytes) x = omega (arith, within-file form_one m (suc levels) i x.1.is_file)
+  within-nodes (suc levels) i h (Dir es) x =
       let each : All (λ (row : Row). by_row form_one m levels row ≤ many es row) (rows_in form_one (o i)) = (λ n d low.
       let row : Row = get_or (rows_in form_one (o i)) n d in
       let c = row-under form_one lot o i h es x n row.0 row.1 (slice_get-get_or (rows_in form_one (o i)) n d low) in
-      omega (arith, spread-nodes levels row.1 (h + 1) c.there c.reads, ap many_of c.entry)) in
+      omega (arith, within-nodes levels row.1 (h + 1) c.there c.reads, ap many_of c.entry)) in
       omega (
         arith,
-        spread-dir form_one m levels i x.1.is_dir,
-        ap (λ n. spread form_one m n i) (one_more levels),
+        within-dir form_one m levels i x.1.is_dir,
+        ap (λ n. count_within form_one m n i) (one_more levels),
         sum-le (by_row form_one m levels) (many es) (rows_in form_one (o i)) each,
         sum-many es (rows_in form_one (o i)) x.1.differ,
       )
@@ -384,10 +384,10 @@ module _ (mode : ℕ) (lot : LotView) (m : Map) (t : Tree) (k : ℕ) (r : MapRec
       one_more : (n : ℕ) → suc n ≡ n + 1
       one_more n = omega arith
 
-  no-crowd : ¬ Crowded form_one lot m
+  no-crowd : ¬ LeadsToTooMany form_one lot m
   no-crowd x =
       let s = stands x.reached.by in
-      omega (arith, x.many, spread-nodes x.levels x.number (0 + length s.names) s.part (stands-reads x.number s), nodes-within s.names t s.part s.found, free_nodes_are mode lot m t k r)
+      omega (arith, x.many, within-nodes x.levels x.number (0 + length s.names) s.part (stands-reads x.number s), nodes-within s.names t s.part s.found, free_nodes_are mode lot m t k r)
 
   -- ---- all rules
 

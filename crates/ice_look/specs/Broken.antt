@@ -20,14 +20,14 @@ use Rattle.tree_spec.specs.Costs.{Form}
 use Rattle.ice_look.specs.declared.place.Place.TheVariants.{Dir}
 
 -- to how many files and directories at most so many names lead from an inode, itself among them
-abbrev pub spread : Form → (ℕ → List ℕ) → ℕ → ℕ → ℕ
-spread form m zero number = 1
-spread form m (suc levels) number = cond ((inode_of m number).kind == 2) (1 + sum_by (λ (row : Row). spread form m levels row.1) (rows_of form m number)) 1
+abbrev pub count_within : Form → (ℕ → List ℕ) → ℕ → ℕ → ℕ
+count_within form m zero number = 1
+count_within form m (suc levels) number = cond ((inode_of m number).kind == 2) (1 + sum_by (λ (row : Row). count_within form m levels row.1) (rows_of form m number)) 1
 
 -- the same from a place
-abbrev pub spread_at : Form → (ℕ → List ℕ) → ℕ → Place → ℕ
-spread_at form m levels (Dir number size) = spread form m levels number
-spread_at form m levels _ = 1
+abbrev pub count_within_place : Form → (ℕ → List ℕ) → ℕ → Place → ℕ
+count_within_place form m levels (Dir number size) = count_within form m levels number
+count_within_place form m levels _ = 1
 
 -- ---- inodes
 
@@ -82,11 +82,11 @@ pub record Overfull (form : Form) (lot : LotView) (m : ℕ → List ℕ) : Type 
   pub many : 64 * length lot.groups ≤ (inode_of m one).size + (inode_of m other).size
 
 -- the entries below some inode lead to more files and directories than the lot has inodes, and so to one of them twice
-pub record Crowded (form : Form) (lot : LotView) (m : ℕ → List ℕ) : Type 0 where
+pub record LeadsToTooMany (form : Form) (lot : LotView) (m : ℕ → List ℕ) : Type 0 where
   pub number : ℕ
   pub levels : ℕ
   pub reached : IsReached form lot m number
-  pub many : 64 * length lot.groups < spread form m levels number
+  pub many : 64 * length lot.groups < count_within form m levels number
 
 -- some directory has a row whose name is none
 pub record BadName (form : Form) (lot : LotView) (m : ℕ → List ℕ) : Type 0 where
@@ -147,7 +147,7 @@ IsBroken form lot m rule.Done = sub_rule lot.slot (m sub_address) ≡ Some rule.
 IsBroken form lot m rule.Counts = BadCount form lot m
 IsBroken form lot m rule.Kind = BadInode form lot m
 IsBroken form lot m rule.Pointer = BadPointer form lot m ⊎ TwiceUsed form lot m
-IsBroken form lot m rule.InodeTwice = BadEntry form lot m ⊎ Overfull form lot m ⊎ Crowded form lot m
+IsBroken form lot m rule.InodeTwice = BadEntry form lot m ⊎ Overfull form lot m ⊎ LeadsToTooMany form lot m
 IsBroken form lot m rule.Name = BadName form lot m
 IsBroken form lot m rule.Bitmap = BadBitmap form lot m
 IsBroken form lot m _ = ⊥

@@ -7,7 +7,7 @@ use Rattle.tree_spec.specs.Costs.{Form}
 use Rattle.ice_reads.specs.Tables.{Table}
 use Rattle.ice_reads.specs.Reads.{inode_on}
 use Rattle.ice_look.specs.declared.ends.Ends.{Ends}
-use Rattle.ice_look.specs.declared.ends.Spot.{Spot}
+use Rattle.ice_look.specs.declared.looks.DirAt.{DirAt}
 use Rattle.ice_look.specs.Places.{place_at, PlaceFits, IsReached, PlaceIs, PlaceReached}
 use Rattle.ice_map.specs.Inodes.{inode_of}
 use Rattle.ice_dir.specs.Rows.{IsDirectory}
@@ -23,14 +23,14 @@ pub record EndsFit (lot : LotView) (ends : Ends) : Type 0 where
   pub at_end : PlaceFits lot ends.end
 
 -- a directory of the tree: its inode and the number of its entries
-pub record IsSpot (f : Form) (o : Table) (names : List (List ℕ)) (t : Tree) (spot : Spot) : Type 0 where
+pub record IsDirAt (f : Form) (o : Table) (names : List (List ℕ)) (t : Tree) (spot : DirAt) : Type 0 where
   pub inside : Entries
   pub there : walk names t ≡ Found (tree.Dir inside)
   pub number : spot.number ≡ inode_on f o 0 names
   pub count : spot.entries ≡ length (rows inside)
 
 -- its numbers fit the lot
-pub record SpotFits (lot : LotView) (spot : Spot) : Type 0 where
+pub record DirFits (lot : LotView) (spot : DirAt) : Type 0 where
   pub number : spot.number < 64 * length lot.groups
   pub count : spot.entries < 64 * length lot.groups
 
@@ -42,7 +42,7 @@ pub record EndsAre (form : Form) (lot : LotView) (m : ℕ → List ℕ) (ends : 
   pub end_reached : PlaceReached form lot m ends.end
 
 -- a directory to which the directories lead, and how many entries it has
-pub record SpotIs (form : Form) (lot : LotView) (m : ℕ → List ℕ) (spot : Spot) : Type 0 where
+pub record DirIs (form : Form) (lot : LotView) (m : ℕ → List ℕ) (spot : DirAt) : Type 0 where
   pub reached : IsReached form lot m spot.number
   pub dir : IsDirectory lot (inode_of m spot.number)
   pub entries : (inode_of m spot.number).size ≡ spot.entries

@@ -5,3 +5,4 @@ pub mod Heights
 pub mod Outcomes
 pub mod Stages
 pub mod Listings
+pub mod Calls

@@ -1,18 +1,18 @@
 //! Where a path and its directory end.
-ghost use Rattle.std.specs.Prelude.{◌≡◌, ◌≤◌, ◌<◌, ℕ, true, [], ◌∷◌, None, IfOk, IfErr, IsErrOf, length, drop};
+ghost use Rattle.std.specs.Prelude.{◌≡◌, ◌≤◌, ◌<◌, true, [], ◌∷◌, None, IfOk, IfErr, IsErrOf, length, drop};
 ghost use Rattle.ice_base.specs.Disk.{Rose};
 ghost use Rattle.ice_base.specs.Lots.{is_sited};
 ghost use Rattle.ice_base.specs.Views.{Looked, IfShown};
 ghost use Rattle.ice_base.specs.declared.fault.OpFault.TheVariants.{Disk as FaultDisk};
 ghost use Rattle.tree_spec.specs.Costs.{form_of};
 ghost use Rattle.tree_spec.specs.Names.{is_name};
-ghost use Rattle.tree_spec.specs.Trees.{Tree, last_name};
-ghost use Rattle.ice_reads.specs.Recovers.{MapRecovers};
+ghost use Rattle.tree_spec.specs.Trees.{last_name};
 ghost use Rattle.ice_map.specs.Own.{own};
 ghost use Rattle.ice_look.specs.Broken.{IsBrokenBy};
 ghost use Rattle.ice_look.specs.Ends.{IsEnds, EndsFit, EndsAre};
 ghost use Rattle.ice_look.specs.Places.{PlaceNamed, IsWalkFault};
 ghost use Rattle.ice_look.specs.Stages.{paths_refusal};
+ghost use Rattle.ice_look.specs.Calls.{IfRecovers, FailsByDiskAlone};
 
 use crate::place::{Place, step, walk};
 use ice_base::{Disk, Form, Lot, OpFault, View};
@@ -23,13 +23,6 @@ use tree_spec::{Name, Path};
 pub struct Ends {
     pub parent: Place,
     pub end: Place,
-}
-
-/// A directory in which an entry stands or is to stand: the number of its inode, and of its entries.
-#[derive(Clone, Copy, Drop)]
-pub struct Spot {
-    pub number: u32,
-    pub entries: u32,
 }
 
 /// The last name of a path.
@@ -53,23 +46,28 @@ pub fn find_ends<D: Disk, V: View<D>, F: Form>(
     path: &Path,
     depth: usize,
 ) -> Result<Ends, OpFault>
+    // The lot lies on the disk and has a group, and the path begins with the cube's names.
     requires sited { is_sited lot.now (D.state disk.old).size ≡ true }
     requires some { 1 ≤ length lot.now.groups }
     requires depth { depth ≤ length path.now }
-    ensures found { (mode k : ℕ) (t : Tree) → IfShown V.View lot.now view.old disk.old (λ old.
-        MapRecovers (form_of F.VERSION) mode lot.now old t k
-        → IfOk result (IsEnds (form_of F.VERSION) (own (form_of F.VERSION) old) (drop depth path.now) t)) }
-    ensures sound { (mode k : ℕ) (t : Tree) → IfShown V.View lot.now view.old disk.old (λ old.
-        MapRecovers (form_of F.VERSION) mode lot.now old t k → IfErr result (λ e. e ≡ FaultDisk)) }
+    // Over a lot that recovers a tree, it finds what the tree has; the disk alone may fail.
+    ensures found { IfRecovers V.View F.VERSION lot.now view.old disk.old (λ old t _.
+        IfOk result (IsEnds (form_of F.VERSION) (own (form_of F.VERSION) old)
+        (drop depth path.now) t)) }
+    ensures sound { FailsByDiskAlone V.View F.VERSION lot.now view.old disk.old result }
+    // What it answers of any lot, damaged or not.
     ensures fits { IfOk result (EndsFit lot.now) }
     ensures are { IfShown V.View lot.now view.old disk.old (λ old.
         IfOk result (EndsAre (form_of F.VERSION) lot.now old)) }
     ensures named { IfShown V.View lot.now view.old disk.old (λ old.
-        depth < length path.now
-        → IfOk result (λ ends. PlaceNamed (form_of F.VERSION) old ends.parent (last_name (drop depth path.now)) ends.end)) }
+        depth < length path.now → IfOk result (λ ends.
+        PlaceNamed (form_of F.VERSION) old ends.parent (last_name (drop depth path.now)) ends.end)) }
+    // Damage that it names is there.
     ensures broken { IfShown V.View lot.now view.old disk.old (λ old.
         IfErr result (IsBrokenBy (form_of F.VERSION) lot.now old)) }
+    // What stays as it was.
     ensures looked { Looked D.Disk V.View lot.now view.old disk.old view.new disk.new }
+    // Which refusals there are, and when a fault comes.
     ensures faults { IfErr result IsWalkFault }
     ensures failed { IsErrOf result FaultDisk → Rose (D.state disk.old).faults (D.state disk.new).faults }
 {

@@ -9,11 +9,11 @@ ghost use Rattle.ice_map.specs.Inodes.{inode_of};
 ghost use Rattle.ice_dir.specs.Rows.{HasEntry, IsDirectory};
 ghost use Rattle.tree_spec.specs.Costs.{form_of, nodes};
 ghost use Rattle.tree_spec.specs.Trees.{Tree, Entries, Dir, Found, rows, height};
-ghost use Rattle.ice_reads.specs.Reads.{Reads};
 ghost use Rattle.ice_map.specs.Own.{own};
-ghost use Rattle.ice_look.specs.Broken.{IsBrokenBy, spread, spread_at};
+ghost use Rattle.ice_look.specs.Broken.{IsBrokenBy, count_within, count_within_place};
 ghost use Rattle.ice_look.specs.Heights.{IsEntry, IsChild, IsHeightFault};
 ghost use Rattle.ice_look.specs.Places.{IsReached, PlaceFits, PlaceIs, PlaceReached, place_by};
+ghost use Rattle.ice_look.specs.Calls.{FailsByDisk, ReadsIn};
 
 use crate::blank::blank_name;
 use crate::place::{Place, enter};
@@ -28,23 +28,29 @@ fn entry_place<D: Disk, V: View<D>, F: Form>(
     number: u32,
     k: u32,
 ) -> Result<Place, OpFault>
+    // The lot lies on the disk.
     requires sited { is_sited lot.now (D.state disk.old).size ≡ true }
     requires number { number < 64 * length lot.now.groups }
+    // Over a lot that recovers a tree, it finds what the tree has; the disk alone may fail.
     ensures place { (h : ℕ) (es : Entries) → IfShown V.View lot.now view.old disk.old (λ old.
-        Reads (form_of F.VERSION) lot.now (own (form_of F.VERSION) old) number h (Dir es)
-        → k < length (rows es)
-        → IfOk result (IsChild (form_of F.VERSION) lot.now (own (form_of F.VERSION) old) number h k es)) }
+        ReadsIn F.VERSION lot.now old number h (Dir es) → k < length (rows es)
+        → IfOk result (IsChild (form_of F.VERSION) lot.now
+        (own (form_of F.VERSION) old) number h k es)) }
     ensures sound { (h : ℕ) (es : Entries) → IfShown V.View lot.now view.old disk.old (λ old.
-        Reads (form_of F.VERSION) lot.now (own (form_of F.VERSION) old) number h (Dir es)
-        → k < length (rows es) → IfErr result (λ e. e ≡ FaultDisk)) }
+        ReadsIn F.VERSION lot.now old number h (Dir es) → k < length (rows es)
+        → FailsByDisk result) }
+    // What it answers of any lot, damaged or not.
     ensures fits { IfOk result (PlaceFits lot.now) }
     ensures child { IfShown V.View lot.now view.old disk.old (λ old.
         IsReached (form_of F.VERSION) lot.now old number → HasEntry lot.now k (inode_of old number)
         → IfOk result (IsEntry (form_of F.VERSION) lot.now old number k)) }
+    // Damage that it names is there.
     ensures broken { IfShown V.View lot.now view.old disk.old (λ old.
         IsReached (form_of F.VERSION) lot.now old number → HasEntry lot.now k (inode_of old number)
         → IfErr result (IsBrokenBy (form_of F.VERSION) lot.now old)) }
+    // What stays as it was.
     ensures looked { Looked D.Disk V.View lot.now view.old disk.old view.new disk.new }
+    // Which refusals there are, and when a fault comes.
     ensures faults { IfErr result IsHeightFault }
     ensures failed { IsErrOf result FaultDisk → Rose (D.state disk.old).faults (D.state disk.new).faults }
 {
@@ -64,33 +70,36 @@ fn has_higher<D: Disk, V: View<D>, F: Form>(
     levels: u32,
     budget: &mut u32,
 ) -> Result<bool, OpFault>
+    // The lot lies on the disk.
     requires sited { is_sited lot.now (D.state disk.old).size ≡ true }
     requires number { number < 64 * length lot.now.groups }
     requires levels { levels < 24 }
+    // Over a lot that recovers a tree, it finds what the tree has; the disk alone may fail.
     ensures higher { (h : ℕ) (es : Entries) → IfShown V.View lot.now view.old disk.old (λ old.
-        Reads (form_of F.VERSION) lot.now (own (form_of F.VERSION) old) number h (Dir es)
-        → size ≡ length (rows es) → nodes (Dir es) ≤ budget.old + 1
+        ReadsIn F.VERSION lot.now old number h (Dir es) → size ≡ length (rows es)
+        → nodes (Dir es) ≤ budget.old + 1
         → IfOk result (λ b. b ≡ nat_lt (levels + 1) (height (Dir es)))) }
     ensures sound { (h : ℕ) (es : Entries) → IfShown V.View lot.now view.old disk.old (λ old.
-        Reads (form_of F.VERSION) lot.now (own (form_of F.VERSION) old) number h (Dir es)
-        → size ≡ length (rows es) → nodes (Dir es) ≤ budget.old + 1
-        → IfErr result (λ e. e ≡ FaultDisk)) }
+        ReadsIn F.VERSION lot.now old number h (Dir es) → size ≡ length (rows es)
+        → nodes (Dir es) ≤ budget.old + 1 → FailsByDisk result) }
     ensures budget { (h : ℕ) (es : Entries) → IfShown V.View lot.now view.old disk.old (λ old.
-        Reads (form_of F.VERSION) lot.now (own (form_of F.VERSION) old) number h (Dir es)
-        → size ≡ length (rows es) → nodes (Dir es) ≤ budget.old + 1
-        → budget.old + 1 ≤ budget.new + nodes (Dir es)) }
-    ensures falls { budget.new ≤ budget.old }
+        ReadsIn F.VERSION lot.now old number h (Dir es) → size ≡ length (rows es)
+        → nodes (Dir es) ≤ budget.old + 1 → budget.old + 1 ≤ budget.new + nodes (Dir es)) }
+    // Damage that it names is there.
     ensures pays { IfShown V.View lot.now view.old disk.old (λ old.
         IsReached (form_of F.VERSION) lot.now old number → IsDirectory lot.now (inode_of old number)
         → (inode_of old number).size ≡ size
         → IfOk result (λ b. b ≡ false
-        → budget.old + 1 ≤ budget.new + spread (form_of F.VERSION) old (levels + 1) number)) }
+        → budget.old + 1 ≤ budget.new + count_within (form_of F.VERSION) old (levels + 1) number)) }
     ensures broken { IfShown V.View lot.now view.old disk.old (λ old.
         IsReached (form_of F.VERSION) lot.now old number → IsDirectory lot.now (inode_of old number)
         → (inode_of old number).size ≡ size
         → IfErr result (λ e. IsBrokenBy (form_of F.VERSION) lot.now old e
-        ⊎ ((e ≡ Damaged InodeTwice) × (budget.old + 1 < spread (form_of F.VERSION) old (levels + 1) number)))) }
+        ⊎ ((e ≡ Damaged InodeTwice) × (budget.old + 1 < count_within (form_of F.VERSION) old (levels + 1) number)))) }
+    // What stays as it was.
+    ensures falls { budget.new ≤ budget.old }
     ensures looked { Looked D.Disk V.View lot.now view.old disk.old view.new disk.new }
+    // Which refusals there are, and when a fault comes.
     ensures faults { IfErr result IsHeightFault }
     ensures failed { IsErrOf result FaultDisk → Rose (D.state disk.old).faults (D.state disk.new).faults }
 {
@@ -116,29 +125,33 @@ pub fn is_higher<D: Disk, V: View<D>, F: Form>(
     levels: u32,
     budget: &mut u32,
 ) -> Result<bool, OpFault>
+    // The lot lies on the disk.
     requires sited { is_sited lot.now (D.state disk.old).size ≡ true }
     requires fits { PlaceFits lot.now place }
     requires levels { levels ≤ 24 }
+    // Over a lot that recovers a tree, it finds what the tree has; the disk alone may fail.
     ensures higher { (i h : ℕ) (s : Tree) → IfShown V.View lot.now view.old disk.old (λ old.
-        Reads (form_of F.VERSION) lot.now (own (form_of F.VERSION) old) i h s
-        → place ≡ place_by i (Found s) → nodes s ≤ budget.old
+        ReadsIn F.VERSION lot.now old i h s → place ≡ place_by i (Found s) → nodes s ≤ budget.old
         → IfOk result (λ b. b ≡ nat_lt levels (height s))) }
     ensures sound { (i h : ℕ) (s : Tree) → IfShown V.View lot.now view.old disk.old (λ old.
-        Reads (form_of F.VERSION) lot.now (own (form_of F.VERSION) old) i h s
-        → place ≡ place_by i (Found s) → nodes s ≤ budget.old → IfErr result (λ e. e ≡ FaultDisk)) }
+        ReadsIn F.VERSION lot.now old i h s → place ≡ place_by i (Found s) → nodes s ≤ budget.old
+        → FailsByDisk result) }
     ensures budget { (i h : ℕ) (s : Tree) → IfShown V.View lot.now view.old disk.old (λ old.
-        Reads (form_of F.VERSION) lot.now (own (form_of F.VERSION) old) i h s
-        → place ≡ place_by i (Found s) → nodes s ≤ budget.old → budget.old ≤ budget.new + nodes s) }
-    ensures falls { budget.new ≤ budget.old }
+        ReadsIn F.VERSION lot.now old i h s → place ≡ place_by i (Found s) → nodes s ≤ budget.old
+        → budget.old ≤ budget.new + nodes s) }
+    // Damage that it names is there.
     ensures pays { IfShown V.View lot.now view.old disk.old (λ old.
         PlaceIs old place → PlaceReached (form_of F.VERSION) lot.now old place
         → IfOk result (λ b. b ≡ false
-        → budget.old ≤ budget.new + spread_at (form_of F.VERSION) old levels place)) }
+        → budget.old ≤ budget.new + count_within_place (form_of F.VERSION) old levels place)) }
     ensures broken { IfShown V.View lot.now view.old disk.old (λ old.
         PlaceIs old place → PlaceReached (form_of F.VERSION) lot.now old place
         → IfErr result (λ e. IsBrokenBy (form_of F.VERSION) lot.now old e
-        ⊎ ((e ≡ Damaged InodeTwice) × (budget.old < spread_at (form_of F.VERSION) old levels place)))) }
+        ⊎ ((e ≡ Damaged InodeTwice) × (budget.old < count_within_place (form_of F.VERSION) old levels place)))) }
+    // What stays as it was.
+    ensures falls { budget.new ≤ budget.old }
     ensures looked { Looked D.Disk V.View lot.now view.old disk.old view.new disk.new }
+    // Which refusals there are, and when a fault comes.
     ensures faults { IfErr result IsHeightFault }
     ensures failed { IsErrOf result FaultDisk → Rose (D.state disk.old).faults (D.state disk.new).faults }
 {

@@ -17,6 +17,6 @@ pub fn recovers_unbroken()
 
 /// Where a lot of some groups breaks such a rule, some rule may be named of it.
 pub fn broken_named()
-    ensures { (lot : LotView) (m : ℕ → List ℕ) (r : Rule) → 0 < length lot.groups → IsBroken form_one lot m r
-        → (x : Rule) × MayName (form_in m) lot m x }
+    ensures { (lot : LotView) (m : ℕ → List ℕ) (r : Rule) → 0 < length lot.groups
+        → IsBroken form_one lot m r → (x : Rule) × MayName (form_in m) lot m x }
 {}

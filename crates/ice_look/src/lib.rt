@@ -11,11 +11,11 @@ mod looks;
 mod paths;
 mod place;
 
-pub use ends::{Ends, Spot, find_ends, last_of};
+pub use ends::{Ends, find_ends, last_of};
 pub use fault::refusal_of;
 pub use heights::is_higher;
 pub use laws::{broken_named, recovers_unbroken};
 pub use lists::list;
-pub use looks::{FileAt, file_at, read, stat};
+pub use looks::{DirAt, FileAt, file_at, read, stat};
 pub use paths::{DEEPEST, check_path, check_paths};
 pub use place::Place;

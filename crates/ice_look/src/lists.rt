@@ -4,7 +4,6 @@ ghost use Rattle.ice_base.specs.Disk.{Rose};
 ghost use Rattle.ice_base.specs.Lots.{is_sited};
 ghost use Rattle.ice_base.specs.Views.{Looked, IfShown};
 ghost use Rattle.ice_base.specs.declared.fault.OpFault.TheVariants.{Disk as FaultDisk};
-ghost use Rattle.ice_base.specs.declared.fault.Rule.{Rule};
 ghost use Rattle.ice_map.specs.Inodes.{inode_of};
 ghost use Rattle.ice_dir.specs.Rows.{Row, IsDirectory, HasEntry};
 ghost use Rattle.tree_spec.specs.Answers.{answer};
@@ -12,20 +11,16 @@ ghost use Rattle.tree_spec.specs.Costs.{form_of};
 ghost use Rattle.tree_spec.specs.Held.{by_name, most_entries};
 ghost use Rattle.tree_spec.specs.Operations.{ListDir};
 ghost use Rattle.tree_spec.specs.Replies.{meant, Tallies};
-ghost use Rattle.tree_spec.specs.Trees.{Tree, Entries, Dir, rows};
-ghost use Rattle.tree_spec.specs.Why.{Why};
-ghost use Rattle.tree_spec.specs.declared.reply.Refusal.TheVariants.{Fault, Damaged};
+ghost use Rattle.tree_spec.specs.Trees.{Entries, Dir, rows};
+ghost use Rattle.tree_spec.specs.declared.reply.Refusal.TheVariants.{Fault};
 ghost use Rattle.tree_spec.specs.declared.reply.Value.TheVariants.{Listed};
-ghost use Rattle.ice_reads.specs.Reads.{Reads};
-ghost use Rattle.ice_reads.specs.Recovers.{MapRecovers};
 ghost use Rattle.ice_map.specs.Own.{own};
 ghost use Rattle.ice_reads.specs.Tables.{rows_in};
-ghost use Rattle.ice_rules.specs.Rules.{rule_number};
-ghost use Rattle.ice_look.specs.Broken.{BadEntry, IsBroken, IsBrokenBy};
+ghost use Rattle.ice_look.specs.Broken.{BadEntry, IsBrokenBy};
 ghost use Rattle.ice_look.specs.Listings.{listed_as, IsListFault};
-ghost use Rattle.ice_look.specs.Outcomes.{AsModel, ShownBy, IsOneOf, look_refusals, list_rules};
+ghost use Rattle.ice_look.specs.Outcomes.{IsOneOf, look_refusals, list_rules};
 ghost use Rattle.ice_look.specs.Places.{IsReached};
-ghost use Rattle.ice_look.specs.Stages.{paths_refusal};
+ghost use Rattle.ice_look.specs.Calls.{AnswersAs, FailsByDisk, ReadsIn, RefusesPaths, Untouched, NamesBroken};
 
 use crate::blank::blank_name;
 use crate::fault::refusal_of;
@@ -45,26 +40,33 @@ fn add_entry<D: Disk, V: View<D>, F: Form>(
     k: u32,
     room: &mut Room,
 ) -> Result<(), OpFault>
+    // The lot lies on the disk.
     requires sited { is_sited lot.now (D.state disk.old).size ≡ true }
     requires number { number < 64 * length lot.now.groups }
     requires fits { length room.old.entries < most_entries }
-    ensures added { (h : ℕ) (es : Entries) (row : Row) → IfShown V.View lot.now view.old disk.old (λ old.
-        Reads (form_of F.VERSION) lot.now (own (form_of F.VERSION) old) number h (Dir es)
-        → slice_get (rows_in (form_of F.VERSION) (own (form_of F.VERSION) old number)) k ≡ Some row
-        → IsReached (form_of F.VERSION) lot.now old number → ¬ BadEntry (form_of F.VERSION) lot.now old
+    // Over a lot that recovers a tree, it finds what the tree has; the disk alone may fail.
+    ensures added { (h : ℕ) (es : Entries) (row : Row)
+        → IfShown V.View lot.now view.old disk.old (λ old.
+        ReadsIn F.VERSION lot.now old number h (Dir es)
+        → slice_get (rows_in (form_of F.VERSION) (own (form_of F.VERSION) old number))
+        k ≡ Some row → IsReached (form_of F.VERSION) lot.now old number → ¬ BadEntry (form_of F.VERSION) lot.now old
         → OnOk result (room.new.entries ≡ room.old.entries ++ listed_as es row ∷ [])) }
     ensures sound { (h : ℕ) (es : Entries) → IfShown V.View lot.now view.old disk.old (λ old.
-        Reads (form_of F.VERSION) lot.now (own (form_of F.VERSION) old) number h (Dir es)
-        → k < length (rows es) → IsReached (form_of F.VERSION) lot.now old number → ¬ BadEntry (form_of F.VERSION) lot.now old
-        → IfErr result (λ e. e ≡ FaultDisk)) }
+        ReadsIn F.VERSION lot.now old number h (Dir es) → k < length (rows es)
+        → IsReached (form_of F.VERSION) lot.now old number → ¬ BadEntry (form_of F.VERSION) lot.now old
+        → FailsByDisk result) }
+    // What it answers of any lot, damaged or not.
     ensures one { OnOk result (length room.new.entries ≡ length room.old.entries + 1) }
-    ensures kept { OnErr result (room.new.entries ≡ room.old.entries) }
-    ensures bytes { room.new.bytes ≡ room.old.bytes }
-    ensures rows { room.new.rows ≡ room.old.rows }
+    // Damage that it names is there.
     ensures broken { IfShown V.View lot.now view.old disk.old (λ old.
         IsReached (form_of F.VERSION) lot.now old number → HasEntry lot.now k (inode_of old number)
         → IfErr result (IsBrokenBy (form_of F.VERSION) lot.now old)) }
+    // What stays as it was.
+    ensures kept { OnErr result (room.new.entries ≡ room.old.entries) }
+    ensures bytes { room.new.bytes ≡ room.old.bytes }
+    ensures rows { room.new.rows ≡ room.old.rows }
     ensures looked { Looked D.Disk V.View lot.now view.old disk.old view.new disk.new }
+    // Which refusals there are, and when a fault comes.
     ensures faults { IfErr result IsListFault }
     ensures failed { IsErrOf result FaultDisk → Rose (D.state disk.old).faults (D.state disk.new).faults }
 {
@@ -85,26 +87,32 @@ fn add_entries<D: Disk, V: View<D>, F: Form>(
     count: u32,
     room: &mut Room,
 ) -> Result<(), OpFault>
+    // The lot lies on the disk.
     requires sited { is_sited lot.now (D.state disk.old).size ≡ true }
     requires number { number < 64 * length lot.now.groups }
     requires few { count ≤ most_entries }
     requires empty { room.old.entries ≡ [] }
+    // Over a lot that recovers a tree, it finds what the tree has; the disk alone may fail.
     ensures listed { (h : ℕ) (es : Entries) → IfShown V.View lot.now view.old disk.old (λ old.
-        Reads (form_of F.VERSION) lot.now (own (form_of F.VERSION) old) number h (Dir es)
-        → count ≡ length (rows es) → IsReached (form_of F.VERSION) lot.now old number
-        → ¬ BadEntry (form_of F.VERSION) lot.now old
-        → OnOk result (room.new.entries ≡ map (listed_as es) (rows_in (form_of F.VERSION) (own (form_of F.VERSION) old number)))) }
+        ReadsIn F.VERSION lot.now old number h (Dir es) → count ≡ length (rows es)
+        → IsReached (form_of F.VERSION) lot.now old number → ¬ BadEntry (form_of F.VERSION) lot.now old
+        → OnOk result (room.new.entries ≡ map (listed_as es)
+        (rows_in (form_of F.VERSION) (own (form_of F.VERSION) old number)))) }
     ensures sound { (h : ℕ) (es : Entries) → IfShown V.View lot.now view.old disk.old (λ old.
-        Reads (form_of F.VERSION) lot.now (own (form_of F.VERSION) old) number h (Dir es)
-        → count ≡ length (rows es) → IsReached (form_of F.VERSION) lot.now old number
-        → ¬ BadEntry (form_of F.VERSION) lot.now old → IfErr result (λ e. e ≡ FaultDisk)) }
+        ReadsIn F.VERSION lot.now old number h (Dir es) → count ≡ length (rows es)
+        → IsReached (form_of F.VERSION) lot.now old number → ¬ BadEntry (form_of F.VERSION) lot.now old
+        → FailsByDisk result) }
+    // What it answers of any lot, damaged or not.
     ensures all { OnOk result (length room.new.entries ≡ count) }
-    ensures bytes { room.new.bytes ≡ room.old.bytes }
-    ensures rows { room.new.rows ≡ room.old.rows }
+    // Damage that it names is there.
     ensures broken { IfShown V.View lot.now view.old disk.old (λ old.
         IsReached (form_of F.VERSION) lot.now old number → IsDirectory lot.now (inode_of old number)
         → count ≤ (inode_of old number).size → IfErr result (IsBrokenBy (form_of F.VERSION) lot.now old)) }
+    // What stays as it was.
+    ensures bytes { room.new.bytes ≡ room.old.bytes }
+    ensures rows { room.new.rows ≡ room.old.rows }
     ensures looked { Looked D.Disk V.View lot.now view.old disk.old view.new disk.new }
+    // Which refusals there are, and when a fault comes.
     ensures faults { IfErr result IsListFault }
     ensures failed { IsErrOf result FaultDisk → Rose (D.state disk.old).faults (D.state disk.new).faults }
 {
@@ -116,12 +124,15 @@ fn add_entries<D: Disk, V: View<D>, F: Form>(
 
 /// Puts the entries of a room in ascending order of the bytes of their names, and answers how many there are.
 fn in_order(room: &mut Room) -> Value
+    // What it is called with.
     requires { room.old.rows ≡ [] }
+    // What it answers of any lot, damaged or not.
     ensures permutation { IsPermutation room.old.entries room.new.entries }
     ensures sorted { IsSorted by_name room.new.entries }
+    ensures number { result ≡ Listed (length room.new.entries) }
+    // What stays as it was.
     ensures bytes { room.new.bytes ≡ room.old.bytes }
     ensures rows { room.new.rows ≡ [] }
-    ensures number { result ≡ Listed (length room.new.entries) }
 {
     room.sort_entries();
     Value::Listed(room.entries().len() as u32)
@@ -137,24 +148,29 @@ pub fn list<D: Disk, V: View<D>, F: Form>(
     depth: usize,
     room: &mut Room,
 ) -> Reply
+    // The lot lies on the disk and has a group, the path begins with the cube's names, and the room for the answer is empty.
     requires sited { is_sited lot.now (D.state disk.old).size ≡ true }
     requires some { 1 ≤ length lot.now.groups }
     requires depth { depth ≤ length path.now }
     requires bytes { room.old.bytes ≡ [] }
     requires entries { room.old.entries ≡ [] }
     requires rows { room.old.rows ≡ [] }
-    ensures answers { (mode k : ℕ) (t : Tree) → IfShown V.View lot.now view.old disk.old (λ old.
-        MapRecovers (form_of F.VERSION) mode lot.now old t k
-        → AsModel (meant result room.new) (answer t k (length lot.now.groups) (form_of F.VERSION) (ListDir (drop depth path.now))).0) }
-    ensures paths { ShownBy (paths_refusal (form_of F.VERSION) (drop depth path.now ∷ [])) result }
-    ensures untouched { (r : Why) → paths_refusal (form_of F.VERSION) (drop depth path.now ∷ []) ≡ Some r
-        → (disk.new ≡ disk.old) × (view.new ≡ view.old) }
+    // Over a lot that recovers a tree, the answer is the model's.
+    ensures answers { AnswersAs V.View F.VERSION lot.now view.old disk.old
+        (ListDir (drop depth path.now)) (meant result room.new) }
+    // What it answers of any lot, damaged or not.
     ensures tallies { Tallies result room.new }
+    // Damage that it names is there.
+    ensures damaged { NamesBroken V.View (form_of F.VERSION) lot.now view.old disk.old result }
+    // Names alone refuse a path before any call of the disk.
+    ensures paths { RefusesPaths F.VERSION (drop depth path.now ∷ []) result }
+    ensures untouched { Untouched F.VERSION (drop depth path.now ∷ [])
+        view.old disk.old view.new disk.new }
+    // What stays as it was.
     ensures bytes { room.new.bytes ≡ [] }
     ensures rows { room.new.rows ≡ [] }
-    ensures damaged { (n : ℕ) → IsErrOf result (Damaged n) → IfShown V.View lot.now view.old disk.old (λ old.
-        (r : Rule) × (n ≡ rule_number r) × IsBroken (form_of F.VERSION) lot.now old r) }
     ensures looked { Looked D.Disk V.View lot.now view.old disk.old view.new disk.new }
+    // Which refusals there are, and when a fault comes.
     ensures set { IfErr result (IsOneOf look_refusals list_rules) }
     ensures failed { IsErrOf result Fault → Rose (D.state disk.old).faults (D.state disk.new).faults }
 {
@@ -163,7 +179,7 @@ pub fn list<D: Disk, V: View<D>, F: Form>(
     }
     match dir_at::<D, V, F>(view, disk, lot, path, depth) {
         Err(refusal) => Err(refusal),
-        Ok(dir) => match add_entries::<D, V, F>(view, disk, lot, dir.number, dir.size, room) {
+        Ok(dir) => match add_entries::<D, V, F>(view, disk, lot, dir.number, dir.entries, room) {
             Err(fault) => Err(refusal_of(fault)),
             Ok(()) => Ok(in_order(room)),
         },

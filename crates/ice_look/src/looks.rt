@@ -1,26 +1,22 @@
 //! Commands that change nothing.
-ghost use Rattle.std.specs.Prelude.{◌≡◌, ◌≤◌, ◌<◌, ◌*◌, ℕ, List, true, false, [], ◌∷◌, Some, IfOk, IfErr, IsErrOf, MatchResult, length, drop};
+ghost use Rattle.std.specs.Prelude.{◌≡◌, ◌≤◌, ◌<◌, ◌*◌, ℕ, List, true, [], ◌∷◌, IfOk, IfErr, IsErrOf, length, drop};
 ghost use Rattle.ice_base.specs.Disk.{Rose};
 ghost use Rattle.ice_base.specs.Lots.{is_sited};
 ghost use Rattle.ice_base.specs.Views.{Looked, IfShown};
-ghost use Rattle.ice_base.specs.declared.fault.Rule.{Rule};
-ghost use Rattle.tree_spec.specs.Held.{most_bytes, Held};
+ghost use Rattle.tree_spec.specs.Held.{Held, most_bytes};
 ghost use Rattle.tree_spec.specs.Answers.{answer};
 ghost use Rattle.tree_spec.specs.Costs.{form_of, form_one};
 ghost use Rattle.tree_spec.specs.Operations.{Read, Stat};
-ghost use Rattle.tree_spec.specs.Replies.{meant, refused_of, Tallies};
-ghost use Rattle.tree_spec.specs.Trees.{Tree, Entries, Found, File, Dir, rows, walk};
-ghost use Rattle.tree_spec.specs.Why.{Why};
-ghost use Rattle.tree_spec.specs.declared.reply.Refusal.TheVariants.{Fault, Damaged};
-ghost use Rattle.ice_reads.specs.Reads.{inode_on};
-ghost use Rattle.ice_reads.specs.Recovers.{MapRecovers};
+ghost use Rattle.tree_spec.specs.Replies.{meant, Tallies};
+ghost use Rattle.tree_spec.specs.Trees.{Found, File, walk};
+ghost use Rattle.tree_spec.specs.declared.reply.Refusal.TheVariants.{Fault};
 ghost use Rattle.ice_map.specs.Own.{own};
-ghost use Rattle.ice_rules.specs.Rules.{rule_number};
-ghost use Rattle.ice_look.specs.Broken.{IsBroken};
-ghost use Rattle.ice_look.specs.Outcomes.{AsModel, RefusedAs, ShownBy, IsOneOf, read_refusals, look_refusals, look_rules};
+ghost use Rattle.ice_look.specs.Outcomes.{IsOneOf, read_refusals, look_refusals, look_rules};
 ghost use Rattle.ice_look.specs.Places.{IsReached, PlaceIs};
-ghost use Rattle.ice_look.specs.Stages.{paths_refusal, file_refusal, dir_refusal};
+ghost use Rattle.ice_look.specs.Stages.{file_refusal, dir_refusal};
 ghost use Rattle.ice_look.specs.declared.place.Place.TheVariants.{File as AtFile, Dir as AtDir};
+ghost use Rattle.ice_look.specs.Ends.{IsDirAt, DirFits};
+ghost use Rattle.ice_look.specs.Calls.{IfRecovers, AnswersAs, inode_at, Finds, RefusesPaths, Untouched, NamesBroken};
 
 use crate::fault::refusal_of;
 use crate::paths::check_path;
@@ -44,23 +40,27 @@ pub fn file_at<D: Disk, V: View<D>, F: Form>(
     path: &Path,
     depth: usize,
 ) -> Result<FileAt, Refusal>
+    // The lot lies on the disk and has a group, and the path begins with the cube's names.
     requires sited { is_sited lot.now (D.state disk.old).size ≡ true }
     requires some { 1 ≤ length lot.now.groups }
     requires depth { depth ≤ length path.now }
-    ensures found { (mode k : ℕ) (t : Tree) → IfShown V.View lot.now view.old disk.old (λ old.
-        MapRecovers (form_of F.VERSION) mode lot.now old t k
-        → MatchResult result (λ file. (bytes : List ℕ)
-        × (walk (drop depth path.now) t ≡ Found (File bytes))
-        × (file.number ≡ inode_on (form_of F.VERSION) (own (form_of F.VERSION) old) 0 (drop depth path.now)) × (file.size ≡ length bytes)) (λ r. RefusedAs (refused_of r) (file_refusal (walk (drop depth path.now) t)))) }
+    // Over a lot that recovers a tree, it finds what the tree has.
+    ensures found { IfRecovers V.View F.VERSION lot.now view.old disk.old (λ old t _.
+        Finds (λ file. (bytes : List ℕ) × (walk (drop depth path.now) t ≡ Found (File bytes))
+        × (file.number ≡ inode_at F.VERSION old (drop depth path.now)) × (file.size ≡ length bytes))
+        (file_refusal (walk (drop depth path.now) t)) result) }
+    // What it answers of any lot, damaged or not.
     ensures fits { IfOk result (λ file. (file.number < 64 * length lot.now.groups)
         × (file.size ≤ form_one.longest_file)) }
     ensures is { IfShown V.View lot.now view.old disk.old (λ old.
         IfOk result (λ file. PlaceIs old (AtFile file.number file.size))) }
     ensures reached { IfShown V.View lot.now view.old disk.old (λ old.
         IfOk result (λ file. IsReached (form_of F.VERSION) lot.now old file.number)) }
-    ensures damaged { (n : ℕ) → IsErrOf result (Damaged n) → IfShown V.View lot.now view.old disk.old (λ old.
-        (r : Rule) × (n ≡ rule_number r) × IsBroken (form_of F.VERSION) lot.now old r) }
+    // Damage that it names is there.
+    ensures damaged { NamesBroken V.View (form_of F.VERSION) lot.now view.old disk.old result }
+    // What stays as it was.
     ensures looked { Looked D.Disk V.View lot.now view.old disk.old view.new disk.new }
+    // Which refusals there are, and when a fault comes.
     ensures set { IfErr result (IsOneOf read_refusals look_rules) }
     ensures failed { IsErrOf result Fault → Rose (D.state disk.old).faults (D.state disk.new).faults }
 {
@@ -73,11 +73,11 @@ pub fn file_at<D: Disk, V: View<D>, F: Form>(
     }
 }
 
-/// The directory at a path's end: the number of its inode, and how many entries it has.
+/// A directory at a path's end, or one in which an entry stands or is to stand: the number of its inode, and how many entries it has.
 #[derive(Clone, Copy, Drop)]
-pub(crate) struct DirAt {
+pub struct DirAt {
     pub number: u32,
-    pub size: u32,
+    pub entries: u32,
 }
 
 /// The directory at a path's end. NotFound and NotDir: the walk ends so. NotDir: a file stands there.
@@ -88,27 +88,33 @@ pub(crate) fn dir_at<D: Disk, V: View<D>, F: Form>(
     path: &Path,
     depth: usize,
 ) -> Result<DirAt, Refusal>
+    // The lot lies on the disk and has a group, and the path begins with the cube's names.
     requires sited { is_sited lot.now (D.state disk.old).size ≡ true }
     requires some { 1 ≤ length lot.now.groups }
     requires depth { depth ≤ length path.now }
-    ensures found { (mode k : ℕ) (t : Tree) → IfShown V.View lot.now view.old disk.old (λ old.
-        MapRecovers (form_of F.VERSION) mode lot.now old t k
-        → MatchResult result (λ dir. (es : Entries) × (walk (drop depth path.now) t ≡ Found (Dir es))
-        × (dir.number ≡ inode_on (form_of F.VERSION) (own (form_of F.VERSION) old) 0 (drop depth path.now)) × (dir.size ≡ length (rows es))) (λ r. RefusedAs (refused_of r) (dir_refusal (walk (drop depth path.now) t)))) }
-    ensures fits { IfOk result (λ dir. (dir.number < 64 * length lot.now.groups)
-        × (dir.size < 64 * length lot.now.groups)) }
+    // Over a lot that recovers a tree, it finds what the tree has.
+    ensures found { IfRecovers V.View F.VERSION lot.now view.old disk.old (λ old t _.
+        Finds (IsDirAt (form_of F.VERSION) (own (form_of F.VERSION) old)
+        (drop depth path.now) t) (dir_refusal (walk (drop depth path.now) t)) result) }
+    // What it answers of any lot, damaged or not.
+    ensures fits { IfOk result (DirFits lot.now) }
     ensures is { IfShown V.View lot.now view.old disk.old (λ old.
-        IfOk result (λ dir. PlaceIs old (AtDir dir.number dir.size))) }
+        IfOk result (λ dir. PlaceIs old (AtDir dir.number dir.entries))) }
     ensures reached { IfShown V.View lot.now view.old disk.old (λ old.
         IfOk result (λ dir. IsReached (form_of F.VERSION) lot.now old dir.number)) }
-    ensures damaged { (n : ℕ) → IsErrOf result (Damaged n) → IfShown V.View lot.now view.old disk.old (λ old.
-        (r : Rule) × (n ≡ rule_number r) × IsBroken (form_of F.VERSION) lot.now old r) }
+    // Damage that it names is there.
+    ensures damaged { NamesBroken V.View (form_of F.VERSION) lot.now view.old disk.old result }
+    // What stays as it was.
     ensures looked { Looked D.Disk V.View lot.now view.old disk.old view.new disk.new }
+    // Which refusals there are, and when a fault comes.
     ensures set { IfErr result (IsOneOf look_refusals look_rules) }
     ensures failed { IsErrOf result Fault → Rose (D.state disk.old).faults (D.state disk.new).faults }
 {
     match walk::<D, V, F>(view, disk, lot, path, depth, path.len()) {
-        Ok(Place::Dir { number, size }) => Ok(DirAt { number, size }),
+        Ok(Place::Dir { number, size }) => Ok(DirAt {
+            number,
+            entries: size,
+        }),
         Ok(Place::File { .. }) => Err(Refusal::NotDir),
         Ok(Place::Missing) => Err(Refusal::NotFound),
         Ok(Place::Blocked) => Err(Refusal::NotDir),
@@ -128,6 +134,7 @@ pub fn read<D: Disk, V: View<D>, F: Form>(
     len: u32,
     room: &mut Room,
 ) -> Reply
+    // The lot lies on the disk and has a group, the path begins with the cube's names, and the room for the answer is empty.
     requires sited { is_sited lot.now (D.state disk.old).size ≡ true }
     requires some { 1 ≤ length lot.now.groups }
     requires depth { depth ≤ length path.now }
@@ -135,18 +142,22 @@ pub fn read<D: Disk, V: View<D>, F: Form>(
     requires bytes { room.old.bytes ≡ [] }
     requires entries { room.old.entries ≡ [] }
     requires rows { room.old.rows ≡ [] }
-    ensures answers { (mode k : ℕ) (t : Tree) → IfShown V.View lot.now view.old disk.old (λ old.
-        MapRecovers (form_of F.VERSION) mode lot.now old t k
-        → AsModel (meant result room.new) (answer t k (length lot.now.groups) (form_of F.VERSION) (Read (drop depth path.now) at len)).0) }
-    ensures paths { ShownBy (paths_refusal (form_of F.VERSION) (drop depth path.now ∷ [])) result }
-    ensures untouched { (r : Why) → paths_refusal (form_of F.VERSION) (drop depth path.now ∷ []) ≡ Some r
-        → (disk.new ≡ disk.old) × (view.new ≡ view.old) }
+    // Over a lot that recovers a tree, the answer is the model's.
+    ensures answers { AnswersAs V.View F.VERSION lot.now view.old disk.old
+        (Read (drop depth path.now) at len) (meant result room.new) }
+    // What it answers of any lot, damaged or not.
     ensures tallies { Tallies result room.new }
+    // Damage that it names is there.
+    ensures damaged { NamesBroken V.View (form_of F.VERSION) lot.now view.old disk.old result }
+    // Names alone refuse a path before any call of the disk.
+    ensures paths { RefusesPaths F.VERSION (drop depth path.now ∷ []) result }
+    ensures untouched { Untouched F.VERSION (drop depth path.now ∷ [])
+        view.old disk.old view.new disk.new }
+    // What stays as it was.
     ensures entries { room.new.entries ≡ [] }
     ensures rows { room.new.rows ≡ [] }
-    ensures damaged { (n : ℕ) → IsErrOf result (Damaged n) → IfShown V.View lot.now view.old disk.old (λ old.
-        (r : Rule) × (n ≡ rule_number r) × IsBroken (form_of F.VERSION) lot.now old r) }
     ensures looked { Looked D.Disk V.View lot.now view.old disk.old view.new disk.new }
+    // Which refusals there are, and when a fault comes.
     ensures set { IfErr result (IsOneOf read_refusals look_rules) }
     ensures failed { IsErrOf result Fault → Rose (D.state disk.old).faults (D.state disk.new).faults }
 {
@@ -175,19 +186,24 @@ pub fn stat<D: Disk, V: View<D>, F: Form>(
     path: &Path,
     depth: usize,
 ) -> Reply
+    // The lot lies on the disk and has a group, and the path begins with the cube's names.
     requires sited { is_sited lot.now (D.state disk.old).size ≡ true }
     requires some { 1 ≤ length lot.now.groups }
     requires depth { depth ≤ length path.now }
-    ensures answers { (mode k : ℕ) (t : Tree) (room : Held) → IfShown V.View lot.now view.old disk.old (λ old.
-        MapRecovers (form_of F.VERSION) mode lot.now old t k
-        → AsModel (meant result room) (answer t k (length lot.now.groups) (form_of F.VERSION) (Stat (drop depth path.now))).0) }
-    ensures paths { ShownBy (paths_refusal (form_of F.VERSION) (drop depth path.now ∷ [])) result }
-    ensures untouched { (r : Why) → paths_refusal (form_of F.VERSION) (drop depth path.now ∷ []) ≡ Some r
-        → (disk.new ≡ disk.old) × (view.new ≡ view.old) }
+    // Over a lot that recovers a tree, the answer is the model's.
+    ensures answers { (room : Held) → AnswersAs V.View F.VERSION lot.now view.old disk.old
+        (Stat (drop depth path.now)) (meant result room) }
+    // What it answers of any lot, damaged or not.
     ensures tallies { (room : Held) → Tallies result room }
-    ensures damaged { (n : ℕ) → IsErrOf result (Damaged n) → IfShown V.View lot.now view.old disk.old (λ old.
-        (r : Rule) × (n ≡ rule_number r) × IsBroken (form_of F.VERSION) lot.now old r) }
+    // Damage that it names is there.
+    ensures damaged { NamesBroken V.View (form_of F.VERSION) lot.now view.old disk.old result }
+    // Names alone refuse a path before any call of the disk.
+    ensures paths { RefusesPaths F.VERSION (drop depth path.now ∷ []) result }
+    ensures untouched { Untouched F.VERSION (drop depth path.now ∷ [])
+        view.old disk.old view.new disk.new }
+    // What stays as it was.
     ensures looked { Looked D.Disk V.View lot.now view.old disk.old view.new disk.new }
+    // Which refusals there are, and when a fault comes.
     ensures set { IfErr result (IsOneOf look_refusals look_rules) }
     ensures failed { IsErrOf result Fault → Rose (D.state disk.old).faults (D.state disk.new).faults }
 {

@@ -1,12 +1,11 @@
 //! Refusals that the names of paths show by themselves.
-ghost use Rattle.std.specs.Prelude.{◌≡◌, ◌≤◌, ◌⊎◌, None, length, drop, nat_lt, [], ◌∷◌, MatchResult, IfErr};
+ghost use Rattle.std.specs.Prelude.{◌≡◌, ◌≤◌, ◌⊎◌, length, drop, nat_lt, [], ◌∷◌, IfErr};
 ghost use Rattle.std.specs.List.{list_any};
 ghost use Rattle.tree_spec.specs.Answers.{deepest};
 ghost use Rattle.tree_spec.specs.Costs.{form_of};
-ghost use Rattle.tree_spec.specs.Replies.{refused_of};
 ghost use Rattle.tree_spec.specs.declared.reply.Refusal.TheVariants.{NameLong, TooDeep};
-ghost use Rattle.ice_look.specs.Outcomes.{RefusedAs};
 ghost use Rattle.ice_look.specs.Stages.{paths_refusal};
+ghost use Rattle.ice_look.specs.Calls.{RefusedBy};
 
 use ice_base::Form;
 use tree_spec::{Path, Refusal};
@@ -17,7 +16,8 @@ pub const DEEPEST: usize = 24;
 /// Whether one of the names from `depth` on is longer than the form's longest name.
 pub(crate) fn has_long_name<F: Form>(path: &Path, depth: usize) -> bool
     requires { depth ≤ length path.now }
-    ensures { result ≡ list_any (λ c. nat_lt (form_of F.VERSION).longest_name (length c)) (drop depth path.now) }
+    ensures { result ≡ list_any (λ c. nat_lt (form_of F.VERSION).longest_name (length c))
+        (drop depth path.now) }
 {
     for k in depth..path.len() {
         let name = path.name(k);
@@ -39,7 +39,8 @@ pub(crate) fn is_deep(path: &Path, depth: usize) -> bool
 /// Refuses a path by its names: NameLong, then TooDeep.
 pub fn check_path<F: Form>(path: &Path, depth: usize) -> Result<(), Refusal>
     requires { depth ≤ length path.now }
-    ensures refusal { MatchResult result (λ u. paths_refusal (form_of F.VERSION) (drop depth path.now ∷ []) ≡ None) (λ r. RefusedAs (refused_of r) (paths_refusal (form_of F.VERSION) (drop depth path.now ∷ []))) }
+    ensures refusal { RefusedBy (paths_refusal (form_of F.VERSION) (drop depth path.now ∷ []))
+        result }
     ensures set { IfErr result (λ r. (r ≡ NameLong) ⊎ (r ≡ TooDeep)) }
 {
     if has_long_name::<F>(path, depth) {
@@ -55,7 +56,8 @@ pub fn check_path<F: Form>(path: &Path, depth: usize) -> Result<(), Refusal>
 pub fn check_paths<F: Form>(path: &Path, to: &Path, depth: usize) -> Result<(), Refusal>
     requires path { depth ≤ length path.now }
     requires to { depth ≤ length to.now }
-    ensures refusal { MatchResult result (λ u. paths_refusal (form_of F.VERSION) (drop depth path.now ∷ drop depth to.now ∷ []) ≡ None) (λ r. RefusedAs (refused_of r) (paths_refusal (form_of F.VERSION) (drop depth path.now ∷ drop depth to.now ∷ []))) }
+    ensures refusal { RefusedBy (paths_refusal (form_of F.VERSION)
+        (drop depth path.now ∷ drop depth to.now ∷ [])) result }
     ensures set { IfErr result (λ r. (r ≡ NameLong) ⊎ (r ≡ TooDeep)) }
 {
     if has_long_name::<F>(path, depth) || has_long_name::<F>(to, depth) {

@@ -13,8 +13,7 @@ ghost use Rattle.tree_spec.specs.Trees.{Tree, child, Found};
 ghost use Rattle.tree_spec.specs.Costs.{form_of};
 ghost use Rattle.ice_map.specs.Own.{own};
 ghost use Rattle.ice_reads.specs.Tables.{rows_in, inode_named};
-ghost use Rattle.ice_reads.specs.Reads.{Reads};
-ghost use Rattle.ice_reads.specs.Recovers.{MapRecovers};
+ghost use Rattle.ice_look.specs.Calls.{IfRecovers, FailsByDisk, FailsByDiskAlone, ReadsIn};
 
 use ice_base::{Disk, Form, Lot, OpFault, Rule, View};
 use ice_dir::find;
@@ -38,24 +37,29 @@ pub(crate) fn look<D: Disk, V: View<D>, F: Form>(
     lot: &Lot,
     number: u32,
 ) -> Result<Place, OpFault>
+    // The lot lies on the disk.
     requires sited { is_sited lot.now (D.state disk.old).size ≡ true }
     requires number { number < 64 * length lot.now.groups }
+    // Over a lot that recovers a tree, it finds what the tree has; the disk alone may fail.
     ensures place { (h : ℕ) (t : Tree) → IfShown V.View lot.now view.old disk.old (λ old.
-        Reads (form_of F.VERSION) lot.now (own (form_of F.VERSION) old) number h t
+        ReadsIn F.VERSION lot.now old number h t
         → IfOk result (λ p. p ≡ place_by number (Found t))) }
     ensures sound { (h : ℕ) (t : Tree) → IfShown V.View lot.now view.old disk.old (λ old.
-        Reads (form_of F.VERSION) lot.now (own (form_of F.VERSION) old) number h t
-        → IfErr result (λ e. e ≡ FaultDisk)) }
+        ReadsIn F.VERSION lot.now old number h t → FailsByDisk result) }
+    // What it answers of any lot, damaged or not.
     ensures fits { IfOk result (PlaceFits lot.now) }
     ensures at { IfOk result (PlaceOf number) }
     ensures is { IfShown V.View lot.now view.old disk.old (λ old. IfOk result (PlaceIs old)) }
     ensures reached { IfShown V.View lot.now view.old disk.old (λ old.
         Reached (form_of F.VERSION) lot.now old number → IfOk result (PlaceReached (form_of F.VERSION) lot.now old)) }
+    // Damage that it names is there.
     ensures broken { IfShown V.View lot.now view.old disk.old (λ old.
         Reached (form_of F.VERSION) lot.now old number → IfErr result (IsBrokenBy (form_of F.VERSION) lot.now old)) }
     ensures kind { IsErrOf result (Damaged Kind) → IfShown V.View lot.now view.old disk.old (λ old.
         ¬ IsNode lot.now (inode_of old number)) }
+    // What stays as it was.
     ensures looked { Looked D.Disk V.View lot.now view.old disk.old view.new disk.new }
+    // Which refusals there are, and when a fault comes.
     ensures faults { IfErr result IsWalkFault }
     ensures failed { IsErrOf result FaultDisk → Rose (D.state disk.old).faults (D.state disk.new).faults }
 {
@@ -78,23 +82,28 @@ pub(crate) fn enter<D: Disk, V: View<D>, F: Form>(
     lot: &Lot,
     number: u32,
 ) -> Result<Place, OpFault>
+    // The lot lies on the disk.
     requires sited { is_sited lot.now (D.state disk.old).size ≡ true }
+    // Over a lot that recovers a tree, it finds what the tree has; the disk alone may fail.
     ensures place { (h : ℕ) (t : Tree) → IfShown V.View lot.now view.old disk.old (λ old.
-        Reads (form_of F.VERSION) lot.now (own (form_of F.VERSION) old) number h t
+        ReadsIn F.VERSION lot.now old number h t
         → IfOk result (λ p. p ≡ place_by number (Found t))) }
     ensures sound { (h : ℕ) (t : Tree) → IfShown V.View lot.now view.old disk.old (λ old.
-        Reads (form_of F.VERSION) lot.now (own (form_of F.VERSION) old) number h t
-        → IfErr result (λ e. e ≡ FaultDisk)) }
+        ReadsIn F.VERSION lot.now old number h t → FailsByDisk result) }
+    // What it answers of any lot, damaged or not.
     ensures fits { IfOk result (PlaceFits lot.now) }
     ensures at { IfOk result (PlaceOf number) }
     ensures is { IfShown V.View lot.now view.old disk.old (λ old. IfOk result (PlaceIs old)) }
     ensures reached { IfShown V.View lot.now view.old disk.old (λ old.
         Reached (form_of F.VERSION) lot.now old number → IfOk result (PlaceReached (form_of F.VERSION) lot.now old)) }
+    // Damage that it names is there.
     ensures broken { IfShown V.View lot.now view.old disk.old (λ old.
         Reached (form_of F.VERSION) lot.now old number
         → (64 * length lot.now.groups ≤ number → BadEntry (form_of F.VERSION) lot.now old)
         → IfErr result (IsBrokenBy (form_of F.VERSION) lot.now old)) }
+    // What stays as it was.
     ensures looked { Looked D.Disk V.View lot.now view.old disk.old view.new disk.new }
+    // Which refusals there are, and when a fault comes.
     ensures faults { IfErr result IsWalkFault }
     ensures failed { IsErrOf result FaultDisk → Rose (D.state disk.old).faults (D.state disk.new).faults }
 {
@@ -111,23 +120,28 @@ pub(crate) fn enter_named<D: Disk, V: View<D>, F: Form>(
     lot: &Lot,
     number: u32,
 ) -> Result<Place, OpFault>
+    // The lot lies on the disk.
     requires sited { is_sited lot.now (D.state disk.old).size ≡ true }
+    // Over a lot that recovers a tree, it finds what the tree has; the disk alone may fail.
     ensures place { (h : ℕ) (t : Tree) → IfShown V.View lot.now view.old disk.old (λ old.
-        number ≢ 0 → Reads (form_of F.VERSION) lot.now (own (form_of F.VERSION) old) number h t
+        number ≢ 0 → ReadsIn F.VERSION lot.now old number h t
         → IfOk result (λ p. p ≡ place_by number (Found t))) }
     ensures sound { (h : ℕ) (t : Tree) → IfShown V.View lot.now view.old disk.old (λ old.
-        number ≢ 0 → Reads (form_of F.VERSION) lot.now (own (form_of F.VERSION) old) number h t
-        → IfErr result (λ e. e ≡ FaultDisk)) }
+        number ≢ 0 → ReadsIn F.VERSION lot.now old number h t → FailsByDisk result) }
+    // What it answers of any lot, damaged or not.
     ensures fits { IfOk result (PlaceFits lot.now) }
     ensures at { IfOk result (PlaceOf number) }
     ensures is { IfShown V.View lot.now view.old disk.old (λ old. IfOk result (PlaceIs old)) }
     ensures reached { IfShown V.View lot.now view.old disk.old (λ old.
         Reached (form_of F.VERSION) lot.now old number → IfOk result (PlaceReached (form_of F.VERSION) lot.now old)) }
+    // Damage that it names is there.
     ensures broken { IfShown V.View lot.now view.old disk.old (λ old.
         Reached (form_of F.VERSION) lot.now old number
         → ((number ≡ 0) ⊎ (64 * length lot.now.groups ≤ number) → BadEntry (form_of F.VERSION) lot.now old)
         → IfErr result (IsBrokenBy (form_of F.VERSION) lot.now old)) }
+    // What stays as it was.
     ensures looked { Looked D.Disk V.View lot.now view.old disk.old view.new disk.new }
+    // Which refusals there are, and when a fault comes.
     ensures faults { IfErr result IsWalkFault }
     ensures failed { IsErrOf result FaultDisk → Rose (D.state disk.old).faults (D.state disk.new).faults }
 {
@@ -145,17 +159,20 @@ pub(crate) fn step<D: Disk, V: View<D>, F: Form>(
     from: Place,
     name: &Name,
 ) -> Result<Place, OpFault>
+    // The lot lies on the disk.
     requires sited { is_sited lot.now (D.state disk.old).size ≡ true }
     requires fits { PlaceFits lot.now from }
+    // Over a lot that recovers a tree, it finds what the tree has; the disk alone may fail.
     ensures place { (i h : ℕ) (t : Tree) → IfShown V.View lot.now view.old disk.old (λ old.
-        Reads (form_of F.VERSION) lot.now (own (form_of F.VERSION) old) i h t
-        → from ≡ place_by i (Found t) → PlaceReached (form_of F.VERSION) lot.now old from
-        → ¬ BadEntry (form_of F.VERSION) lot.now old
-        → IfOk result (λ p. p ≡ place_by (inode_named name.now (rows_in (form_of F.VERSION) (own (form_of F.VERSION) old i))) (child name.now t))) }
+        ReadsIn F.VERSION lot.now old i h t → from ≡ place_by i (Found t)
+        → PlaceReached (form_of F.VERSION) lot.now old from → ¬ BadEntry (form_of F.VERSION) lot.now old
+        → IfOk result (λ p. p ≡ place_by (inode_named name.now
+        (rows_in (form_of F.VERSION) (own (form_of F.VERSION) old i))) (child name.now t))) }
     ensures sound { (i h : ℕ) (t : Tree) → IfShown V.View lot.now view.old disk.old (λ old.
-        Reads (form_of F.VERSION) lot.now (own (form_of F.VERSION) old) i h t
-        → from ≡ place_by i (Found t) → PlaceReached (form_of F.VERSION) lot.now old from
-        → ¬ BadEntry (form_of F.VERSION) lot.now old → IfErr result (λ e. e ≡ FaultDisk)) }
+        ReadsIn F.VERSION lot.now old i h t → from ≡ place_by i (Found t)
+        → PlaceReached (form_of F.VERSION) lot.now old from → ¬ BadEntry (form_of F.VERSION) lot.now old
+        → FailsByDisk result) }
+    // What it answers of any lot, damaged or not.
     ensures missing { from ≡ Missing → result ≡ Ok Missing }
     ensures blocked { from ≡ Blocked → result ≡ Ok Blocked }
     ensures fits { IfOk result (PlaceFits lot.now) }
@@ -164,10 +181,13 @@ pub(crate) fn step<D: Disk, V: View<D>, F: Form>(
         PlaceReached (form_of F.VERSION) lot.now old from → IfOk result (PlaceReached (form_of F.VERSION) lot.now old)) }
     ensures named { IfShown V.View lot.now view.old disk.old (λ old.
         IfOk result (PlaceNamed (form_of F.VERSION) old from name.now)) }
+    // Damage that it names is there.
     ensures broken { IfShown V.View lot.now view.old disk.old (λ old.
         PlaceIs old from → PlaceReached (form_of F.VERSION) lot.now old from
         → IfErr result (IsBrokenBy (form_of F.VERSION) lot.now old)) }
+    // What stays as it was.
     ensures looked { Looked D.Disk V.View lot.now view.old disk.old view.new disk.new }
+    // Which refusals there are, and when a fault comes.
     ensures faults { IfErr result IsWalkFault }
     ensures failed { IsErrOf result FaultDisk → Rose (D.state disk.old).faults (D.state disk.new).faults }
 {
@@ -192,22 +212,27 @@ pub(crate) fn walk<D: Disk, V: View<D>, F: Form>(
     depth: usize,
     end: usize,
 ) -> Result<Place, OpFault>
+    // The lot lies on the disk and has a group, and the path begins with the cube's names.
     requires sited { is_sited lot.now (D.state disk.old).size ≡ true }
     requires some { 1 ≤ length lot.now.groups }
     requires order { depth ≤ end }
     requires within { end ≤ length path.now }
-    ensures place { (mode k : ℕ) (t : Tree) → IfShown V.View lot.now view.old disk.old (λ old.
-        MapRecovers (form_of F.VERSION) mode lot.now old t k
-        → IfOk result (λ p. p ≡ place_at (form_of F.VERSION) (own (form_of F.VERSION) old) (take (end - depth) (drop depth path.now)) t)) }
-    ensures sound { (mode k : ℕ) (t : Tree) → IfShown V.View lot.now view.old disk.old (λ old.
-        MapRecovers (form_of F.VERSION) mode lot.now old t k → IfErr result (λ e. e ≡ FaultDisk)) }
+    // Over a lot that recovers a tree, it finds what the tree has; the disk alone may fail.
+    ensures place { IfRecovers V.View F.VERSION lot.now view.old disk.old (λ old t _.
+        IfOk result (λ p. p ≡ place_at (form_of F.VERSION) (own (form_of F.VERSION) old)
+        (take (end - depth) (drop depth path.now)) t)) }
+    ensures sound { FailsByDiskAlone V.View F.VERSION lot.now view.old disk.old result }
+    // What it answers of any lot, damaged or not.
     ensures fits { IfOk result (PlaceFits lot.now) }
     ensures is { IfShown V.View lot.now view.old disk.old (λ old. IfOk result (PlaceIs old)) }
     ensures reached { IfShown V.View lot.now view.old disk.old (λ old.
         IfOk result (PlaceReached (form_of F.VERSION) lot.now old)) }
+    // Damage that it names is there.
     ensures broken { IfShown V.View lot.now view.old disk.old (λ old.
         IfErr result (IsBrokenBy (form_of F.VERSION) lot.now old)) }
+    // What stays as it was.
     ensures looked { Looked D.Disk V.View lot.now view.old disk.old view.new disk.new }
+    // Which refusals there are, and when a fault comes.
     ensures faults { IfErr result IsWalkFault }
     ensures failed { IsErrOf result FaultDisk → Rose (D.state disk.old).faults (D.state disk.new).faults }
 {

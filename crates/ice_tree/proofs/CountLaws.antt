@@ -1,5 +1,5 @@
 -- One more accepted operation.
-use Rattle.std.proofs.Common.{◌≡◌, ◌≢◌, ◌≤◌, ◌+◌, ◌^◌, ℕ, Bool, true, false, None, sym, subst, ap, arith, length, nat_eq}
+use Rattle.std.proofs.Common.{◌≡◌, ◌≢◌, ◌≤◌, ◌+◌, ◌^◌, ℕ, Bool, true, false, None, sym, refl, subst, ap, arith, length, nat_eq}
 use Rattle.std.specs.Prelude.{◌&&◌}
 use Rattle.std.proofs.lemmas.Bool.Decides.{nat_tests}
 use Rattle.ice_base.specs.Lots.{LotView, sub_address}
@@ -19,6 +19,12 @@ use Rattle.ice_reads.proofs.Recovering.{recovers_small}
 use Rattle.ice_steps.specs.Beside.{DoneSet}
 use Rattle.ice_steps.proofs.Takes.{done_set}
 use Rattle.ice_tree.specs.Outcomes.{IsCountFault}
+
+-- a count that can rise fails by the disk alone
+count-fails : (e : OpFault) → IsCountFault e → (e ≡ Damaged Done → ⊥) → e ≡ Disk
+count-fails Disk h k = refl
+count-fails (Damaged Done) h k = absurd (k refl)
+count-fails _ h k = absurd h
 
 -- an accepted change is not the last that the number allows
 not_last : (b : Bool) (k : ℕ) → b ≡ true → (b && nat_eq k most_done) ≡ false → k ≢ most_done

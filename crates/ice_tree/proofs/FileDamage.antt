@@ -1,5 +1,5 @@
 -- Which rule a lot breaks where a file can't be written or cut after all.
-use Rattle.std.proofs.Common.{◌≡◌, ◌≤◌, ◌<◌, ◌+◌, ◌^◌, ℕ, true, false, length, refl, arith, inl, inr}
+use Rattle.std.proofs.Common.{◌≡◌, ◌≤◌, ◌<◌, ◌+◌, ◌^◌, ℕ, true, false, length, refl, arith, inl, inr, ap}
 use Rattle.std.specs.Prelude.{max}
 use Rattle.ice_base.specs.Lots.{LotView}
 use Rattle.ice_base.specs.Used.{is_data, counted, free_count, Reserved}

@@ -23,12 +23,12 @@ use Rattle.ice_reads.proofs.Sorted.{Reads-ordered}
 use Rattle.ice_look.specs.declared.place.Place.{Place}
 use Rattle.ice_look.specs.declared.place.Place.TheVariants.{File, Dir, Missing, Blocked}
 use Rattle.ice_look.specs.declared.ends.Ends.{Ends}
-use Rattle.ice_look.specs.declared.ends.Spot.{Spot}
+use Rattle.ice_look.specs.declared.looks.DirAt.{DirAt}
 use Rattle.ice_tree.specs.declared.quota.Need.{Need}
-use Rattle.ice_tree.specs.declared.removes.Gone.{Gone}
+use Rattle.ice_tree.specs.declared.removes.Removal.{Removal}
 use Rattle.ice_tree.specs.Quotas.{Needs}
-use Rattle.ice_look.specs.Ends.{IsEnds, IsSpot}
-use Rattle.ice_tree.specs.Removes.{gone_refusal, IsGone}
+use Rattle.ice_look.specs.Ends.{IsEnds, IsDirAt}
+use Rattle.ice_tree.specs.Removes.{removal_refusal, IsRemoval}
 use Rattle.ice_look.specs.Outcomes.{RefusedAs}
 use Rattle.ice_look.specs.Places.{place_by, place_at}
 use Rattle.ice_look.specs.Stages.{or_else, walk_refusal}
@@ -128,28 +128,28 @@ spot-walk i dir entries NotFound e = absurd cc
 spot-walk i dir entries tree.NotDir e = absurd cc
 
 -- the directory at a place
-pub spot-is : (f : Form) (o : Table) (names : Names) (t : Tree) (p : Place) (spot : Spot) → p ≡ place_at f o names t → p ≡ Dir spot.number spot.entries → IsSpot f o names t spot
+pub spot-is : (f : Form) (o : Table) (names : Names) (t : Tree) (p : Place) (spot : DirAt) → p ≡ place_at f o names t → p ≡ Dir spot.number spot.entries → IsDirAt f o names t spot
 spot-is f o names t p spot at is =
     let w = spot-walk (inode_on f o 0 names) spot.number spot.entries (walk names t) (sym is ∙ at) in
     record { inside = w.0; there = w.1; number = w.2; count = w.3 }
 
 module _ (f : Form) (o : Table) (p : Names) (t : Tree) (below : is_root p ≡ false) (ends : Ends) (is : IsEnds f o p t ends) where
-  pub gone-missing : ends.end ≡ Missing → gone_refusal p t ≡ Some why.NotFound
+  pub gone-missing : ends.end ≡ Missing → removal_refusal p t ≡ Some why.NotFound
   gone-missing e = missing-walk (inode_on f o 0 p) (walk p t) (is_root p) (sym e ∙ is.at_end)
 
-  pub gone-blocked : ends.end ≡ Blocked → gone_refusal p t ≡ Some why.NotDir
+  pub gone-blocked : ends.end ≡ Blocked → removal_refusal p t ≡ Some why.NotDir
   gone-blocked e = blocked-walk (inode_on f o 0 p) (walk p t) (is_root p) (sym e ∙ is.at_end)
 
-  pub gone-full : (number size : ℕ) → ends.end ≡ Dir number size → 0 < size → gone_refusal p t ≡ Some why.NotEmpty
+  pub gone-full : (number size : ℕ) → ends.end ≡ Dir number size → 0 < size → removal_refusal p t ≡ Some why.NotEmpty
   gone-full number size e some = full-walk (inode_on f o 0 p) number size (walk p t) (is_root p) below some (sym e ∙ is.at_end)
 
   -- the directory that holds it
-  abbrev In : ℕ → ℕ → Gone → Type 0
+  abbrev In : ℕ → ℕ → Removal → Type 0
   In number bytes gone = (ends.parent ≡ Dir gone.spot.number gone.spot.entries) × (gone.number ≡ number) × (gone.bytes ≡ bytes)
 
-  stands-in : (number bytes : ℕ) → Stands (inode_on f o 0 p) number bytes (walk p t) (is_root p) → (result : Result Gone Refusal)
+  stands-in : (number bytes : ℕ) → Stands (inode_on f o 0 p) number bytes (walk p t) (is_root p) → (result : Result Removal Refusal)
       → MatchResult result (In number bytes) (λ r. (r ≡ code.NotDir) × ((dir entries : ℕ) → ends.parent ≢ Dir dir entries))
-      → MatchResult result (λ gone. (gone_refusal p t ≡ None) × IsGone f o p t gone) (λ r. RefusedAs (refused_of r) (gone_refusal p t))
+      → MatchResult result (λ gone. (removal_refusal p t ≡ None) × IsRemoval f o p t gone) (λ r. RefusedAs (refused_of r) (removal_refusal p t))
   stands-in number bytes s result h = MatchResult-weaker result h
       (λ gone g. (
         s.none,
@@ -161,14 +161,14 @@ module _ (f : Form) (o : Table) (p : Names) (t : Tree) (below : is_root p ≡ fa
       ))
       (λ r n. let e = has_entry p t s.there below s.found in absurd (n.1 (inode_on f o 0 (parent p)) (length (rows e.entries)) (is.at_parent ∙ ap (place_by (inode_on f o 0 (parent p))) e.there)))
 
-  pub gone-file : (number size : ℕ) → ends.end ≡ File number size → (result : Result Gone Refusal)
+  pub gone-file : (number size : ℕ) → ends.end ≡ File number size → (result : Result Removal Refusal)
       → MatchResult result (In number size) (λ r. (r ≡ code.NotDir) × ((dir entries : ℕ) → ends.parent ≢ Dir dir entries))
-      → MatchResult result (λ gone. (gone_refusal p t ≡ None) × IsGone f o p t gone) (λ r. RefusedAs (refused_of r) (gone_refusal p t))
+      → MatchResult result (λ gone. (removal_refusal p t ≡ None) × IsRemoval f o p t gone) (λ r. RefusedAs (refused_of r) (removal_refusal p t))
   gone-file number size e = stands-in number size (file-walk (inode_on f o 0 p) number size (walk p t) (is_root p) below (sym e ∙ is.at_end))
 
-  pub gone-dir : (number size : ℕ) → ends.end ≡ Dir number size → size ≤ 0 → (result : Result Gone Refusal)
+  pub gone-dir : (number size : ℕ) → ends.end ≡ Dir number size → size ≤ 0 → (result : Result Removal Refusal)
       → MatchResult result (In number 0) (λ r. (r ≡ code.NotDir) × ((dir entries : ℕ) → ends.parent ≢ Dir dir entries))
-      → MatchResult result (λ gone. (gone_refusal p t ≡ None) × IsGone f o p t gone) (λ r. RefusedAs (refused_of r) (gone_refusal p t))
+      → MatchResult result (λ gone. (removal_refusal p t ≡ None) × IsRemoval f o p t gone) (λ r. RefusedAs (refused_of r) (removal_refusal p t))
   gone-dir number size e z = stands-in number 0 (dir-walk (inode_on f o 0 p) number size (walk p t) (is_root p) below z (sym e ∙ is.at_end))
 
 -- ---- what no refusal says
@@ -182,7 +182,7 @@ pub record Removable (p : Names) (t : Tree) : Type 0 where
 Some≢None : (r : Why) → Some r ≡ None → ⊥
 Some≢None r e = cc
 
-pub removable : (p : Names) (t : Tree) → gone_refusal p t ≡ None → Removable p t
+pub removable : (p : Names) (t : Tree) → removal_refusal p t ≡ None → Removable p t
 removable p t h = by-walk (walk p t) refl h
   where
     root-not : (b : Bool) (x : Option Why) → or_else (if b then Some why.IsRoot else None) x ≡ None → b ≡ false
@@ -214,7 +214,7 @@ its-blocks (tree.Dir Nil) e = refl
 its-blocks (tree.Dir (Entry c t es)) e = absurd (subst T e tt)
 
 -- what its removal needs
-pub gone-needs : (f : Form) → f ≡ form_one → (mode : ℕ) (lot : LotView) (m : Map) (t : Tree) (k : ℕ) (p : Names) (gone : Gone) (need : Need) → MapRecovers f mode lot m t k → IsGone f (own f m) p t gone → gone_refusal p t ≡ None
+pub gone-needs : (f : Form) → f ≡ form_one → (mode : ℕ) (lot : LotView) (m : Map) (t : Tree) (k : ℕ) (p : Names) (gone : Removal) (need : Need) → MapRecovers f mode lot m t k → IsRemoval f (own f m) p t gone → removal_refusal p t ≡ None
     → need.nodes ≡ 0 → need.lost ≡ 1 → need.blocks ≡ map_cost (dir_blocks f (gone.spot.entries - 1)) → need.freed ≡ map_cost (dir_blocks f gone.spot.entries) + map_cost (file_blocks gone.bytes) → Needs f t (next (Remove p) t) need
 gone-needs f one mode lot m t k p gone need r is none n l b d =
     let g = removable p t none in

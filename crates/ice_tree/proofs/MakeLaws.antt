@@ -35,9 +35,11 @@ use Rattle.ice_steps.proofs.Needs.{beside_room, beside_reserved}
 use Rattle.ice_steps.proofs.Recovers.{recovers_beside}
 use Rattle.ice_steps.proofs.Stays.{stays_walk}
 use Rattle.ice_steps.proofs.Takes.{took_inode, took_stays}
-use Rattle.ice_look.specs.declared.ends.Spot.{Spot}
+use Rattle.ice_look.specs.declared.looks.DirAt.{DirAt}
 use Rattle.ice_tree.specs.Makes.{new_operation, new_inode, Takes}
-use Rattle.ice_look.proofs.PlaceLaws.{true_false}
+
+true_false : (b : Bool) → b ≡ true → b ≡ false → ⊥
+true_false b h k = cc
 
 -- ---- which faults there are
 
@@ -114,7 +116,7 @@ made-reads : (lot : LotView) (m : Map) (j h : ℕ) (dir : Bool) → h ≤ deepes
 made-reads lot m j h true deep small e = fresh_dir lot m j h deep small (fresh_value 2 (inode_of m j) e)
 made-reads lot m j h false deep small e = fresh_file lot m j h deep small (fresh_value 1 (inode_of m j) e)
 
-module _ (mode : ℕ) (lot : LotView) (m0 : Map) (t : Tree) (k : ℕ) (p : Names) (dir : Bool) (spot : Spot) (name : List ℕ) (few : length lot.groups ≤ 64) (x : Takes form_one mode lot m0 t k p dir spot name) where
+module _ (mode : ℕ) (lot : LotView) (m0 : Map) (t : Tree) (k : ℕ) (p : Names) (dir : Bool) (spot : DirAt) (name : List ℕ) (few : length lot.groups ≤ 64) (x : Takes form_one mode lot m0 t k p dir spot name) where
   place : HasPlace p t
   place = place_of t k (length lot.groups) p dir x.accepted
 
@@ -188,7 +190,7 @@ module _ (mode : ℕ) (lot : LotView) (m0 : Map) (t : Tree) (k : ℕ) (p : Names
 
 -- ---- the same in the form that a cube has
 
-module _ (f : Form) (one : f ≡ form_one) (form : Form) (sized : form ≡ form_one) (mode : ℕ) (lot : LotView) (m0 : Map) (t : Tree) (k : ℕ) (p : Names) (dir : Bool) (spot : Spot) (name : List ℕ) (few : length lot.groups ≤ 64)
+module _ (f : Form) (one : f ≡ form_one) (form : Form) (sized : form ≡ form_one) (mode : ℕ) (lot : LotView) (m0 : Map) (t : Tree) (k : ℕ) (p : Names) (dir : Bool) (spot : DirAt) (name : List ℕ) (few : length lot.groups ≤ 64)
     (x : Takes f mode lot m0 t k p dir spot name) where
   as_one : Takes form_one mode lot m0 t k p dir spot name
   as_one = subst (λ g. Takes g mode lot m0 t k p dir spot name) one x

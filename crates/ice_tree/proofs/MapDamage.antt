@@ -6,7 +6,7 @@ use Rattle.std.specs.Prelude.{nat_lt}
 use Rattle.ice_base.specs.Lots.{LotView}
 use Rattle.ice_base.specs.Used.{is_data}
 use Rattle.ice_map.specs.declared.codec.Inode.{Inode}
-use Rattle.ice_map.specs.Maps.{uses, leads, Misleads}
+use Rattle.ice_map.specs.Maps.{leads, Misleads}
 use Rattle.ice_map.proofs.MapLaws.{leads-direct, leads-single, leads-lost}
 use Rattle.ice_map.specs.Own.{blocks_for}
 use Rattle.ice_map.specs.Moves.{uses_of}

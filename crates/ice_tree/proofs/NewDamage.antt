@@ -20,7 +20,7 @@ use Rattle.ice_dir.specs.Faults.{IsAddFault}
 use Rattle.ice_reads.specs.Tables.{Map}
 use Rattle.ice_steps.proofs.Keeps.{only-one, only-two}
 use Rattle.ice_steps.proofs.SubLaws.{counted-other}
-use Rattle.ice_look.specs.declared.ends.Spot.{Spot}
+use Rattle.ice_look.specs.declared.looks.DirAt.{DirAt}
 use Rattle.ice_look.specs.Broken.{IsBrokenBy}
 use Rattle.ice_tree.specs.Makes.{NewFits}
 use Rattle.ice_tree.proofs.MakeLaws.{NodePut}
@@ -28,7 +28,7 @@ use Rattle.ice_look.proofs.MapDamage.{map-dir, bad-pointer}
 use Rattle.tree_spec.specs.Costs.{form_one, Form}
 use Rattle.ice_tree.proofs.MapDamage.{dir-few, misleads-same}
 
-module _ (form : Form) (e64 : form ≡ form_one) (lot : LotView) (few : length lot.groups ≤ 64) (m0 : Map) (spot : Spot) (fits : NewFits form lot m0 spot) where
+module _ (form : Form) (e64 : form ≡ form_one) (lot : LotView) (few : length lot.groups ≤ 64) (m0 : Map) (spot : DirAt) (fits : NewFits form lot m0 spot) where
   -- no inode can be taken
   pub take-blamed : (e : OpFault) → IsTakeInodeFault e → (e ≡ NoNodes → AllUsed true lot m0) → (e ≡ Damaged Counts → counted true m0 ≡ 2 ^ 32 - 1) → IsBrokenBy form lot m0 e
   take-blamed Disk h none full = tt

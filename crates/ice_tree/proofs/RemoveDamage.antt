@@ -17,15 +17,15 @@ use Rattle.ice_map.proofs.MarkLaws.{used-same}
 use Rattle.ice_steps.specs.Beside.{OnlyAt, DoneSet}
 use Rattle.ice_steps.proofs.Keeps.{only-one, only-two}
 use Rattle.ice_look.specs.Broken.{IsFaultBy}
-use Rattle.ice_tree.specs.Removes.{free_inode, Freed, GoneIs, LooseBroken}
+use Rattle.ice_tree.specs.Removes.{free_inode, Freed, RemovalIs, LooseBroken}
 use Rattle.ice_file.specs.Files.{ReachesTo}
 use Rattle.ice_dir.specs.Changes.{EntryGone}
-use Rattle.tree_spec.specs.Costs.{Form}
-use Rattle.ice_tree.specs.declared.removes.Gone.{Gone}
+use Rattle.tree_spec.specs.Costs.{Form, form_one}
+use Rattle.ice_tree.specs.declared.removes.Removal.{Removal}
 
 -- what was found holds after a look too
-pub gone-after : (form : Form) (lot : LotView) (m0 m1 : ℕ → List ℕ) (last name : List ℕ) (gone : Gone) → m1 ≡ m0 → name ≡ last → GoneIs form lot m0 last gone → GoneIs form lot m1 name gone
-gone-after form lot m0 m1 last name gone same named is = subst (λ (m : ℕ → List ℕ). GoneIs form lot m name gone) (sym same) (subst (λ c. GoneIs form lot m0 c gone) (sym named) is)
+pub gone-after : (form : Form) (lot : LotView) (m0 m1 : ℕ → List ℕ) (last name : List ℕ) (gone : Removal) → m1 ≡ m0 → name ≡ last → RemovalIs form lot m0 last gone → RemovalIs form lot m1 name gone
+gone-after form lot m0 m1 last name gone same named is = subst (λ (m : ℕ → List ℕ). RemovalIs form lot m name gone) (sym same) (subst (λ c. RemovalIs form lot m0 c gone) (sym named) is)
 
 -- no operation is counted where an inode is put, and none where one is given back
 pub done-given : (m0 m1 m2 : ℕ → List ℕ) (number n : ℕ) → long_at (m0 sub_address) 16 ≡ n → ((a : ℕ) → a ≢ inode_address number → m1 a ≡ m0 a) → GaveInode m1 m2 number → long_at (m2 sub_address) 16 ≡ n
@@ -61,9 +61,9 @@ freed-counted m1 m2 number done set free =
     }
 
 -- a file that was there before its entry was taken is there after it
-pub file-stays : (form : Form) (lot : LotView) (m0 m1 : ℕ → List ℕ) (name : List ℕ) (gone : Gone) → GoneIs form lot m0 name gone → EntryGone lot form m0 m1 gone.spot.number → 0 < gone.bytes → ReachesTo form 0 (inode_of m1 gone.number)
+pub file-stays : (form : Form) (lot : LotView) (m0 m1 : ℕ → List ℕ) (name : List ℕ) (gone : Removal) → RemovalIs form lot m0 name gone → EntryGone lot form m0 m1 gone.spot.number → 0 < gone.bytes → ReachesTo form_one 0 (inode_of m1 gone.number)
 file-stays form lot m0 m1 name gone is took pos =
     let file = is.file pos in
     let dir = is.spot_is.dir in
     let other : gone.number ≢ gone.spot.number = λ e. let k = ap (λ i. (inode_of m0 i).kind) e in let f = file.kind in let d = dir.kind in absurd (omega arith) in
-    subst (ReachesTo form 0) (sym (took.others gone.number other)) file
+    subst (ReachesTo form_one 0) (sym (took.others gone.number other)) file

@@ -40,8 +40,8 @@ use Rattle.ice_steps.proofs.Needs.{reaches_to}
 use Rattle.ice_steps.proofs.Recovers.{beside_recovers, recovers_beside}
 use Rattle.ice_steps.proofs.Takes.{gave_inode}
 use Rattle.ice_steps.proofs.Walks.{file_at, loose_made, loose_used, loose_counted, walk_made, walk_dir, walk_part}
-use Rattle.ice_tree.specs.declared.removes.Gone.{Gone}
-use Rattle.ice_tree.specs.Removes.{gone_refusal, IsGone, Loses, StandsLoose}
+use Rattle.ice_tree.specs.declared.removes.Removal.{Removal}
+use Rattle.ice_tree.specs.Removes.{removal_refusal, IsRemoval, Loses, StandsLoose}
 use Rattle.ice_look.specs.Stages.{or_else, paths_refusal, walk_refusal}
 use Rattle.ice_tree.specs.Quotas.{quota_refusal}
 use Rattle.ice_tree.proofs.Chains.{refusal_remove}
@@ -211,7 +211,7 @@ module _ (mode : ℕ) (lot : LotView) (few : length lot.groups ≤ 64) (m : Map)
       (record { tree = v; level = length (parent p) + 1; beside = l.0; reads = l.1; empty = empty; bytes_are = refl })
 
 -- the same of each form, for a removal that is accepted
-module _ (f : Form) (one : f ≡ form_one) (mode : ℕ) (lot : LotView) (few : length lot.groups ≤ 64) (m : Map) (t : Tree) (k : ℕ) (p : Names) (gone : Gone) (name : List ℕ) (form : Form) (wide : form ≡ form_one) (l : Loses f mode lot m t k p gone name) where
+module _ (f : Form) (one : f ≡ form_one) (mode : ℕ) (lot : LotView) (few : length lot.groups ≤ 64) (m : Map) (t : Tree) (k : ℕ) (p : Names) (gone : Removal) (name : List ℕ) (form : Form) (wide : form ≡ form_one) (l : Loses f mode lot m t k p gone name) where
   goes : Removes t k (length lot.groups) f p
   goes = accepted-remove t k (length lot.groups) f p l.accepted
 
@@ -257,7 +257,7 @@ module _ (f : Form) (one : f ≡ form_one) (mode : ℕ) (lot : LotView) (few : l
       (subst (λ n. StandsLoose form_one mode lot m' (next (Remove p) t) k (inode_on form_one (own form_one m) 0 p) n) (sym bytes-there) s))
 
 -- what was found before a look holds after it
-pub loses-after : (f : Form) (mode : ℕ) (lot : LotView) (m m' : Map) (t : Tree) (k : ℕ) (p : Names) (gone : Gone) (name : List ℕ) → m' ≡ m → MapRecovers f mode lot m t k → IsGone f (own f m) p t gone → name ≡ last_name p
+pub loses-after : (f : Form) (mode : ℕ) (lot : LotView) (m m' : Map) (t : Tree) (k : ℕ) (p : Names) (gone : Removal) (name : List ℕ) → m' ≡ m → MapRecovers f mode lot m t k → IsRemoval f (own f m) p t gone → name ≡ last_name p
     → refusal t k (length lot.groups) f (Remove p) ≡ None → Loses f mode lot m' t k p gone name
 loses-after f mode lot m m' t k p gone name same r is last none =
     subst (λ (x : Map). Loses f mode lot x t k p gone name) (sym same) (record { recovers = r; gone_is = is; name_is = last; accepted = none })
@@ -271,7 +271,7 @@ chained None None c d = refl
 
 -- the refusals behind those of the names
 abbrev pub later_refusal : ℕ → Form → ℕ → Names → Tree → Option Why
-later_refusal n f k p t = or_else (gone_refusal p t) (quota_refusal n f k (next (Remove p) t))
+later_refusal n f k p t = or_else (removal_refusal p t) (quota_refusal n f k (next (Remove p) t))
 
 pub remove-stages : (t : Tree) (k n : ℕ) (f : Form) (p : Names) → refusal t k n f (Remove p) ≡ or_else (paths_refusal f (p ∷ [])) (later_refusal n f k p t)
 remove-stages t k n f p =

@@ -7,13 +7,13 @@ use Rattle.ice_base.specs.declared.fault.Rule.TheVariants.{InodeTwice}
 use Rattle.ice_dir.specs.Rows.{look_up, rows_of}
 use Rattle.tree_spec.specs.Costs.{Form, form_one, map_cost}
 use Rattle.tree_spec.specs.Costs as tree
-use Rattle.ice_look.specs.Broken.{IsBrokenBy, Overfull, spread_at}
-use Rattle.ice_look.specs.Ends.{EndsFit, EndsAre, SpotIs}
+use Rattle.ice_look.specs.Broken.{IsBrokenBy, Overfull, count_within_place}
+use Rattle.ice_look.specs.Ends.{EndsFit, EndsAre, DirIs}
 use Rattle.ice_tree.specs.Renames.{MoveIs, RowFits, is_place, is_dir_place}
 use Rattle.ice_tree.specs.Quotas.{HasFree}
 use Rattle.ice_look.specs.Places.{PlaceFits, PlaceIs, PlaceReached, PlaceNamed}
 use Rattle.ice_look.specs.declared.ends.Ends.{Ends}
-use Rattle.ice_look.specs.declared.ends.Spot.{Spot}
+use Rattle.ice_look.specs.declared.looks.DirAt.{DirAt}
 use Rattle.ice_look.specs.declared.place.Place.{Place}
 use Rattle.ice_look.specs.declared.place.Place.TheVariants.{File, Dir, Missing, Blocked}
 use Rattle.ice_tree.specs.declared.quota.Need.{Need}
@@ -41,7 +41,7 @@ none h = cc
 
 module _ (form : Form) (lot : LotView) (m : ℕ → List ℕ) where
   -- a directory at a place
-  place-spot : (p : Place) (spot : Spot) → p ≡ Dir spot.number spot.entries → PlaceFits lot p → PlaceIs m p → PlaceReached form lot m p → SpotIs form lot m spot
+  place-spot : (p : Place) (spot : DirAt) → p ≡ Dir spot.number spot.entries → PlaceFits lot p → PlaceIs m p → PlaceReached form lot m p → DirIs form lot m spot
   place-spot p spot at fits is reached =
       let f = subst (PlaceFits lot) at fits in
       let i = subst (PlaceIs m) at is in
@@ -70,10 +70,10 @@ module _ (form : Form) (lot : LotView) (m : ℕ → List ℕ) where
 
   -- a look for the height of a tree that spent its budget, which has all inodes of the lot
   pub height-broken : (place : Place) (number size levels budget : ℕ) → place ≡ Dir number size → 64 * length lot.groups ≤ budget → PlaceReached form lot m place
-      → (e : OpFault) → IsBrokenBy form lot m e ⊎ ((e ≡ Damaged InodeTwice) × (budget < spread_at form m levels place)) → IsBrokenBy form lot m e
+      → (e : OpFault) → IsBrokenBy form lot m e ⊎ ((e ≡ Damaged InodeTwice) × (budget < count_within_place form m levels place)) → IsBrokenBy form lot m e
   height-broken place number size levels budget at all reached e (inl b) = b
   height-broken place number size levels budget at all reached e (inr x) =
-      let many = subst (λ (p : Place). budget < spread_at form m levels p) at x.1 in
+      let many = subst (λ (p : Place). budget < count_within_place form m levels p) at x.1 in
       subst (IsBrokenBy form lot m) (sym x.0) (inr (inr (record { number = number; levels = levels; reached = subst (PlaceReached form lot m) at reached; many = omega (arith, all, many) })))
 
   -- two directories that have too many entries

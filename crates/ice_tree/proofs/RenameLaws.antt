@@ -24,11 +24,11 @@ use Rattle.tree_spec.proofs.Accepted.{first_false, second_false, has_entry, tree
 use Rattle.ice_steps.proofs.Quotas.{free_nodes_are}
 use Rattle.tree_spec.specs.Replies.{refused_of}
 use Rattle.tree_spec.specs.declared.reply.Refusal.{Refusal}
-use Rattle.ice_look.specs.declared.ends.Spot.{Spot}
+use Rattle.ice_look.specs.declared.looks.DirAt.{DirAt}
 use Rattle.ice_look.specs.declared.place.Place.{Place}
 use Rattle.ice_look.specs.declared.place.Place.TheVariants as at_place
 use Rattle.ice_tree.specs.declared.renames.Move.{Move}
-use Rattle.ice_look.specs.Ends.{IsSpot}
+use Rattle.ice_look.specs.Ends.{IsDirAt}
 use Rattle.ice_look.specs.Outcomes.{RefusedAs}
 use Rattle.ice_look.specs.Places.{place_at, place_by}
 use Rattle.ice_look.proofs.LookLaws.{ends_dir, later_stage}
@@ -195,7 +195,7 @@ ends-dirs p q t h =
     ((e.entries, e.there), dir_walk (walk (parent q) t) (second_false _ _ n.0) (second_false _ _ n.1))
 
 -- the directory at a place
-pub spot-is : (f : Form) (o : Table) (names : Names) (t : Tree) (place : Place) (spot : Spot) → place ≡ place_at f o names t → place ≡ at_place.Dir spot.number spot.entries → IsSpot f o names t spot
+pub spot-is : (f : Form) (o : Table) (names : Names) (t : Tree) (place : Place) (spot : DirAt) → place ≡ place_at f o names t → place ≡ at_place.Dir spot.number spot.entries → IsDirAt f o names t spot
 spot-is f o names t place spot at is =
     let e = ends_dir (inode_on f o 0 names) spot.number spot.entries (walk names t) (sym is ∙ at) in
     record { inside = e.0; there = e.1; number = e.2; count = e.3 }

@@ -18,9 +18,9 @@ use Rattle.ice_map.specs.Own.{own}
 use Rattle.ice_reads.specs.Reads.{inode_on}
 use Rattle.ice_reads.specs.Recovers.{MapRecovers}
 use Rattle.ice_look.specs.declared.ends.Ends.{Ends}
-use Rattle.ice_look.specs.declared.ends.Spot.{Spot}
+use Rattle.ice_look.specs.declared.looks.DirAt.{DirAt}
 use Rattle.ice_look.specs.declared.place.Place.TheVariants.{File, Dir, Missing, Blocked}
-use Rattle.ice_look.specs.Ends.{IsEnds, IsSpot}
+use Rattle.ice_look.specs.Ends.{IsEnds, IsDirAt}
 use Rattle.ice_tree.specs.Quotas.{Needs, quota_refusal}
 use Rattle.ice_tree.specs.Makes.{Takes, new_operation, new_refusal}
 use Rattle.ice_look.specs.Places.{place_by}
@@ -65,10 +65,10 @@ module _ (f : Form) (o : Table) (p : Names) (t : Tree) (ends : Ends) (is : IsEnd
       below : is_root p ≡ false → new_refusal p t ≡ (if is_found (walk p t) then Some why.Exists else None)
       below h = after ∙ ap (λ b. or_else (if b then Some why.IsRoot else None) (if is_found (walk p t) then Some why.Exists else None)) h
 
-      pub spot_found : is_root p ≡ false → ends.end ≡ Missing → IsSpot f o (parent p) t (record { number = number; entries = size }) × (new_refusal p t ≡ None)
+      pub spot_found : is_root p ≡ false → ends.end ≡ Missing → (new_refusal p t ≡ None) × IsDirAt f o (parent p) t (record { number = number; entries = size })
       spot_found h free = (
-        record { inside = dir.0; there = dir.1; number = dir.2; count = dir.3 },
         below h ∙ ap (λ w. if is_found w then Some why.Exists else None) (ends_missing (inode_on f o 0 p) (walk p t) (sym free ∙ is.at_end)),
+        record { inside = dir.0; there = dir.1; number = dir.2; count = dir.3 },
       )
 
       pub spot_taken : is_root p ≡ false → (ends.end ≡ Missing → ⊥) → new_refusal p t ≡ Some why.Exists
@@ -111,7 +111,7 @@ made_nodes true = refl
 made_nodes false = refl
 
 -- what it needs
-pub new-needs : (f : Form) → f ≡ form_one → (o : Table) (p : Names) (t : Tree) (spot : Spot) (dir : Bool) → IsSpot f o (parent p) t spot → new_refusal p t ≡ None
+pub new-needs : (f : Form) → f ≡ form_one → (o : Table) (p : Names) (t : Tree) (spot : DirAt) (dir : Bool) → IsDirAt f o (parent p) t spot → new_refusal p t ≡ None
     → (b c : ℕ) → b ≡ map_cost (dir_blocks f (spot.entries + 1)) → c ≡ map_cost (dir_blocks f spot.entries)
     → Needs f t (next (new_operation dir p) t) (record { nodes = 1; lost = 0; blocks = b; freed = c })
 new-needs f one o p t spot dir is none b c more less =
@@ -130,7 +130,7 @@ new-needs f one o p t spot dir is none b c more less =
     record { nodes_move = omega arith; blocks_move = omega arith }
 
 -- what was found before a look holds after it
-pub takes-after : (f : Form) (mode : ℕ) (lot : LotView) (m m' : Map) (t : Tree) (k : ℕ) (p : Names) (dir : Bool) (spot : Spot) (name : List ℕ) → m' ≡ m → MapRecovers f mode lot m t k → IsSpot f (own f m) (parent p) t spot
+pub takes-after : (f : Form) (mode : ℕ) (lot : LotView) (m m' : Map) (t : Tree) (k : ℕ) (p : Names) (dir : Bool) (spot : DirAt) (name : List ℕ) → m' ≡ m → MapRecovers f mode lot m t k → IsDirAt f (own f m) (parent p) t spot
     → name ≡ last_name p → is_name name ≡ true → refusal t k (length lot.groups) f (new_operation dir p) ≡ None → Takes f mode lot m' t k p dir spot name
 takes-after f mode lot m m' t k p dir spot name same r is last proper none =
     subst (λ (x : Map). Takes f mode lot x t k p dir spot name) (sym same) (record { recovers = r; spot_is = is; name_is = last; proper = proper; accepted = none })

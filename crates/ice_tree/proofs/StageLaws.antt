@@ -1,13 +1,14 @@
 -- One stage of refusals after another.
-use Rattle.std.proofs.Common.{◌≡◌, Option, None, Result, MatchResult, ap, ◌∙◌, sym, subst, ℕ}
+use Rattle.std.proofs.Common.{◌≡◌, Option, None, Result, ap, ◌∙◌, sym, subst, ℕ}
 use Rattle.tree_spec.specs.Why.{Why}
 use Rattle.tree_spec.specs.Trees.{Tree}
 use Rattle.tree_spec.specs.Costs.{Form}
-use Rattle.tree_spec.specs.Replies.{Refused, Because, Fault, Memory, refused_of}
+use Rattle.tree_spec.specs.Replies.{Refused, Because, Fault, Memory}
 use Rattle.tree_spec.specs.declared.reply.Refusal.{Refusal}
 use Rattle.ice_base.specs.Lots.{LotView}
 use Rattle.ice_reads.specs.Tables.{Map}
 use Rattle.ice_reads.specs.Recovers.{MapRecovers}
+use Rattle.ice_look.specs.Calls.{RefusedBy}
 use Rattle.ice_look.specs.Outcomes.{RefusedAs}
 use Rattle.ice_look.specs.Stages.{or_else}
 use Rattle.ice_look.proofs.LookLaws.{later_stage}
@@ -25,12 +26,9 @@ refused-later x a b e h = subst (RefusedAs x) (sym (later_stage a b e)) h
 pub none-both : (a b : Option Why) → a ≡ None → b ≡ None → or_else a b ≡ None
 none-both a b e f = later_stage a b e ∙ f
 
--- a call finds the refusal, or that there is none
-abbrev pub Finds : {A : Type 0} → Result A Refusal → Option Why → Type 0
-Finds result found = MatchResult result (λ u. found ≡ None) (λ r. RefusedAs (refused_of r) found)
-
-pub finds-later : {A : Type 0} (result : Result A Refusal) (a b : Option Why) → a ≡ None → Finds result b → Finds result (or_else a b)
-finds-later {A} result a b e h = subst (λ (o : Option Why). Finds result o) (sym (later_stage a b e)) h
+-- where the first stage refuses nothing, a call is refused by the later one
+pub finds-later : {A : Type 0} (result : Result A Refusal) (a b : Option Why) → a ≡ None → RefusedBy b result → RefusedBy (or_else a b) result
+finds-later {A} result a b e h = subst (λ (o : Option Why). RefusedBy o result) (sym (later_stage a b e)) h
 
 -- an equal map recovers the same
 pub recovers-same : (f : Form) (mode : ℕ) (lot : LotView) (m m' : Map) (t : Tree) (k : ℕ) → m' ≡ m → MapRecovers f mode lot m t k → MapRecovers f mode lot m' t k

@@ -4,3 +4,4 @@ pub mod Makes
 pub mod Writes
 pub mod Removes
 pub mod Renames
+pub mod Calls

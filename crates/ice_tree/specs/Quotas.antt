@@ -1,15 +1,15 @@
 -- What a change needs, and the refusals by it.
-use Rattle.std.specs.Prelude.{◌≡◌, ◌≤◌, ◌<◌, ◌+◌, ℕ, true, false, List, nat_lt, Option, Some, None, if◌then◌else◌, ◌^◌, ◌-◌, nat_eq}
+use Rattle.std.specs.Prelude.{◌≡◌, ◌≤◌, ◌<◌, ◌+◌, ℕ, true, false, List, nat_lt, Option, Some, None, if◌then◌else◌, ◌^◌, nat_eq}
 use Rattle.ice_base.specs.Lots.{LotView, sub_address}
 use Rattle.tree_spec.specs.Why.{Why}
 use Rattle.tree_spec.specs.Why as why
 use Rattle.tree_spec.specs.Trees.{Tree}
 use Rattle.tree_spec.specs.Costs.{Form, nodes, blocks, node_quota, block_quota}
-use Rattle.tree_spec.specs.Answers.{refusal, most_done}
+use Rattle.tree_spec.specs.Answers.{most_done}
 use Rattle.ice_tree.specs.declared.quota.Need.{Need}
 use Rattle.ice_look.specs.Stages.{or_else}
 use Rattle.ice_base.specs.Fields.{long_at}
-use Rattle.ice_base.specs.Used.{counted, free_count}
+use Rattle.ice_base.specs.Used.{free_count}
 
 -- the tree that would be made has so many nodes and blocks more, and so many fewer
 pub record Needs (f : Form) (t next : Tree) (need : Need) : Type 0 where

@@ -1,5 +1,5 @@
 -- Files and empty directories that are taken away.
-use Rattle.std.specs.Prelude.{◌≡◌, ◌≤◌, ◌<◌, ℕ, ◌*◌, false, List, length, replicate, Option, Some, None, if◌then◌else◌, ◌⊎◌, ◌-◌, true}
+use Rattle.std.specs.Prelude.{◌≡◌, ◌≤◌, ◌<◌, ℕ, ◌*◌, false, List, length, replicate, Option, Some, None, if◌then◌else◌, ◌⊎◌, true}
 use Rattle.ice_base.specs.Lots.{LotView}
 use Rattle.ice_base.specs.declared.fault.Rule.TheVariants.{Pointer}
 use Rattle.ice_base.specs.Inodes.{inode_address, inode_index}
@@ -18,8 +18,8 @@ use Rattle.ice_reads.specs.Reads.{Reads, inode_on, used_blocks, used_inodes}
 use Rattle.ice_reads.specs.Recovers.{MapRecovers}
 use Rattle.ice_steps.specs.Beside.{Beside}
 use Rattle.ice_look.specs.Places.{IsReached}
-use Rattle.ice_tree.specs.declared.removes.Gone.{Gone}
-use Rattle.ice_look.specs.Ends.{IsSpot, SpotFits, SpotIs}
+use Rattle.ice_tree.specs.declared.removes.Removal.{Removal}
+use Rattle.ice_look.specs.Ends.{IsDirAt, DirFits, DirIs}
 use Rattle.ice_look.specs.Stages.{or_else, walk_refusal}
 use Rattle.ice_base.specs.Used.{is_data, used_inode, counted}
 use Rattle.ice_base.specs.declared.fault.Rule.{Rule}
@@ -29,8 +29,8 @@ use Rattle.ice_map.specs.Moves.{uses_of}
 use Rattle.ice_dir.specs.Rows.{rows_of, look_up}
 
 -- the refusal of a removal by what stands at the path
-abbrev pub gone_refusal : List (List ℕ) → Tree → Option Why
-gone_refusal p t = or_else (walk_refusal (walk p t)) (or_else (if is_root p then Some why.IsRoot else None) (if is_full_found (walk p t) then Some why.NotEmpty else None))
+abbrev pub removal_refusal : List (List ℕ) → Tree → Option Why
+removal_refusal p t = or_else (walk_refusal (walk p t)) (or_else (if is_root p then Some why.IsRoot else None) (if is_full_found (walk p t) then Some why.NotEmpty else None))
 
 -- the inode of nothing
 abbrev pub free_inode : Inode
@@ -42,21 +42,21 @@ pub record Freed (m : Map) (number : ℕ) : Type 0 where
   pub blank : Blank (m (inode_address number)) (inode_index number)
 
 -- what stands at a path: its directory, its inode, and the bytes of a file
-pub record IsGone (f : Form) (o : Table) (p : List (List ℕ)) (t : Tree) (gone : Gone) : Type 0 where
-  pub spot_is : IsSpot f o (parent p) t gone.spot
+pub record IsRemoval (f : Form) (o : Table) (p : List (List ℕ)) (t : Tree) (gone : Removal) : Type 0 where
+  pub spot_is : IsDirAt f o (parent p) t gone.spot
   pub number_is : gone.number ≡ inode_on f o 0 p
   pub bytes_are : gone.bytes ≡ length (bytes_found (walk p t))
 
 -- its numbers fit the lot
-pub record GoneFits (lot : LotView) (gone : Gone) : Type 0 where
-  pub spot : SpotFits lot gone.spot
+pub record RemovalFits (lot : LotView) (gone : Removal) : Type 0 where
+  pub spot : DirFits lot gone.spot
   pub number : gone.number < 64 * length lot.groups
   pub bytes : gone.bytes ≤ form_one.longest_file
 
 -- the map recovers a tree that loses what stands at the path, and the name is the path's last one
-pub record Loses (f : Form) (mode : ℕ) (lot : LotView) (m : Map) (t : Tree) (k : ℕ) (p : List (List ℕ)) (gone : Gone) (name : List ℕ) : Type 0 where
+pub record Loses (f : Form) (mode : ℕ) (lot : LotView) (m : Map) (t : Tree) (k : ℕ) (p : List (List ℕ)) (gone : Removal) (name : List ℕ) : Type 0 where
   pub recovers : MapRecovers f mode lot m t k
-  pub gone_is : IsGone f (own f m) p t gone
+  pub gone_is : IsRemoval f (own f m) p t gone
   pub name_is : name ≡ last_name p
   pub accepted : refusal t k (length lot.groups) f (Remove p) ≡ None
 
@@ -70,11 +70,11 @@ pub record StandsLoose (f : Form) (mode : ℕ) (lot : LotView) (m : Map) (t : Tr
   pub bytes_are : bytes ≡ length (bytes_of tree)
 
 -- what is removed: a directory names it so, and a file has its bytes
-pub record GoneIs (form : Form) (lot : LotView) (m : ℕ → List ℕ) (name : List ℕ) (gone : Gone) : Type 0 where
-  pub spot_is : SpotIs form lot m gone.spot
+pub record RemovalIs (form : Form) (lot : LotView) (m : ℕ → List ℕ) (name : List ℕ) (gone : Removal) : Type 0 where
+  pub spot_is : DirIs form lot m gone.spot
   pub named : look_up name (rows_of form m gone.spot.number) ≡ Some gone.number
   pub reached : IsReached form lot m gone.number
-  pub file : 0 < gone.bytes → ReachesTo form 0 (inode_of m gone.number)
+  pub file : 0 < gone.bytes → ReachesTo form_one 0 (inode_of m gone.number)
 
 -- what is damaged of a file or an empty directory at an inode, whether or not a directory names it, by the rule on counts, pointers or bitmaps
 abbrev pub LooseBroken : LotView → (ℕ → List ℕ) → ℕ → Rule → Type 0

@@ -2,7 +2,7 @@
 use Rattle.std.specs.Prelude.{◌≡◌, ◌≤◌, ◌<◌, ℕ, ◌*◌, Bool, true, false, List, length, Some, ◌||◌, Option, None, if◌then◌else◌, ◌≢◌, ◌+◌, ◌-◌}
 use Rattle.ice_base.specs.Lots.{LotView}
 use Rattle.ice_dir.specs.Rows.{rows_of, look_up}
-use Rattle.tree_spec.specs.Trees.{Tree, NotFound, NotDir, walk, parent, last_name, parent_walk}
+use Rattle.tree_spec.specs.Trees.{Tree, walk, parent, last_name, parent_walk}
 use Rattle.tree_spec.specs.Costs.{Form}
 use Rattle.ice_reads.specs.Tables.{Table, Map}
 use Rattle.ice_map.specs.Own.{own}
@@ -15,9 +15,9 @@ use Rattle.tree_spec.specs.Operations.{Rename}
 use Rattle.tree_spec.specs.Answers.{refusal, is_root, is_not_found, is_not_dir, is_taken, moves_too_deep, moves_into_itself}
 use Rattle.ice_reads.specs.Recovers.{MapRecovers}
 use Rattle.ice_tree.specs.declared.renames.Move.{Move}
-use Rattle.ice_look.specs.Ends.{IsSpot, SpotFits, SpotIs}
+use Rattle.ice_look.specs.Ends.{IsDirAt, DirFits, DirIs}
 use Rattle.ice_look.specs.Stages.{or_else}
-use Rattle.ice_base.specs.Used.{counted, free_count}
+use Rattle.ice_base.specs.Used.{free_count}
 use Rattle.ice_map.specs.Moves.{uses_of}
 use Rattle.ice_dir.specs.Changes.{dir_blocks}
 use Rattle.ice_tree.specs.Quotas.{CanCount}
@@ -51,14 +51,14 @@ move_refusal p q t = or_else (height_refusal p q t) (ends_refusal p q t)
 
 -- the directories of both paths, and whether the paths are one
 pub record IsMove (f : Form) (o : Table) (p q : List (List ℕ)) (t : Tree) (step : Move) : Type 0 where
-  pub from_is : IsSpot f o (parent p) t step.from
-  pub to_is : IsSpot f o (parent q) t step.to
+  pub from_is : IsDirAt f o (parent p) t step.from
+  pub to_is : IsDirAt f o (parent q) t step.to
   pub same_is : step.same ≡ is_same_path p q
 
 -- their numbers fit the lot
 pub record MoveFits (lot : LotView) (step : Move) : Type 0 where
-  pub from : SpotFits lot step.from
-  pub to : SpotFits lot step.to
+  pub from : DirFits lot step.from
+  pub to : DirFits lot step.to
 
 -- the map recovers a tree that takes the rename, and the names are the last ones of the paths
 pub record Renames (f : Form) (mode : ℕ) (lot : LotView) (m : Map) (t : Tree) (k : ℕ) (p q : List (List ℕ)) (step : Move) (name new : List ℕ) : Type 0 where
@@ -70,8 +70,8 @@ pub record Renames (f : Form) (mode : ℕ) (lot : LotView) (m : Map) (t : Tree) 
 
 -- what is renamed: a directory names it so, and another one is to take it
 pub record MoveIs (form : Form) (lot : LotView) (m : ℕ → List ℕ) (name : List ℕ) (step : Move) : Type 0 where
-  pub from_is : SpotIs form lot m step.from
-  pub to_is : SpotIs form lot m step.to
+  pub from_is : DirIs form lot m step.from
+  pub to_is : DirIs form lot m step.to
   pub number : ℕ
   pub below : number < 64 * length lot.groups
   pub named : look_up name (rows_of form m step.from.number) ≡ Some number

@@ -1,11 +1,11 @@
 -- Changes of the bytes of files.
-use Rattle.std.specs.Prelude.{◌≡◌, ◌≤◌, ◌<◌, ◌+◌, ◌*◌, ℕ, false, List, [], ◌∷◌, length, nat_lt, Option, Some, None, if◌then◌else◌, ◌-◌}
+use Rattle.std.specs.Prelude.{◌≡◌, ◌≤◌, ◌<◌, ◌+◌, ◌*◌, ℕ, false, List, [], ◌∷◌, length, nat_lt, Option, Some, None, if◌then◌else◌}
 use Rattle.ice_base.specs.Lots.{LotView}
 use Rattle.tree_spec.specs.Why.{Why}
 use Rattle.tree_spec.specs.Why as why
 use Rattle.tree_spec.specs.Trees.{Tree, Found, walk}
 use Rattle.tree_spec.specs.Trees as tree
-use Rattle.tree_spec.specs.Costs.{Form, blocks, form_one}
+use Rattle.tree_spec.specs.Costs.{Form, form_one}
 use Rattle.tree_spec.specs.Operations.{Operation}
 use Rattle.tree_spec.specs.Answers.{bytes_found, refusal}
 use Rattle.ice_file.specs.Files.{ReachesTo}

@@ -1,5 +1,5 @@
 //! The number of accepted operations in the sub-super block.
-ghost use Rattle.std.specs.Prelude.{◌≡◌, ◌≤◌, ◌<◌, ◌+◌, ◌^◌, ℕ, true, Some, OnOk, IfOk, IfErr, IsErrOf};
+ghost use Rattle.std.specs.Prelude.{◌≡◌, ◌≤◌, ◌<◌, ◌+◌, ◌^◌, true, Some, OnOk, IfOk, IfErr, IsErrOf};
 ghost use Rattle.ice_base.specs.Disk.{Rose};
 ghost use Rattle.ice_base.specs.Fields.{long_at};
 ghost use Rattle.ice_base.specs.Lots.{is_sited, sub_address};
@@ -8,11 +8,9 @@ ghost use Rattle.ice_base.specs.declared.fault.OpFault.TheVariants.{Disk as Faul
 ghost use Rattle.ice_base.specs.declared.fault.Rule.{Rule};
 ghost use Rattle.ice_base.specs.declared.fault.Rule.TheVariants.{Done};
 ghost use Rattle.ice_layout.specs.Subs.{sub_rule};
-ghost use Rattle.tree_spec.specs.Trees.{Tree};
-ghost use Rattle.tree_spec.specs.Costs.{form_of};
-ghost use Rattle.ice_reads.specs.Recovers.{MapRecovers};
 ghost use Rattle.ice_steps.specs.Beside.{DoneSet};
 ghost use Rattle.ice_tree.specs.Outcomes.{IsNamedIn, sub_rules, IsCountFault};
+ghost use Rattle.ice_look.specs.Calls.{IfRecovers, FailsByDiskAlone};
 
 use ice_base::{
     Disk, Form, Keep, Lot, OpFault, Rule, SUB, View, fetch, read_u64, store, write_u64,
@@ -32,17 +30,23 @@ pub(crate) fn done_of<D: Disk, V: View<D>, F: Form>(
     disk: &mut D,
     lot: &Lot,
 ) -> Result<u64, OpFault>
+    // The lot lies on the disk.
     requires { is_sited lot.now (D.state disk.old).size ≡ true }
-    ensures done { (mode k : ℕ) (t : Tree) → IfShown V.View lot.now view.old disk.old (λ old.
-        MapRecovers (form_of F.VERSION) mode lot.now old t k → IfOk result (λ done. done ≡ k)) }
-    ensures sound { (mode k : ℕ) (t : Tree) → IfShown V.View lot.now view.old disk.old (λ old.
-        MapRecovers (form_of F.VERSION) mode lot.now old t k → IfErr result (λ e. e ≡ FaultDisk)) }
+    // Over a lot that recovers a tree, it finds what the tree has; the disk alone may fail.
+    ensures done { IfRecovers V.View F.VERSION lot.now view.old disk.old (λ _ _ k.
+        IfOk result (λ done. done ≡ k)) }
+    ensures sound { FailsByDiskAlone V.View F.VERSION lot.now view.old disk.old result }
+    // What it answers of any lot, damaged or not.
     ensures value { IfShown V.View lot.now view.old disk.old (λ old.
         IfOk result (λ done. done ≡ long_at (old sub_address) 16)) }
     ensures small { IfOk result (λ done. done < 2 ^ 63) }
-    ensures rule { (r : Rule) → IsErrOf result (Damaged r) → IfShown V.View lot.now view.old disk.old (λ old.
+    // Damage that it names is there.
+    ensures rule { (r : Rule) → IsErrOf result (Damaged r)
+        → IfShown V.View lot.now view.old disk.old (λ old.
         sub_rule lot.now.slot (old sub_address) ≡ Some r) }
+    // What stays as it was.
     ensures looked { Looked D.Disk V.View lot.now view.old disk.old view.new disk.new }
+    // Which refusals there are, and when a fault comes.
     ensures faults { IfErr result (IsNamedIn sub_rules) }
     ensures failed { IsErrOf result FaultDisk → Rose (D.state disk.old).faults (D.state disk.new).faults }
 {
@@ -61,14 +65,19 @@ pub(crate) fn count_up<D: Disk, K: Keep<D>>(
     disk: &mut D,
     lot: &Lot,
 ) -> Result<(), OpFault>
+    // The lot lies on the disk and the keep has room.
     requires sited { is_sited lot.now (D.state disk.old).size ≡ true }
     requires room { 1 ≤ K.room keep.old }
-    ensures counted { AsShown K.View lot.now keep.old disk.old keep.new disk.new (λ old new.
-        OnOk result (DoneSet old new (long_at (old sub_address) 16 + 1))) }
+    // What it answers of any lot, damaged or not.
     ensures held { OnOk result (K.held keep.new sub_address ≡ true) }
+    // Damage that it names is there.
     ensures full { IsErrOf result (Damaged Done) → IfShown K.View lot.now keep.old disk.old (λ old.
         2 ^ 63 ≤ long_at (old sub_address) 16 + 1) }
+    // What it spends of the keep, and what stays as it was.
+    ensures counted { AsShown K.View lot.now keep.old disk.old keep.new disk.new (λ old new.
+        OnOk result (DoneSet old new (long_at (old sub_address) 16 + 1))) }
     ensures spent { Spent D.Disk K.View lot.now 1 keep.old disk.old keep.new disk.new }
+    // Which refusals there are, and when a fault comes.
     ensures faults { IfErr result IsCountFault }
     ensures failed { IsErrOf result FaultDisk → Rose (D.state disk.old).faults (D.state disk.new).faults }
 {

@@ -1,48 +1,45 @@
 //! New files and directories.
-ghost use Rattle.std.specs.Prelude.{◌≡◌, ◌≤◌, ◌<◌, ◌+◌, ◌*◌, ◌⊎◌, ℕ, Bool, List, true, false, [], ◌∷◌, None, Some, OnOk, IfOk, IfErr, IsErrOf, MatchResult, length, drop};
+ghost use Rattle.std.specs.Prelude.{◌≡◌, ◌≤◌, ◌<◌, ◌+◌, ◌*◌, ◌⊎◌, ℕ, Bool, List, true, false, [], ◌∷◌, OnOk, IfOk, IfErr, IsErrOf, length, drop};
 ghost use Rattle.ice_base.specs.Disk.{Rose};
-ghost use Rattle.ice_base.specs.Fields.{long_at};
 ghost use Rattle.ice_base.specs.Lots.{LotView, is_sited, sub_address};
 ghost use Rattle.ice_base.specs.Views.{Looked, Spent, AsShown, IfShown};
 ghost use Rattle.ice_base.specs.declared.fault.OpFault.TheVariants.{Disk as FaultDisk};
-ghost use Rattle.ice_base.specs.declared.fault.Rule.{Rule};
 ghost use Rattle.tree_spec.specs.Answers.{answer, next, refusal, is_root};
 ghost use Rattle.tree_spec.specs.Costs.{Form, form_of};
 ghost use Rattle.tree_spec.specs.Operations.{Mkdir, Make};
-ghost use Rattle.tree_spec.specs.Replies.{number_of, refused_of};
 ghost use Rattle.tree_spec.specs.Trees.{Tree, parent};
-ghost use Rattle.tree_spec.specs.Why.{Why};
 ghost use Rattle.tree_spec.specs.declared.reply.Refusal.TheVariants.{Fault, Damaged, NotFound, NotDir, IsRoot, Exists};
 ghost use Rattle.ice_reads.specs.Recovers.{MapRecovers};
 ghost use Rattle.ice_reads.specs.Tables.{Table};
 ghost use Rattle.ice_map.specs.Own.{own};
-ghost use Rattle.ice_rules.specs.Rules.{rule_number};
-ghost use Rattle.ice_look.specs.Broken.{IsBroken, IsBrokenBy};
-ghost use Rattle.ice_look.specs.Ends.{IsEnds, EndsFit, IsSpot, SpotFits, EndsAre, SpotIs};
+ghost use Rattle.ice_look.specs.Broken.{IsBrokenBy};
+ghost use Rattle.ice_look.specs.Ends.{IsEnds, EndsFit, IsDirAt, DirFits, EndsAre, DirIs};
 ghost use Rattle.ice_tree.specs.Makes.{new_operation, new_refusal, new_inode, Takes, NewFits};
-ghost use Rattle.ice_look.specs.Outcomes.{AsModel, RefusedAs, meant_plain, ShownBy, IsOneOf};
+ghost use Rattle.ice_look.specs.Outcomes.{meant_plain, IsOneOf};
 ghost use Rattle.ice_tree.specs.Outcomes.{IsNamedIn, make_refusals, change_rules};
-ghost use Rattle.ice_look.specs.Stages.{paths_refusal};
+ghost use Rattle.ice_look.specs.Calls.{AnswersAs, FailsByDisk, Accepts, RefusesPaths, NamesBroken};
+ghost use Rattle.ice_tree.specs.Calls.{ChangesAs, UntouchedAll, LooksIfRefused, KeepsDone};
 
 use crate::counts::count_up;
 use crate::quota::{Need, check_quota, dir_cost};
 use ice_base::{Disk, Form, Keep, Lot, OpFault, Pool, Rule};
 use ice_dir::add;
-use ice_look::{Ends, Place, Spot, check_path, find_ends, last_of, refusal_of};
+use ice_look::{DirAt, Ends, Place, check_path, find_ends, last_of, refusal_of};
 use ice_map::{Inode, put_inode};
 use tree_spec::{Name, Path, Refusal};
 
 /// The directory in which something new is to stand, by the ends of its path. NotFound and NotDir: the walk to the directory ends so.
 /// IsRoot: the path has no name. Exists: something stands there.
-fn new_spot(ends: &Ends, root: bool) -> Result<Spot, Refusal>
+fn new_spot(ends: &Ends, root: bool) -> Result<DirAt, Refusal>
+    // Of the ends of a path in a tree.
     ensures spot { (f : Form) (o : Table) (p : List (List ℕ)) (t : Tree) → IsEnds f o p t ends.now
-        → root ≡ is_root p
-        → MatchResult result (λ spot. IsSpot f o (parent p) t spot
-        × (new_refusal p t ≡ None)) (λ r. RefusedAs (refused_of r) (new_refusal p t)) }
-    ensures fits { (lot : LotView) → EndsFit lot ends.now → IfOk result (SpotFits lot) }
+        → root ≡ is_root p → Accepts (IsDirAt f o (parent p) t) (new_refusal p t) result }
+    // What it answers of any lot, damaged or not.
+    ensures fits { (lot : LotView) → EndsFit lot ends.now → IfOk result (DirFits lot) }
     ensures below { OnOk result (root ≡ false) }
-    ensures is { (entry : ℕ) (lot : LotView) (m : ℕ → List ℕ) → EndsAre entry lot m ends.now
-        → EndsFit lot ends.now → IfOk result (SpotIs entry lot m) }
+    ensures is { (form : Form) (lot : LotView) (m : ℕ → List ℕ) → EndsAre form lot m ends.now
+        → EndsFit lot ends.now → IfOk result (DirIs form lot m) }
+    // Which refusals there are, and when a fault comes.
     ensures set { IfErr result (λ r. (r ≡ NotFound) ⊎ (r ≡ NotDir) ⊎ (r ≡ IsRoot) ⊎ (r ≡ Exists)) }
 {
     match ends.parent {
@@ -54,7 +51,7 @@ fn new_spot(ends: &Ends, root: bool) -> Result<Spot, Refusal>
                 return Err(Refusal::IsRoot);
             }
             match ends.end {
-                Place::Missing => Ok(Spot {
+                Place::Missing => Ok(DirAt {
                     number,
                     entries: size,
                 }),
@@ -74,23 +71,33 @@ fn check_new<D: Disk, K: Keep<D>, P: Pool<D, K>, F: Form>(
     lot: &Lot,
     path: &Path,
     depth: usize,
-) -> Result<Spot, Refusal>
+) -> Result<DirAt, Refusal>
+    // The lot lies on the disk and has a group, and the path begins with the cube's names.
     requires sited { is_sited lot.now (D.state disk.old).size ≡ true }
     requires some { 1 ≤ length lot.now.groups }
     requires depth { depth ≤ length path.now }
-    ensures spot { (dir : Bool) (mode k : ℕ) (t : Tree) → IfShown K.View lot.now keep.old disk.old (λ old.
+    // Over a lot that recovers a tree, it finds what the tree has.
+    ensures spot { (dir : Bool) (mode k : ℕ) (t : Tree)
+        → IfShown K.View lot.now keep.old disk.old (λ old.
         MapRecovers (form_of F.VERSION) mode lot.now old t k
-        → MatchResult result (λ spot. IsSpot (form_of F.VERSION) (own (form_of F.VERSION) old) (parent (drop depth path.now)) t spot × (refusal t k (length lot.now.groups) (form_of F.VERSION) (new_operation dir (drop depth path.now)) ≡ None)) (λ r. RefusedAs (refused_of r) (refusal t k (length lot.now.groups) (form_of F.VERSION) (new_operation dir (drop depth path.now))))) }
-    ensures fits { IfOk result (SpotFits lot.now) }
+        → Accepts (IsDirAt (form_of F.VERSION) (own (form_of F.VERSION) old)
+        (parent (drop depth path.now)) t)
+        (refusal t k (length lot.now.groups) (form_of F.VERSION)
+        (new_operation dir (drop depth path.now))) result) }
+    // What it answers of any lot, damaged or not.
+    ensures fits { IfOk result (DirFits lot.now) }
     ensures below { OnOk result (depth < length path.now) }
-    ensures paths { ShownBy (paths_refusal (form_of F.VERSION) (drop depth path.now ∷ [])) result }
-    ensures untouched { (r : Why) → paths_refusal (form_of F.VERSION) (drop depth path.now ∷ []) ≡ Some r
-        → (disk.new ≡ disk.old) × (keep.new ≡ keep.old) × (pool.new ≡ pool.old) }
-    ensures looked { Looked D.Disk K.View lot.now keep.old disk.old keep.new disk.new }
     ensures ready { IfShown K.View lot.now keep.old disk.old (λ old.
         IfOk result (NewFits (form_of F.VERSION) lot.now old)) }
-    ensures damaged { (n : ℕ) → IsErrOf result (Damaged n) → IfShown K.View lot.now keep.old disk.old (λ old.
-        (r : Rule) × (n ≡ rule_number r) × IsBroken (form_of F.VERSION) lot.now old r) }
+    // Damage that it names is there.
+    ensures damaged { NamesBroken K.View (form_of F.VERSION) lot.now keep.old disk.old result }
+    // Names alone refuse a path before any call of the disk.
+    ensures paths { RefusesPaths F.VERSION (drop depth path.now ∷ []) result }
+    ensures untouched { UntouchedAll F.VERSION (drop depth path.now ∷ [])
+        keep.old pool.old disk.old keep.new pool.new disk.new }
+    // What stays as it was.
+    ensures looked { Looked D.Disk K.View lot.now keep.old disk.old keep.new disk.new }
+    // Which refusals there are, and when a fault comes.
     ensures set { IfErr result (IsOneOf make_refusals change_rules) }
     ensures failed { IsErrOf result Fault → Rose (D.state disk.old).faults (D.state disk.new).faults }
 {
@@ -141,27 +148,32 @@ fn put_node<D: Disk, K: Keep<D>, P: Pool<D, K>, F: Form>(
     pool: &mut P,
     disk: &mut D,
     lot: &Lot,
-    spot: &Spot,
+    spot: &DirAt,
     name: &Name,
     dir: bool,
 ) -> Result<(), OpFault>
+    // The lot lies on the disk and the keep has room.
     requires sited { is_sited lot.now (D.state disk.old).size ≡ true }
     requires number { spot.now.number < 64 * length lot.now.groups }
     requires fits { length name.now ≤ F.NAME }
     requires room { 11 ≤ K.room keep.old }
+    // Where it takes the operation, the lot recovers the changed tree; the disk alone may fail.
     ensures made { (mode k : ℕ) (t : Tree) (p : List (List ℕ))
         → AsShown K.View lot.now keep.old disk.old keep.new disk.new (λ old new.
         Takes (form_of F.VERSION) mode lot.now old t k p dir spot.now name.now
-        → OnOk result (MapRecovers (form_of F.VERSION) mode lot.now new (next (new_operation dir p) t) k)) }
+        → OnOk result (MapRecovers (form_of F.VERSION) mode lot.now new
+        (next (new_operation dir p) t) k)) }
     ensures sound { (mode k : ℕ) (t : Tree) (p : List (List ℕ))
         → IfShown K.View lot.now keep.old disk.old (λ old.
         Takes (form_of F.VERSION) mode lot.now old t k p dir spot.now name.now
-        → IfErr result (λ e. e ≡ FaultDisk)) }
-    ensures spent { Spent D.Disk K.View lot.now 11 keep.old disk.old keep.new disk.new }
+        → FailsByDisk result) }
+    // Damage that it names is there.
     ensures broken { IfShown K.View lot.now keep.old disk.old (λ old.
         NewFits (form_of F.VERSION) lot.now old spot.now → IfErr result (IsBrokenBy (form_of F.VERSION) lot.now old)) }
-    ensures done { AsShown K.View lot.now keep.old disk.old keep.new disk.new (λ old new.
-        OnOk result (long_at (new sub_address) 16 ≡ long_at (old sub_address) 16)) }
+    // What it spends of the keep, and what stays as it was.
+    ensures spent { Spent D.Disk K.View lot.now 11 keep.old disk.old keep.new disk.new }
+    ensures done { KeepsDone K.View lot.now keep.old disk.old keep.new disk.new result }
+    // Which refusals there are, and when a fault comes.
     ensures faults { IfErr result (IsNamedIn change_rules) }
     ensures failed { IsErrOf result FaultDisk → Rose (D.state disk.old).faults (D.state disk.new).faults }
 {
@@ -180,26 +192,32 @@ fn put_new<D: Disk, K: Keep<D>, P: Pool<D, K>, F: Form>(
     pool: &mut P,
     disk: &mut D,
     lot: &Lot,
-    spot: &Spot,
+    spot: &DirAt,
     name: &Name,
     dir: bool,
 ) -> Result<(), OpFault>
+    // The lot lies on the disk and the keep has room.
     requires sited { is_sited lot.now (D.state disk.old).size ≡ true }
     requires number { spot.now.number < 64 * length lot.now.groups }
     requires fits { length name.now ≤ F.NAME }
     requires room { 12 ≤ K.room keep.old }
+    // Where it takes the operation, the lot recovers the changed tree; the disk alone may fail.
     ensures made { (mode k : ℕ) (t : Tree) (p : List (List ℕ))
         → AsShown K.View lot.now keep.old disk.old keep.new disk.new (λ old new.
         Takes (form_of F.VERSION) mode lot.now old t k p dir spot.now name.now
-        → OnOk result (MapRecovers (form_of F.VERSION) mode lot.now new (next (new_operation dir p) t) (k + 1))) }
+        → OnOk result (MapRecovers (form_of F.VERSION) mode lot.now new
+        (next (new_operation dir p) t) (k + 1))) }
     ensures sound { (mode k : ℕ) (t : Tree) (p : List (List ℕ))
         → IfShown K.View lot.now keep.old disk.old (λ old.
         Takes (form_of F.VERSION) mode lot.now old t k p dir spot.now name.now
-        → IfErr result (λ e. e ≡ FaultDisk)) }
-    ensures counted { OnOk result (K.held keep.new sub_address ≡ true) }
-    ensures spent { Spent D.Disk K.View lot.now 12 keep.old disk.old keep.new disk.new }
+        → FailsByDisk result) }
+    // Damage that it names is there.
     ensures broken { IfShown K.View lot.now keep.old disk.old (λ old.
         NewFits (form_of F.VERSION) lot.now old spot.now → IfErr result (IsBrokenBy (form_of F.VERSION) lot.now old)) }
+    // What it spends of the keep, and what stays as it was.
+    ensures counted { OnOk result (K.held keep.new sub_address ≡ true) }
+    ensures spent { Spent D.Disk K.View lot.now 12 keep.old disk.old keep.new disk.new }
+    // Which refusals there are, and when a fault comes.
     ensures faults { IfErr result (IsNamedIn change_rules) }
     ensures failed { IsErrOf result FaultDisk → Rose (D.state disk.old).faults (D.state disk.new).faults }
 {
@@ -218,26 +236,27 @@ fn make_node<D: Disk, K: Keep<D>, P: Pool<D, K>, F: Form>(
     depth: usize,
     dir: bool,
 ) -> Result<(), Refusal>
+    // The lot lies on the disk and has a group, the path begins with the cube's names, and the keep has room.
     requires sited { is_sited lot.now (D.state disk.old).size ≡ true }
     requires some { 1 ≤ length lot.now.groups }
     requires depth { depth ≤ length path.now }
     requires room { 96 ≤ K.room keep.old }
-    ensures answers { (mode k : ℕ) (t : Tree) → IfShown K.View lot.now keep.old disk.old (λ old.
-        MapRecovers (form_of F.VERSION) mode lot.now old t k
-        → AsModel (meant_plain result) (answer t k (length lot.now.groups) (form_of F.VERSION) (new_operation dir (drop depth path.now))).0) }
-    ensures changed { (mode k : ℕ) (t : Tree)
-        → AsShown K.View lot.now keep.old disk.old keep.new disk.new (λ old new.
-        MapRecovers (form_of F.VERSION) mode lot.now old t k
-        → OnOk result (MapRecovers (form_of F.VERSION) mode lot.now new (answer t k (length lot.now.groups) (form_of F.VERSION) (new_operation dir (drop depth path.now))).1 (k + 1))) }
+    // Over a lot that recovers a tree, the answer and the change are the model's.
+    ensures answers { AnswersAs K.View F.VERSION lot.now keep.old disk.old
+        (new_operation dir (drop depth path.now)) (meant_plain result) }
+    ensures changed { ChangesAs K.View F.VERSION lot.now keep.old disk.old keep.new disk.new
+        (new_operation dir (drop depth path.now)) result }
+    // Damage that it names is there.
+    ensures damaged { NamesBroken K.View (form_of F.VERSION) lot.now keep.old disk.old result }
+    // Names alone refuse a path before any call of the disk.
+    ensures paths { RefusesPaths F.VERSION (drop depth path.now ∷ []) result }
+    ensures untouched { UntouchedAll F.VERSION (drop depth path.now ∷ [])
+        keep.old pool.old disk.old keep.new pool.new disk.new }
+    // What it spends of the keep, and what stays as it was.
     ensures counted { OnOk result (K.held keep.new sub_address ≡ true) }
-    ensures paths { ShownBy (paths_refusal (form_of F.VERSION) (drop depth path.now ∷ [])) result }
-    ensures untouched { (r : Why) → paths_refusal (form_of F.VERSION) (drop depth path.now ∷ []) ≡ Some r
-        → (disk.new ≡ disk.old) × (keep.new ≡ keep.old) × (pool.new ≡ pool.old) }
-    ensures refused { IfErr result (λ r. number_of r ≤ 14
-        → Looked D.Disk K.View lot.now keep.old disk.old keep.new disk.new) }
+    ensures refused { LooksIfRefused D.Disk K.View lot.now keep.old disk.old keep.new disk.new result }
     ensures spent { Spent D.Disk K.View lot.now 96 keep.old disk.old keep.new disk.new }
-    ensures damaged { (n : ℕ) → IsErrOf result (Damaged n) → IfShown K.View lot.now keep.old disk.old (λ old.
-        (r : Rule) × (n ≡ rule_number r) × IsBroken (form_of F.VERSION) lot.now old r) }
+    // Which refusals there are, and when a fault comes.
     ensures set { IfErr result (IsOneOf make_refusals change_rules) }
     ensures failed { IsErrOf result Fault → Rose (D.state disk.old).faults (D.state disk.new).faults }
 {
@@ -261,26 +280,27 @@ pub fn mkdir<D: Disk, K: Keep<D>, P: Pool<D, K>, F: Form>(
     path: &Path,
     depth: usize,
 ) -> Result<(), Refusal>
+    // The lot lies on the disk and has a group, the path begins with the cube's names, and the keep has room.
     requires sited { is_sited lot.now (D.state disk.old).size ≡ true }
     requires some { 1 ≤ length lot.now.groups }
     requires depth { depth ≤ length path.now }
     requires room { 96 ≤ K.room keep.old }
-    ensures answers { (mode k : ℕ) (t : Tree) → IfShown K.View lot.now keep.old disk.old (λ old.
-        MapRecovers (form_of F.VERSION) mode lot.now old t k
-        → AsModel (meant_plain result) (answer t k (length lot.now.groups) (form_of F.VERSION) (Mkdir (drop depth path.now))).0) }
-    ensures changed { (mode k : ℕ) (t : Tree)
-        → AsShown K.View lot.now keep.old disk.old keep.new disk.new (λ old new.
-        MapRecovers (form_of F.VERSION) mode lot.now old t k
-        → OnOk result (MapRecovers (form_of F.VERSION) mode lot.now new (answer t k (length lot.now.groups) (form_of F.VERSION) (Mkdir (drop depth path.now))).1 (k + 1))) }
+    // Over a lot that recovers a tree, the answer and the change are the model's.
+    ensures answers { AnswersAs K.View F.VERSION lot.now keep.old disk.old
+        (Mkdir (drop depth path.now)) (meant_plain result) }
+    ensures changed { ChangesAs K.View F.VERSION lot.now keep.old disk.old keep.new disk.new
+        (Mkdir (drop depth path.now)) result }
+    // Damage that it names is there.
+    ensures damaged { NamesBroken K.View (form_of F.VERSION) lot.now keep.old disk.old result }
+    // Names alone refuse a path before any call of the disk.
+    ensures paths { RefusesPaths F.VERSION (drop depth path.now ∷ []) result }
+    ensures untouched { UntouchedAll F.VERSION (drop depth path.now ∷ [])
+        keep.old pool.old disk.old keep.new pool.new disk.new }
+    // What it spends of the keep, and what stays as it was.
     ensures counted { OnOk result (K.held keep.new sub_address ≡ true) }
-    ensures paths { ShownBy (paths_refusal (form_of F.VERSION) (drop depth path.now ∷ [])) result }
-    ensures untouched { (r : Why) → paths_refusal (form_of F.VERSION) (drop depth path.now ∷ []) ≡ Some r
-        → (disk.new ≡ disk.old) × (keep.new ≡ keep.old) × (pool.new ≡ pool.old) }
-    ensures refused { IfErr result (λ r. number_of r ≤ 14
-        → Looked D.Disk K.View lot.now keep.old disk.old keep.new disk.new) }
+    ensures refused { LooksIfRefused D.Disk K.View lot.now keep.old disk.old keep.new disk.new result }
     ensures spent { Spent D.Disk K.View lot.now 96 keep.old disk.old keep.new disk.new }
-    ensures damaged { (n : ℕ) → IsErrOf result (Damaged n) → IfShown K.View lot.now keep.old disk.old (λ old.
-        (r : Rule) × (n ≡ rule_number r) × IsBroken (form_of F.VERSION) lot.now old r) }
+    // Which refusals there are, and when a fault comes.
     ensures set { IfErr result (IsOneOf make_refusals change_rules) }
     ensures failed { IsErrOf result Fault → Rose (D.state disk.old).faults (D.state disk.new).faults }
 {
@@ -296,26 +316,27 @@ pub fn make<D: Disk, K: Keep<D>, P: Pool<D, K>, F: Form>(
     path: &Path,
     depth: usize,
 ) -> Result<(), Refusal>
+    // The lot lies on the disk and has a group, the path begins with the cube's names, and the keep has room.
     requires sited { is_sited lot.now (D.state disk.old).size ≡ true }
     requires some { 1 ≤ length lot.now.groups }
     requires depth { depth ≤ length path.now }
     requires room { 96 ≤ K.room keep.old }
-    ensures answers { (mode k : ℕ) (t : Tree) → IfShown K.View lot.now keep.old disk.old (λ old.
-        MapRecovers (form_of F.VERSION) mode lot.now old t k
-        → AsModel (meant_plain result) (answer t k (length lot.now.groups) (form_of F.VERSION) (Make (drop depth path.now))).0) }
-    ensures changed { (mode k : ℕ) (t : Tree)
-        → AsShown K.View lot.now keep.old disk.old keep.new disk.new (λ old new.
-        MapRecovers (form_of F.VERSION) mode lot.now old t k
-        → OnOk result (MapRecovers (form_of F.VERSION) mode lot.now new (answer t k (length lot.now.groups) (form_of F.VERSION) (Make (drop depth path.now))).1 (k + 1))) }
+    // Over a lot that recovers a tree, the answer and the change are the model's.
+    ensures answers { AnswersAs K.View F.VERSION lot.now keep.old disk.old
+        (Make (drop depth path.now)) (meant_plain result) }
+    ensures changed { ChangesAs K.View F.VERSION lot.now keep.old disk.old keep.new disk.new
+        (Make (drop depth path.now)) result }
+    // Damage that it names is there.
+    ensures damaged { NamesBroken K.View (form_of F.VERSION) lot.now keep.old disk.old result }
+    // Names alone refuse a path before any call of the disk.
+    ensures paths { RefusesPaths F.VERSION (drop depth path.now ∷ []) result }
+    ensures untouched { UntouchedAll F.VERSION (drop depth path.now ∷ [])
+        keep.old pool.old disk.old keep.new pool.new disk.new }
+    // What it spends of the keep, and what stays as it was.
     ensures counted { OnOk result (K.held keep.new sub_address ≡ true) }
-    ensures paths { ShownBy (paths_refusal (form_of F.VERSION) (drop depth path.now ∷ [])) result }
-    ensures untouched { (r : Why) → paths_refusal (form_of F.VERSION) (drop depth path.now ∷ []) ≡ Some r
-        → (disk.new ≡ disk.old) × (keep.new ≡ keep.old) × (pool.new ≡ pool.old) }
-    ensures refused { IfErr result (λ r. number_of r ≤ 14
-        → Looked D.Disk K.View lot.now keep.old disk.old keep.new disk.new) }
+    ensures refused { LooksIfRefused D.Disk K.View lot.now keep.old disk.old keep.new disk.new result }
     ensures spent { Spent D.Disk K.View lot.now 96 keep.old disk.old keep.new disk.new }
-    ensures damaged { (n : ℕ) → IsErrOf result (Damaged n) → IfShown K.View lot.now keep.old disk.old (λ old.
-        (r : Rule) × (n ≡ rule_number r) × IsBroken (form_of F.VERSION) lot.now old r) }
+    // Which refusals there are, and when a fault comes.
     ensures set { IfErr result (IsOneOf make_refusals change_rules) }
     ensures failed { IsErrOf result Fault → Rose (D.state disk.old).faults (D.state disk.new).faults }
 {

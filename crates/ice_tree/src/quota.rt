@@ -1,20 +1,17 @@
 //! What a change needs: nodes, blocks, and one more accepted operation.
-ghost use Rattle.std.specs.Prelude.{◌≡◌, ◌≤◌, ◌<◌, ◌+◌, ℕ, true, false, [], ◌∷◌, None, OnOk, IfErr, IsErrOf, MatchResult, length};
+ghost use Rattle.std.specs.Prelude.{◌≡◌, ◌≤◌, ◌<◌, ◌+◌, ℕ, true, false, [], ◌∷◌, OnOk, IfErr, IsErrOf, length};
 ghost use Rattle.ice_base.specs.Disk.{Rose};
 ghost use Rattle.ice_base.specs.Lots.{is_sited};
 ghost use Rattle.ice_base.specs.Used.{free_count};
 ghost use Rattle.ice_base.specs.Views.{Looked, IfShown};
-ghost use Rattle.ice_base.specs.declared.fault.Rule.{Rule};
 ghost use Rattle.tree_spec.specs.Costs.{form_of, map_cost, file_blocks, dir_blocks, form_one};
-ghost use Rattle.tree_spec.specs.Replies.{refused_of};
 ghost use Rattle.tree_spec.specs.Trees.{Tree};
-ghost use Rattle.tree_spec.specs.declared.reply.Refusal.TheVariants.{NoNodes, NoSpace, Fault, Damaged};
+ghost use Rattle.tree_spec.specs.declared.reply.Refusal.TheVariants.{NoNodes, NoSpace, Fault};
 ghost use Rattle.ice_reads.specs.Recovers.{MapRecovers};
-ghost use Rattle.ice_rules.specs.Rules.{rule_number};
-ghost use Rattle.ice_look.specs.Broken.{IsBroken};
 ghost use Rattle.ice_tree.specs.Quotas.{Needs, CanCount, HasFree, quota_refusal, nodes_refusal, blocks_refusal, done_refusal};
-ghost use Rattle.ice_look.specs.Outcomes.{RefusedAs, IsOneOf};
+ghost use Rattle.ice_look.specs.Outcomes.{IsOneOf};
 ghost use Rattle.ice_tree.specs.Outcomes.{sub_rules};
+ghost use Rattle.ice_look.specs.Calls.{IfRecovers, RefusedBy, NamesBroken};
 
 use crate::counts::{MOST_DONE, done_of};
 use ice_base::{Disk, Form, Keep, Lot, Pool};
@@ -62,15 +59,21 @@ fn check_nodes<D: Disk, K: Keep<D>, P: Pool<D, K>, F: Form>(
     lot: &Lot,
     need: &Need,
 ) -> Result<(), Refusal>
+    // The lot lies on the disk.
     requires { is_sited lot.now (D.state disk.old).size ≡ true }
+    // Over a lot that recovers a tree, it finds what the tree has.
     ensures nodes { (mode k : ℕ) (t next : Tree) → IfShown K.View lot.now keep.old disk.old (λ old.
-        MapRecovers (form_of F.VERSION) mode lot.now old t k → Needs (form_of F.VERSION) t next need.now
-        → MatchResult result (λ u. nodes_refusal (length lot.now.groups) next ≡ None) (λ r. RefusedAs (refused_of r) (nodes_refusal (length lot.now.groups) next))) }
+        MapRecovers (form_of F.VERSION) mode lot.now old t k
+        → Needs (form_of F.VERSION) t next need.now
+        → RefusedBy (nodes_refusal (length lot.now.groups) next) result) }
+    // What it answers of any lot, damaged or not.
     ensures enough { IfShown K.View lot.now keep.old disk.old (λ old.
         OnOk result (need.now.nodes ≤ need.now.lost + free_count true lot.now old)) }
-    ensures damaged { (n : ℕ) → IsErrOf result (Damaged n) → IfShown K.View lot.now keep.old disk.old (λ old.
-        (r : Rule) × (n ≡ rule_number r) × IsBroken (form_of F.VERSION) lot.now old r) }
+    // Damage that it names is there.
+    ensures damaged { NamesBroken K.View (form_of F.VERSION) lot.now keep.old disk.old result }
+    // What stays as it was.
     ensures looked { Looked D.Disk K.View lot.now keep.old disk.old keep.new disk.new }
+    // Which refusals there are, and when a fault comes.
     ensures more { IsErrOf result NoNodes → need.now.lost < need.now.nodes }
     ensures set { IfErr result (IsOneOf (12 ∷ []) []) }
     ensures failed { IsErrOf result Fault → Rose (D.state disk.old).faults (D.state disk.new).faults }
@@ -97,15 +100,22 @@ fn check_blocks<D: Disk, K: Keep<D>, P: Pool<D, K>, F: Form>(
     lot: &Lot,
     need: &Need,
 ) -> Result<(), Refusal>
+    // The lot lies on the disk.
     requires { is_sited lot.now (D.state disk.old).size ≡ true }
-    ensures blocks { (mode k : ℕ) (t next : Tree) → IfShown K.View lot.now keep.old disk.old (λ old.
-        MapRecovers (form_of F.VERSION) mode lot.now old t k → Needs (form_of F.VERSION) t next need.now
-        → MatchResult result (λ u. blocks_refusal (length lot.now.groups) (form_of F.VERSION) next ≡ None) (λ r. RefusedAs (refused_of r) (blocks_refusal (length lot.now.groups) (form_of F.VERSION) next))) }
+    // Over a lot that recovers a tree, it finds what the tree has.
+    ensures blocks { (mode k : ℕ) (t next : Tree)
+        → IfShown K.View lot.now keep.old disk.old (λ old.
+        MapRecovers (form_of F.VERSION) mode lot.now old t k
+        → Needs (form_of F.VERSION) t next need.now
+        → RefusedBy (blocks_refusal (length lot.now.groups) (form_of F.VERSION) next) result) }
+    // What it answers of any lot, damaged or not.
     ensures enough { IfShown K.View lot.now keep.old disk.old (λ old.
         OnOk result (need.now.blocks ≤ need.now.freed + free_count false lot.now old)) }
-    ensures damaged { (n : ℕ) → IsErrOf result (Damaged n) → IfShown K.View lot.now keep.old disk.old (λ old.
-        (r : Rule) × (n ≡ rule_number r) × IsBroken (form_of F.VERSION) lot.now old r) }
+    // Damage that it names is there.
+    ensures damaged { NamesBroken K.View (form_of F.VERSION) lot.now keep.old disk.old result }
+    // What stays as it was.
     ensures looked { Looked D.Disk K.View lot.now keep.old disk.old keep.new disk.new }
+    // Which refusals there are, and when a fault comes.
     ensures more { IsErrOf result NoSpace → need.now.freed < need.now.blocks }
     ensures set { IfErr result (IsOneOf (13 ∷ []) []) }
     ensures failed { IsErrOf result Fault → Rose (D.state disk.old).faults (D.state disk.new).faults }
@@ -130,14 +140,18 @@ fn check_done<D: Disk, K: Keep<D>, F: Form>(
     disk: &mut D,
     lot: &Lot,
 ) -> Result<(), Refusal>
+    // The lot lies on the disk.
     requires { is_sited lot.now (D.state disk.old).size ≡ true }
-    ensures done { (mode k : ℕ) (t : Tree) → IfShown K.View lot.now keep.old disk.old (λ old.
-        MapRecovers (form_of F.VERSION) mode lot.now old t k
-        → MatchResult result (λ u. done_refusal k ≡ None) (λ r. RefusedAs (refused_of r) (done_refusal k))) }
+    // Over a lot that recovers a tree, it finds what the tree has.
+    ensures done { IfRecovers K.View F.VERSION lot.now keep.old disk.old (λ _ _ k.
+        RefusedBy (done_refusal k) result) }
+    // What it answers of any lot, damaged or not.
     ensures enough { IfShown K.View lot.now keep.old disk.old (λ old. OnOk result (CanCount old)) }
-    ensures damaged { (n : ℕ) → IsErrOf result (Damaged n) → IfShown K.View lot.now keep.old disk.old (λ old.
-        (r : Rule) × (n ≡ rule_number r) × IsBroken (form_of F.VERSION) lot.now old r) }
+    // Damage that it names is there.
+    ensures damaged { NamesBroken K.View (form_of F.VERSION) lot.now keep.old disk.old result }
+    // What stays as it was.
     ensures looked { Looked D.Disk K.View lot.now keep.old disk.old keep.new disk.new }
+    // Which refusals there are, and when a fault comes.
     ensures set { IfErr result (IsOneOf (14 ∷ []) sub_rules) }
     ensures failed { IsErrOf result Fault → Rose (D.state disk.old).faults (D.state disk.new).faults }
 {
@@ -160,15 +174,21 @@ pub(crate) fn check_quota<D: Disk, K: Keep<D>, P: Pool<D, K>, F: Form>(
     lot: &Lot,
     need: &Need,
 ) -> Result<(), Refusal>
+    // The lot lies on the disk.
     requires { is_sited lot.now (D.state disk.old).size ≡ true }
+    // Over a lot that recovers a tree, it finds what the tree has.
     ensures quota { (mode k : ℕ) (t next : Tree) → IfShown K.View lot.now keep.old disk.old (λ old.
-        MapRecovers (form_of F.VERSION) mode lot.now old t k → Needs (form_of F.VERSION) t next need.now
-        → MatchResult result (λ u. quota_refusal (length lot.now.groups) (form_of F.VERSION) k next ≡ None) (λ r. RefusedAs (refused_of r) (quota_refusal (length lot.now.groups) (form_of F.VERSION) k next))) }
+        MapRecovers (form_of F.VERSION) mode lot.now old t k
+        → Needs (form_of F.VERSION) t next need.now
+        → RefusedBy (quota_refusal (length lot.now.groups) (form_of F.VERSION) k next) result) }
+    // What it answers of any lot, damaged or not.
     ensures enough { IfShown K.View lot.now keep.old disk.old (λ old.
         OnOk result (HasFree lot.now old need.now)) }
-    ensures damaged { (n : ℕ) → IsErrOf result (Damaged n) → IfShown K.View lot.now keep.old disk.old (λ old.
-        (r : Rule) × (n ≡ rule_number r) × IsBroken (form_of F.VERSION) lot.now old r) }
+    // Damage that it names is there.
+    ensures damaged { NamesBroken K.View (form_of F.VERSION) lot.now keep.old disk.old result }
+    // What stays as it was.
     ensures looked { Looked D.Disk K.View lot.now keep.old disk.old keep.new disk.new }
+    // Which refusals there are, and when a fault comes.
     ensures more_nodes { IsErrOf result NoNodes → need.now.lost < need.now.nodes }
     ensures more_blocks { IsErrOf result NoSpace → need.now.freed < need.now.blocks }
     ensures set { IfErr result (IsOneOf (12 ∷ 13 ∷ 14 ∷ []) sub_rules) }

@@ -1,63 +1,59 @@
 //! Files and empty directories that are taken away.
 ghost use Rattle.std.specs.Prelude.{◌≡◌, ◌≢◌, ◌≤◌, ◌<◌, ◌+◌, ◌*◌, ℕ, List, true, false, [], ◌∷◌, Some, None, OnOk, IfOk, IfErr, IsErrOf, MatchResult, length, drop};
 ghost use Rattle.ice_base.specs.Disk.{Rose};
-ghost use Rattle.ice_base.specs.Fields.{long_at};
 ghost use Rattle.ice_base.specs.Lots.{LotView, is_sited, sub_address};
 ghost use Rattle.ice_base.specs.Used.{used_inode, counted};
 ghost use Rattle.ice_base.specs.Views.{Looked, Spent, AsShown, IfShown};
 ghost use Rattle.ice_base.specs.declared.fault.OpFault.TheVariants.{Disk as FaultDisk};
-ghost use Rattle.ice_base.specs.declared.fault.Rule.{Rule};
 ghost use Rattle.ice_map.specs.Inodes.{inode_of};
 ghost use Rattle.ice_file.specs.Files.{ReachesTo};
 ghost use Rattle.tree_spec.specs.Answers.{answer, next, is_root};
-ghost use Rattle.tree_spec.specs.Costs.{Form, form_of};
+ghost use Rattle.tree_spec.specs.Costs.{Form, form_one, form_of};
 ghost use Rattle.tree_spec.specs.Operations.{Remove};
-ghost use Rattle.tree_spec.specs.Replies.{number_of, refused_of};
 ghost use Rattle.tree_spec.specs.Trees.{Tree, last_name};
-ghost use Rattle.tree_spec.specs.Why.{Why};
 ghost use Rattle.tree_spec.specs.declared.reply.Refusal.TheVariants.{NotDir, Fault, Damaged};
 ghost use Rattle.ice_reads.specs.Tables.{Table};
 ghost use Rattle.ice_map.specs.Own.{own};
-ghost use Rattle.ice_reads.specs.Reads.{inode_on};
 ghost use Rattle.ice_reads.specs.Recovers.{MapRecovers};
 ghost use Rattle.ice_steps.specs.Beside.{Beside};
-ghost use Rattle.ice_rules.specs.Rules.{rule_number};
-ghost use Rattle.ice_look.specs.Broken.{IsBroken, IsBrokenBy, IsFaultBy};
+ghost use Rattle.ice_look.specs.Broken.{IsBrokenBy, IsFaultBy};
 ghost use Rattle.ice_look.specs.Ends.{IsEnds, EndsFit, EndsAre};
 ghost use Rattle.ice_tree.specs.Quotas.{CanCount, quota_refusal};
-ghost use Rattle.ice_tree.specs.Removes.{GoneIs, LooseBroken, gone_refusal, IsGone, GoneFits, Loses, StandsLoose, free_inode, Freed};
-ghost use Rattle.ice_look.specs.Outcomes.{AsModel, RefusedAs, meant_plain, ShownBy, IsOneOf};
+ghost use Rattle.ice_tree.specs.Removes.{RemovalIs, LooseBroken, removal_refusal, IsRemoval, RemovalFits, Loses, StandsLoose, free_inode, Freed};
+ghost use Rattle.ice_look.specs.Outcomes.{meant_plain, IsOneOf};
 ghost use Rattle.ice_tree.specs.Outcomes.{IsNamedIn, remove_refusals, sub_rules, change_rules};
 ghost use Rattle.ice_look.specs.Places.{PlaceNamed};
 ghost use Rattle.ice_look.specs.declared.place.Place.TheVariants.{Dir};
-ghost use Rattle.ice_look.specs.Stages.{or_else, paths_refusal};
+ghost use Rattle.ice_look.specs.Stages.{or_else};
+ghost use Rattle.ice_look.specs.Calls.{IfRecovers, AnswersAs, FailsByDisk, inode_at, RefusedBy, Accepts, RefusesPaths, NamesBroken};
+ghost use Rattle.ice_tree.specs.Calls.{ChangesAs, UntouchedAll, LooksIfRefused, KeepsDone};
 
 use crate::counts::count_up;
 use crate::quota::{Need, check_quota, dir_cost, file_cost};
 use ice_base::{Disk, Form, Keep, Lot, OpFault, Pool, Rule, View};
 use ice_dir::take;
 use ice_file::cut_to;
-use ice_look::{Ends, Place, Spot, check_path, find_ends, last_of, refusal_of};
+use ice_look::{DirAt, Ends, Place, check_path, find_ends, last_of, refusal_of};
 use ice_map::{Inode, put_inode};
 use tree_spec::{Name, Path, Refusal};
 
 /// What is to be removed: the directory that has it as an entry, the number of its inode, and the bytes of a file.
 #[derive(Clone, Copy, Drop)]
-pub struct Gone {
-    pub spot: Spot,
+pub struct Removal {
+    pub spot: DirAt,
     pub number: u32,
     pub bytes: u32,
 }
 
 /// What an inode stands for, in the directory at a place. NotDir: no directory is there.
-fn gone_in(parent: Place, number: u32, bytes: u32) -> Result<Gone, Refusal>
+fn removal_in(parent: Place, number: u32, bytes: u32) -> Result<Removal, Refusal>
     ensures { MatchResult result (λ gone. (parent ≡ Dir gone.spot.number gone.spot.entries)
         × (gone.number ≡ number) × (gone.bytes ≡ bytes)) (λ r. (r ≡ NotDir)
         × ((dir entries : ℕ) → parent ≢ Dir dir entries)) }
 {
     match parent {
-        Place::Dir { number: dir, size } => Ok(Gone {
-            spot: Spot {
+        Place::Dir { number: dir, size } => Ok(Removal {
+            spot: DirAt {
                 number: dir,
                 entries: size,
             },
@@ -71,54 +67,62 @@ fn gone_in(parent: Place, number: u32, bytes: u32) -> Result<Gone, Refusal>
 }
 
 /// What stands at a path with these ends. NotFound and NotDir: the walk ends so. NotEmpty: a directory with entries.
-fn gone_of(ends: &Ends) -> Result<Gone, Refusal>
+fn removal_of(ends: &Ends) -> Result<Removal, Refusal>
+    // Of the ends of a path in a tree.
     ensures gone { (f : Form) (o : Table) (p : List (List ℕ)) (t : Tree) → is_root p ≡ false
-        → IsEnds f o p t ends.now
-        → MatchResult result (λ gone. (gone_refusal p t ≡ None)
-        × IsGone f o p t gone) (λ r. RefusedAs (refused_of r) (gone_refusal p t)) }
-    ensures fits { (lot : LotView) → EndsFit lot ends.now → IfOk result (GoneFits lot) }
-    ensures is { (entry : ℕ) (lot : LotView) (m : ℕ → List ℕ) (name : List ℕ) → EndsAre entry lot m ends.now
-        → EndsFit lot ends.now → PlaceNamed entry m ends.now.parent name ends.now.end
-        → IfOk result (GoneIs entry lot m name) }
+        → IsEnds f o p t ends.now → Accepts (IsRemoval f o p t) (removal_refusal p t) result }
+    // What it answers of any lot, damaged or not.
+    ensures fits { (lot : LotView) → EndsFit lot ends.now → IfOk result (RemovalFits lot) }
+    ensures is { (form : Form) (lot : LotView) (m : ℕ → List ℕ) (name : List ℕ)
+        → EndsAre form lot m ends.now → EndsFit lot ends.now
+        → PlaceNamed form m ends.now.parent name ends.now.end
+        → IfOk result (RemovalIs form lot m name) }
+    // Damage that it names is there.
     ensures undamaged { (n : ℕ) → IsErrOf result (Damaged n) → ⊥ }
+    // Which refusals there are, and when a fault comes.
     ensures set { IfErr result (IsOneOf remove_refusals []) }
     ensures faultless { IsErrOf result Fault → ⊥ }
 {
     match ends.end {
         Place::Missing => Err(Refusal::NotFound),
         Place::Blocked => Err(Refusal::NotDir),
-        Place::File { number, size } => gone_in(ends.parent, number, size),
+        Place::File { number, size } => removal_in(ends.parent, number, size),
         Place::Dir { number, size } => {
             if size > 0 {
                 return Err(Refusal::NotEmpty);
             }
-            gone_in(ends.parent, number, 0)
+            removal_in(ends.parent, number, 0)
         }
     }
 }
 
 /// What stands at a path. IsRoot: the path has no names.
-fn find_gone<D: Disk, V: View<D>, F: Form>(
+#[tactic(auto, using(ice_map::proofs::SizeLaws::size_laws))]
+fn find_removal<D: Disk, V: View<D>, F: Form>(
     view: &mut V,
     disk: &mut D,
     lot: &Lot,
     path: &Path,
     depth: usize,
-) -> Result<Gone, Refusal>
+) -> Result<Removal, Refusal>
+    // The lot lies on the disk and has a group, and the path begins with the cube's names.
     requires sited { is_sited lot.now (D.state disk.old).size ≡ true }
     requires some { 1 ≤ length lot.now.groups }
     requires depth { depth ≤ length path.now }
-    ensures found { (mode k : ℕ) (t : Tree) → IfShown V.View lot.now view.old disk.old (λ old.
-        MapRecovers (form_of F.VERSION) mode lot.now old t k
-        → MatchResult result (λ gone. (gone_refusal (drop depth path.now) t ≡ None)
-        × IsGone (form_of F.VERSION) (own (form_of F.VERSION) old) (drop depth path.now) t gone) (λ r. RefusedAs (refused_of r) (gone_refusal (drop depth path.now) t))) }
-    ensures fits { IfOk result (GoneFits lot.now) }
+    // Over a lot that recovers a tree, it finds what the tree has.
+    ensures found { IfRecovers V.View F.VERSION lot.now view.old disk.old (λ old t _.
+        Accepts (IsRemoval (form_of F.VERSION) (own (form_of F.VERSION) old)
+        (drop depth path.now) t) (removal_refusal (drop depth path.now) t) result) }
+    // What it answers of any lot, damaged or not.
+    ensures fits { IfOk result (RemovalFits lot.now) }
     ensures below { OnOk result (depth < length path.now) }
-    ensures looked { Looked D.Disk V.View lot.now view.old disk.old view.new disk.new }
     ensures is { IfShown V.View lot.now view.old disk.old (λ old.
-        IfOk result (GoneIs (form_of F.VERSION) lot.now old (last_name (drop depth path.now)))) }
-    ensures damaged { (n : ℕ) → IsErrOf result (Damaged n) → IfShown V.View lot.now view.old disk.old (λ old.
-        (r : Rule) × (n ≡ rule_number r) × IsBroken (form_of F.VERSION) lot.now old r) }
+        IfOk result (RemovalIs (form_of F.VERSION) lot.now old (last_name (drop depth path.now)))) }
+    // Damage that it names is there.
+    ensures damaged { NamesBroken V.View (form_of F.VERSION) lot.now view.old disk.old result }
+    // What stays as it was.
+    ensures looked { Looked D.Disk V.View lot.now view.old disk.old view.new disk.new }
+    // Which refusals there are, and when a fault comes.
     ensures set { IfErr result (IsOneOf remove_refusals change_rules) }
     ensures failed { IsErrOf result Fault → Rose (D.state disk.old).faults (D.state disk.new).faults }
 {
@@ -127,30 +131,36 @@ fn find_gone<D: Disk, V: View<D>, F: Form>(
     }
     match find_ends::<D, V, F>(view, disk, lot, path, depth) {
         Err(fault) => Err(refusal_of(fault)),
-        Ok(ends) => gone_of(&ends),
+        Ok(ends) => removal_of(&ends),
     }
 }
 
 /// The refusals by the quota. A removal needs no node and gives one back; its directory has a block less where the last one was its only one.
-fn check_gone<D: Disk, K: Keep<D>, P: Pool<D, K>, F: Form>(
+#[tactic(auto, using(ice_map::proofs::SizeLaws::size_laws))]
+fn check_removal<D: Disk, K: Keep<D>, P: Pool<D, K>, F: Form>(
     keep: &mut K,
     pool: &mut P,
     disk: &mut D,
     lot: &Lot,
-    gone: &Gone,
+    gone: &Removal,
 ) -> Result<(), Refusal>
+    // The lot lies on the disk.
     requires sited { is_sited lot.now (D.state disk.old).size ≡ true }
-    requires fits { GoneFits lot.now gone.now }
+    requires fits { RemovalFits lot.now gone.now }
+    // Over a lot that recovers a tree, it finds what the tree has.
     ensures quota { (mode k : ℕ) (t : Tree) (p : List (List ℕ))
         → IfShown K.View lot.now keep.old disk.old (λ old.
         MapRecovers (form_of F.VERSION) mode lot.now old t k
-        → IsGone (form_of F.VERSION) (own (form_of F.VERSION) old) p t gone.now
-        → gone_refusal p t ≡ None
-        → MatchResult result (λ u. quota_refusal (length lot.now.groups) (form_of F.VERSION) k (next (Remove p) t) ≡ None) (λ r. RefusedAs (refused_of r) (quota_refusal (length lot.now.groups) (form_of F.VERSION) k (next (Remove p) t)))) }
-    ensures looked { Looked D.Disk K.View lot.now keep.old disk.old keep.new disk.new }
+        → IsRemoval (form_of F.VERSION) (own (form_of F.VERSION) old) p t gone.now
+        → removal_refusal p t ≡ None → RefusedBy
+        (quota_refusal (length lot.now.groups) (form_of F.VERSION) k (next (Remove p) t)) result) }
+    // What it answers of any lot, damaged or not.
     ensures room { IfShown K.View lot.now keep.old disk.old (λ old. OnOk result (CanCount old)) }
-    ensures damaged { (n : ℕ) → IsErrOf result (Damaged n) → IfShown K.View lot.now keep.old disk.old (λ old.
-        (r : Rule) × (n ≡ rule_number r) × IsBroken (form_of F.VERSION) lot.now old r) }
+    // Damage that it names is there.
+    ensures damaged { NamesBroken K.View (form_of F.VERSION) lot.now keep.old disk.old result }
+    // What stays as it was.
+    ensures looked { Looked D.Disk K.View lot.now keep.old disk.old keep.new disk.new }
+    // Which refusals there are, and when a fault comes.
     ensures set { IfErr result (IsOneOf remove_refusals sub_rules) }
     ensures failed { IsErrOf result Fault → Rose (D.state disk.old).faults (D.state disk.new).faults }
 {
@@ -164,6 +174,7 @@ fn check_gone<D: Disk, K: Keep<D>, P: Pool<D, K>, F: Form>(
 }
 
 /// What a removal takes away, where nothing but the names of the path refuses it.
+#[tactic(auto, using(ice_map::proofs::SizeLaws::size_laws))]
 fn may_remove<D: Disk, K: Keep<D>, P: Pool<D, K>, F: Form>(
     keep: &mut K,
     pool: &mut P,
@@ -171,27 +182,34 @@ fn may_remove<D: Disk, K: Keep<D>, P: Pool<D, K>, F: Form>(
     lot: &Lot,
     path: &Path,
     depth: usize,
-) -> Result<Gone, Refusal>
+) -> Result<Removal, Refusal>
+    // The lot lies on the disk and has a group, and the path begins with the cube's names.
     requires sited { is_sited lot.now (D.state disk.old).size ≡ true }
     requires some { 1 ≤ length lot.now.groups }
     requires depth { depth ≤ length path.now }
-    ensures found { (mode k : ℕ) (t : Tree) → IfShown K.View lot.now keep.old disk.old (λ old.
-        MapRecovers (form_of F.VERSION) mode lot.now old t k
-        → MatchResult result (λ gone. (or_else (gone_refusal (drop depth path.now) t) (quota_refusal (length lot.now.groups) (form_of F.VERSION) k (next (Remove (drop depth path.now)) t)) ≡ None) × IsGone (form_of F.VERSION) (own (form_of F.VERSION) old) (drop depth path.now) t gone) (λ r. RefusedAs (refused_of r) (or_else (gone_refusal (drop depth path.now) t) (quota_refusal (length lot.now.groups) (form_of F.VERSION) k (next (Remove (drop depth path.now)) t))))) }
-    ensures fits { IfOk result (GoneFits lot.now) }
+    // Over a lot that recovers a tree, it finds what the tree has.
+    ensures found { IfRecovers K.View F.VERSION lot.now keep.old disk.old (λ old t k.
+        Accepts (IsRemoval (form_of F.VERSION) (own (form_of F.VERSION) old)
+        (drop depth path.now) t) (or_else (removal_refusal (drop depth path.now) t)
+        (quota_refusal (length lot.now.groups) (form_of F.VERSION) k
+        (next (Remove (drop depth path.now)) t))) result) }
+    // What it answers of any lot, damaged or not.
+    ensures fits { IfOk result (RemovalFits lot.now) }
     ensures below { OnOk result (depth < length path.now) }
-    ensures looked { Looked D.Disk K.View lot.now keep.old disk.old keep.new disk.new }
     ensures is { IfShown K.View lot.now keep.old disk.old (λ old.
-        IfOk result (GoneIs (form_of F.VERSION) lot.now old (last_name (drop depth path.now)))) }
+        IfOk result (RemovalIs (form_of F.VERSION) lot.now old (last_name (drop depth path.now)))) }
     ensures room { IfShown K.View lot.now keep.old disk.old (λ old. OnOk result (CanCount old)) }
-    ensures damaged { (n : ℕ) → IsErrOf result (Damaged n) → IfShown K.View lot.now keep.old disk.old (λ old.
-        (r : Rule) × (n ≡ rule_number r) × IsBroken (form_of F.VERSION) lot.now old r) }
+    // Damage that it names is there.
+    ensures damaged { NamesBroken K.View (form_of F.VERSION) lot.now keep.old disk.old result }
+    // What stays as it was.
+    ensures looked { Looked D.Disk K.View lot.now keep.old disk.old keep.new disk.new }
+    // Which refusals there are, and when a fault comes.
     ensures set { IfErr result (IsOneOf remove_refusals change_rules) }
     ensures failed { IsErrOf result Fault → Rose (D.state disk.old).faults (D.state disk.new).faults }
 {
-    match find_gone::<D, K, F>(keep, disk, lot, path, depth) {
+    match find_removal::<D, K, F>(keep, disk, lot, path, depth) {
         Err(refusal) => Err(refusal),
-        Ok(gone) => match check_gone::<D, K, P, F>(keep, pool, disk, lot, &gone) {
+        Ok(gone) => match check_removal::<D, K, P, F>(keep, pool, disk, lot, &gone) {
             Err(refusal) => Err(refusal),
             Ok(()) => Ok(gone),
         },
@@ -199,6 +217,7 @@ fn may_remove<D: Disk, K: Keep<D>, P: Pool<D, K>, F: Form>(
 }
 
 /// Gives back the blocks of a file of so many bytes.
+#[tactic(auto, using(ice_map::proofs::SizeLaws::size_laws))]
 fn drop_bytes<D: Disk, K: Keep<D>, P: Pool<D, K>, F: Form>(
     keep: &mut K,
     pool: &mut P,
@@ -207,26 +226,29 @@ fn drop_bytes<D: Disk, K: Keep<D>, P: Pool<D, K>, F: Form>(
     number: u32,
     bytes: u32,
 ) -> Result<(), OpFault>
+    // The lot lies on the disk and the keep has room.
     requires sited { is_sited lot.now (D.state disk.old).size ≡ true }
     requires number { number < 64 * length lot.now.groups }
     requires room { 72 ≤ K.room keep.old }
+    // Where it takes the operation, the lot recovers the changed tree; the disk alone may fail.
     ensures dropped { (mode k : ℕ) (t : Tree)
         → AsShown K.View lot.now keep.old disk.old keep.new disk.new (λ old new.
         StandsLoose (form_of F.VERSION) mode lot.now old t k number bytes
         → OnOk result (Beside (form_of F.VERSION) mode lot.now new t k [] (number ∷ []))) }
     ensures sound { (mode k : ℕ) (t : Tree) → IfShown K.View lot.now keep.old disk.old (λ old.
-        StandsLoose (form_of F.VERSION) mode lot.now old t k number bytes
-        → IfErr result (λ e. e ≡ FaultDisk)) }
-    ensures spent { Spent D.Disk K.View lot.now 72 keep.old disk.old keep.new disk.new }
+        StandsLoose (form_of F.VERSION) mode lot.now old t k number bytes → FailsByDisk result) }
+    // Damage that it names is there.
     ensures broken { IfShown K.View lot.now keep.old disk.old (λ old.
-        (0 < bytes → ReachesTo (form_of F.VERSION) 0 (inode_of old number))
+        (0 < bytes → ReachesTo form_one 0 (inode_of old number))
         → IfErr result (IsFaultBy (LooseBroken lot.now old number))) }
+    // What it spends of the keep, and what stays as it was.
+    ensures spent { Spent D.Disk K.View lot.now 72 keep.old disk.old keep.new disk.new }
     ensures inodes { AsShown K.View lot.now keep.old disk.old keep.new disk.new (λ old new.
         OnOk result ((i : ℕ) → used_inode new i ≡ used_inode old i)) }
     ensures count { AsShown K.View lot.now keep.old disk.old keep.new disk.new (λ old new.
         OnOk result (counted true new ≡ counted true old)) }
-    ensures done { AsShown K.View lot.now keep.old disk.old keep.new disk.new (λ old new.
-        OnOk result (long_at (new sub_address) 16 ≡ long_at (old sub_address) 16)) }
+    ensures done { KeepsDone K.View lot.now keep.old disk.old keep.new disk.new result }
+    // Which refusals there are, and when a fault comes.
     ensures faults { IfErr result (IsNamedIn change_rules) }
     ensures failed { IsErrOf result FaultDisk → Rose (D.state disk.old).faults (D.state disk.new).faults }
 {
@@ -259,24 +281,28 @@ fn clear<D: Disk, K: Keep<D>, P: Pool<D, K>, F: Form>(
     number: u32,
     bytes: u32,
 ) -> Result<(), OpFault>
+    // The lot lies on the disk and the keep has room.
     requires sited { is_sited lot.now (D.state disk.old).size ≡ true }
     requires number { number < 64 * length lot.now.groups }
     requires room { 75 ≤ K.room keep.old }
+    // Where it takes the operation, the lot recovers the changed tree; the disk alone may fail.
     ensures cleared { (mode k : ℕ) (t : Tree)
         → AsShown K.View lot.now keep.old disk.old keep.new disk.new (λ old new.
         StandsLoose (form_of F.VERSION) mode lot.now old t k number bytes
         → OnOk result (MapRecovers (form_of F.VERSION) mode lot.now new t k)) }
     ensures sound { (mode k : ℕ) (t : Tree) → IfShown K.View lot.now keep.old disk.old (λ old.
-        StandsLoose (form_of F.VERSION) mode lot.now old t k number bytes
-        → IfErr result (λ e. e ≡ FaultDisk)) }
+        StandsLoose (form_of F.VERSION) mode lot.now old t k number bytes → FailsByDisk result) }
+    // What it answers of any lot, damaged or not.
     ensures freed { AsShown K.View lot.now keep.old disk.old keep.new disk.new (λ old new.
         OnOk result (Freed new number)) }
-    ensures spent { Spent D.Disk K.View lot.now 75 keep.old disk.old keep.new disk.new }
+    // Damage that it names is there.
     ensures broken { IfShown K.View lot.now keep.old disk.old (λ old.
-        (0 < bytes → ReachesTo (form_of F.VERSION) 0 (inode_of old number))
+        (0 < bytes → ReachesTo form_one 0 (inode_of old number))
         → IfErr result (IsFaultBy (LooseBroken lot.now old number))) }
-    ensures done { AsShown K.View lot.now keep.old disk.old keep.new disk.new (λ old new.
-        OnOk result (long_at (new sub_address) 16 ≡ long_at (old sub_address) 16)) }
+    // What it spends of the keep, and what stays as it was.
+    ensures spent { Spent D.Disk K.View lot.now 75 keep.old disk.old keep.new disk.new }
+    ensures done { KeepsDone K.View lot.now keep.old disk.old keep.new disk.new result }
+    // Which refusals there are, and when a fault comes.
     ensures faults { IfErr result (IsNamedIn change_rules) }
     ensures failed { IsErrOf result FaultDisk → Rose (D.state disk.old).faults (D.state disk.new).faults }
 {
@@ -291,27 +317,32 @@ fn take_away<D: Disk, K: Keep<D>, P: Pool<D, K>, F: Form>(
     pool: &mut P,
     disk: &mut D,
     lot: &Lot,
-    gone: &Gone,
+    gone: &Removal,
     name: &Name,
 ) -> Result<(), OpFault>
+    // The lot lies on the disk and the keep has room.
     requires sited { is_sited lot.now (D.state disk.old).size ≡ true }
-    requires fits { GoneFits lot.now gone.now }
+    requires fits { RemovalFits lot.now gone.now }
     requires room { 83 ≤ K.room keep.old }
+    // Where it takes the operation, the lot recovers the changed tree; the disk alone may fail.
     ensures taken { (mode k : ℕ) (t : Tree) (p : List (List ℕ))
         → AsShown K.View lot.now keep.old disk.old keep.new disk.new (λ old new.
         Loses (form_of F.VERSION) mode lot.now old t k p gone.now name.now
         → OnOk result (MapRecovers (form_of F.VERSION) mode lot.now new (next (Remove p) t) k)) }
     ensures sound { (mode k : ℕ) (t : Tree) (p : List (List ℕ))
         → IfShown K.View lot.now keep.old disk.old (λ old.
-        Loses (form_of F.VERSION) mode lot.now old t k p gone.now name.now
-        → IfErr result (λ e. e ≡ FaultDisk)) }
+        Loses (form_of F.VERSION) mode lot.now old t k p gone.now name.now → FailsByDisk result) }
+    // What it answers of any lot, damaged or not.
     ensures freed { AsShown K.View lot.now keep.old disk.old keep.new disk.new (λ old new.
         OnOk result (Freed new gone.now.number)) }
-    ensures spent { Spent D.Disk K.View lot.now 83 keep.old disk.old keep.new disk.new }
+    // Damage that it names is there.
     ensures broken { IfShown K.View lot.now keep.old disk.old (λ old.
-        GoneIs (form_of F.VERSION) lot.now old name.now gone.now → IfErr result (IsBrokenBy (form_of F.VERSION) lot.now old)) }
-    ensures done { AsShown K.View lot.now keep.old disk.old keep.new disk.new (λ old new.
-        OnOk result (long_at (new sub_address) 16 ≡ long_at (old sub_address) 16)) }
+        RemovalIs (form_of F.VERSION) lot.now old name.now gone.now
+        → IfErr result (IsBrokenBy (form_of F.VERSION) lot.now old)) }
+    // What it spends of the keep, and what stays as it was.
+    ensures spent { Spent D.Disk K.View lot.now 83 keep.old disk.old keep.new disk.new }
+    ensures done { KeepsDone K.View lot.now keep.old disk.old keep.new disk.new result }
+    // Which refusals there are, and when a fault comes.
     ensures faults { IfErr result (IsNamedIn change_rules) }
     ensures failed { IsErrOf result FaultDisk → Rose (D.state disk.old).faults (D.state disk.new).faults }
 {
@@ -327,27 +358,33 @@ fn put_away<D: Disk, K: Keep<D>, P: Pool<D, K>, F: Form>(
     pool: &mut P,
     disk: &mut D,
     lot: &Lot,
-    gone: &Gone,
+    gone: &Removal,
     name: &Name,
 ) -> Result<(), OpFault>
+    // The lot lies on the disk and the keep has room.
     requires sited { is_sited lot.now (D.state disk.old).size ≡ true }
-    requires fits { GoneFits lot.now gone.now }
+    requires fits { RemovalFits lot.now gone.now }
     requires room { 84 ≤ K.room keep.old }
+    // Where it takes the operation, the lot recovers the changed tree; the disk alone may fail.
     ensures taken { (mode k : ℕ) (t : Tree) (p : List (List ℕ))
         → AsShown K.View lot.now keep.old disk.old keep.new disk.new (λ old new.
         Loses (form_of F.VERSION) mode lot.now old t k p gone.now name.now
-        → OnOk result (MapRecovers (form_of F.VERSION) mode lot.now new (next (Remove p) t) (k + 1))) }
+        → OnOk result (MapRecovers (form_of F.VERSION) mode lot.now new (next (Remove p) t)
+        (k + 1))) }
     ensures sound { (mode k : ℕ) (t : Tree) (p : List (List ℕ))
         → IfShown K.View lot.now keep.old disk.old (λ old.
-        Loses (form_of F.VERSION) mode lot.now old t k p gone.now name.now
-        → IfErr result (λ e. e ≡ FaultDisk)) }
-    ensures counted { OnOk result (K.held keep.new sub_address ≡ true) }
+        Loses (form_of F.VERSION) mode lot.now old t k p gone.now name.now → FailsByDisk result) }
+    // What it answers of any lot, damaged or not.
     ensures freed { AsShown K.View lot.now keep.old disk.old keep.new disk.new (λ old new.
         OnOk result (Freed new gone.now.number)) }
-    ensures spent { Spent D.Disk K.View lot.now 84 keep.old disk.old keep.new disk.new }
+    // Damage that it names is there.
     ensures broken { IfShown K.View lot.now keep.old disk.old (λ old.
-        GoneIs (form_of F.VERSION) lot.now old name.now gone.now → CanCount old
+        RemovalIs (form_of F.VERSION) lot.now old name.now gone.now → CanCount old
         → IfErr result (IsBrokenBy (form_of F.VERSION) lot.now old)) }
+    // What it spends of the keep, and what stays as it was.
+    ensures counted { OnOk result (K.held keep.new sub_address ≡ true) }
+    ensures spent { Spent D.Disk K.View lot.now 84 keep.old disk.old keep.new disk.new }
+    // Which refusals there are, and when a fault comes.
     ensures faults { IfErr result (IsNamedIn change_rules) }
     ensures failed { IsErrOf result FaultDisk → Rose (D.state disk.old).faults (D.state disk.new).faults }
 {
@@ -365,30 +402,31 @@ pub fn remove<D: Disk, K: Keep<D>, P: Pool<D, K>, F: Form>(
     path: &Path,
     depth: usize,
 ) -> Result<(), Refusal>
+    // The lot lies on the disk and has a group, the path begins with the cube's names, and the keep has room.
     requires sited { is_sited lot.now (D.state disk.old).size ≡ true }
     requires some { 1 ≤ length lot.now.groups }
     requires depth { depth ≤ length path.now }
     requires room { 96 ≤ K.room keep.old }
-    ensures answers { (mode k : ℕ) (t : Tree) → IfShown K.View lot.now keep.old disk.old (λ old.
-        MapRecovers (form_of F.VERSION) mode lot.now old t k
-        → AsModel (meant_plain result) (answer t k (length lot.now.groups) (form_of F.VERSION) (Remove (drop depth path.now))).0) }
-    ensures changed { (mode k : ℕ) (t : Tree)
-        → AsShown K.View lot.now keep.old disk.old keep.new disk.new (λ old new.
-        MapRecovers (form_of F.VERSION) mode lot.now old t k
-        → OnOk result (MapRecovers (form_of F.VERSION) mode lot.now new (answer t k (length lot.now.groups) (form_of F.VERSION) (Remove (drop depth path.now))).1 (k + 1))) }
+    // Over a lot that recovers a tree, the answer and the change are the model's.
+    ensures answers { AnswersAs K.View F.VERSION lot.now keep.old disk.old
+        (Remove (drop depth path.now)) (meant_plain result) }
+    ensures changed { ChangesAs K.View F.VERSION lot.now keep.old disk.old keep.new disk.new
+        (Remove (drop depth path.now)) result }
     ensures freed { (mode k : ℕ) (t : Tree)
         → AsShown K.View lot.now keep.old disk.old keep.new disk.new (λ old new.
         MapRecovers (form_of F.VERSION) mode lot.now old t k
-        → OnOk result (Freed new (inode_on (form_of F.VERSION) (own (form_of F.VERSION) old) 0 (drop depth path.now)))) }
+        → OnOk result (Freed new (inode_at F.VERSION old (drop depth path.now)))) }
+    // Damage that it names is there.
+    ensures damaged { NamesBroken K.View (form_of F.VERSION) lot.now keep.old disk.old result }
+    // Names alone refuse a path before any call of the disk.
+    ensures paths { RefusesPaths F.VERSION (drop depth path.now ∷ []) result }
+    ensures untouched { UntouchedAll F.VERSION (drop depth path.now ∷ [])
+        keep.old pool.old disk.old keep.new pool.new disk.new }
+    // What it spends of the keep, and what stays as it was.
     ensures counted { OnOk result (K.held keep.new sub_address ≡ true) }
-    ensures paths { ShownBy (paths_refusal (form_of F.VERSION) (drop depth path.now ∷ [])) result }
-    ensures untouched { (r : Why) → paths_refusal (form_of F.VERSION) (drop depth path.now ∷ []) ≡ Some r
-        → (disk.new ≡ disk.old) × (keep.new ≡ keep.old) × (pool.new ≡ pool.old) }
-    ensures refused { IfErr result (λ r. number_of r ≤ 14
-        → Looked D.Disk K.View lot.now keep.old disk.old keep.new disk.new) }
+    ensures refused { LooksIfRefused D.Disk K.View lot.now keep.old disk.old keep.new disk.new result }
     ensures spent { Spent D.Disk K.View lot.now 96 keep.old disk.old keep.new disk.new }
-    ensures damaged { (n : ℕ) → IsErrOf result (Damaged n) → IfShown K.View lot.now keep.old disk.old (λ old.
-        (r : Rule) × (n ≡ rule_number r) × IsBroken (form_of F.VERSION) lot.now old r) }
+    // Which refusals there are, and when a fault comes.
     ensures set { IfErr result (IsOneOf remove_refusals change_rules) }
     ensures failed { IsErrOf result Fault → Rose (D.state disk.old).faults (D.state disk.new).faults }
 {

@@ -1,18 +1,15 @@
 //! Files and directories that move.
 ghost use Rattle.std.specs.Prelude.{◌≡◌, ◌≢◌, ◌≤◌, ◌<◌, ◌+◌, ◌-◌, ◌*◌, ◌||◌, ℕ, List, true, false, [], ◌∷◌, Some, None, OnOk, IfOk, IfErr, IsErrOf, MatchResult, MatchOption, length, drop, get_or};
 ghost use Rattle.ice_base.specs.Disk.{Rose};
-ghost use Rattle.ice_base.specs.Fields.{long_at};
 ghost use Rattle.ice_base.specs.Lots.{LotView, is_sited, sub_address};
-ghost use Rattle.ice_base.specs.Views.{Looked, Spent, AsShown, IfShown};
+ghost use Rattle.ice_base.specs.Views.{Looked, Spent, IfShown};
 ghost use Rattle.ice_base.specs.declared.fault.OpFault.TheVariants.{Disk as FaultDisk};
 ghost use Rattle.ice_base.specs.declared.fault.Rule.{Rule};
 ghost use Rattle.tree_spec.specs.Answers.{answer, refusal, next, is_root, is_found, is_not_found, is_not_dir, deepest};
 ghost use Rattle.tree_spec.specs.Costs.{Form, form_of, map_cost, dir_blocks};
 ghost use Rattle.tree_spec.specs.Operations.{Rename};
-ghost use Rattle.tree_spec.specs.Replies.{number_of, refused_of};
 ghost use Rattle.tree_spec.specs.Routes.{is_prefix, is_same_name, is_same_path};
 ghost use Rattle.tree_spec.specs.Trees.{last_name, Tree, Walk, needs_dir};
-ghost use Rattle.tree_spec.specs.Why.{Why};
 ghost use Rattle.tree_spec.specs.declared.reply.Refusal.TheVariants.{Fault, Damaged};
 ghost use Rattle.ice_reads.specs.Tables.{Map, Table};
 ghost use Rattle.ice_map.specs.Own.{own};
@@ -20,26 +17,28 @@ ghost use Rattle.ice_reads.specs.Recovers.{MapRecovers};
 ghost use Rattle.ice_rules.specs.Rules.{rule_number};
 ghost use Rattle.ice_look.specs.Broken.{IsBroken, IsBrokenBy};
 ghost use Rattle.ice_look.specs.Ends.{IsEnds, EndsFit, EndsAre};
-ghost use Rattle.ice_tree.specs.Quotas.{Needs, quota_refusal};
+ghost use Rattle.ice_tree.specs.Quotas.{Needs};
 ghost use Rattle.ice_tree.specs.Renames.{MoveIs, RowFits, is_place, is_dir_place, height_refusal, ends_refusal, move_refusal, IsMove, MoveFits, Renames};
-ghost use Rattle.ice_look.specs.Outcomes.{AsModel, RefusedAs, meant_plain, ShownBy, IsOneOf, look_rules, list_rules};
+ghost use Rattle.ice_look.specs.Outcomes.{meant_plain, IsOneOf, look_rules, list_rules};
 ghost use Rattle.ice_tree.specs.Outcomes.{IsNamedIn, rename_refusals, change_rules, rename_rules};
 ghost use Rattle.ice_look.specs.Places.{PlaceFits, PlaceIs, PlaceReached, PlaceNamed, place_at, place_by};
-ghost use Rattle.ice_look.specs.Stages.{or_else, paths_refusal};
+ghost use Rattle.ice_look.specs.Stages.{paths_refusal};
 ghost use Rattle.ice_look.specs.declared.place.Place.TheVariants.{File, Dir, Missing, Blocked};
+ghost use Rattle.ice_look.specs.Calls.{IfRecovers, AnswersAs, FailsByDisk, RefusedBy, Accepts, RefusesPaths, NamesBroken};
+ghost use Rattle.ice_tree.specs.Calls.{ChangesAs, UntouchedAll, LooksIfRefused, KeepsDone};
 
 use crate::counts::count_up;
 use crate::quota::{Need, check_quota, dir_cost};
 use ice_base::{Disk, Form, Keep, Lot, OpFault, Pool, Rule, View};
 use ice_dir::{add, take};
-use ice_look::{DEEPEST, Ends, Place, Spot, check_paths, find_ends, is_higher, refusal_of};
+use ice_look::{DEEPEST, DirAt, Ends, Place, check_paths, find_ends, is_higher, refusal_of};
 use tree_spec::{Name, Path, Refusal};
 
 /// A rename: the directory that loses an entry, the one that gains it, and whether both paths are one, so that nothing moves.
 #[derive(Clone, Copy, Drop)]
 pub struct Move {
-    pub from: Spot,
-    pub to: Spot,
+    pub from: DirAt,
+    pub to: DirAt,
     pub same: bool,
 }
 
@@ -142,19 +141,24 @@ fn check_height<D: Disk, V: View<D>, F: Form>(
     here: usize,
     there: usize,
 ) -> Result<(), Refusal>
+    // The lot lies on the disk.
     requires sited { is_sited lot.now (D.state disk.old).size ≡ true }
     requires fits { PlaceFits lot.now place }
     requires shallow { there ≤ deepest }
+    // Over a lot that recovers a tree, it finds what the tree has.
     ensures height { (mode k : ℕ) (t : Tree) (p q : List (List ℕ))
         → IfShown V.View lot.now view.old disk.old (λ old.
         MapRecovers (form_of F.VERSION) mode lot.now old t k
         → place ≡ place_at (form_of F.VERSION) (own (form_of F.VERSION) old) p t
-        → length p ≡ here → length q ≡ there
-        → MatchResult result (λ u. height_refusal p q t ≡ None) (λ r. RefusedAs (refused_of r) (height_refusal p q t))) }
+        → length p ≡ here → length q ≡ there → RefusedBy (height_refusal p q t) result) }
+    // Damage that it names is there.
+    ensures damaged { (n : ℕ) → IsErrOf result (Damaged n)
+        → IfShown V.View lot.now view.old disk.old (λ old.
+        PlaceIs old place → PlaceReached (form_of F.VERSION) lot.now old place → (r : Rule)
+        × (n ≡ rule_number r) × IsBroken (form_of F.VERSION) lot.now old r) }
+    // What stays as it was.
     ensures looked { Looked D.Disk V.View lot.now view.old disk.old view.new disk.new }
-    ensures damaged { (n : ℕ) → IsErrOf result (Damaged n) → IfShown V.View lot.now view.old disk.old (λ old.
-        PlaceIs old place → PlaceReached (form_of F.VERSION) lot.now old place → (r : Rule) × (n ≡ rule_number r)
-        × IsBroken (form_of F.VERSION) lot.now old r) }
+    // Which refusals there are, and when a fault comes.
     ensures set { IfErr result (IsOneOf rename_refusals list_rules) }
     ensures failed { IsErrOf result Fault → Rose (D.state disk.old).faults (D.state disk.new).faults }
 {
@@ -179,13 +183,17 @@ fn check_height<D: Disk, V: View<D>, F: Form>(
 /// The refusals by what stands at the two paths: `root` where either has no names, `begins` where the first begins the second,
 /// `same` where they are one.
 fn check_ends(from: &Ends, into: &Ends, root: bool, begins: bool, same: bool) -> Result<(), Refusal>
+    // Of the ends of a path in a tree.
     ensures ends { (f : Form) (o : Table) (p q : List (List ℕ)) (t : Tree) → IsEnds f o p t from.now
         → IsEnds f o q t into.now → root ≡ (is_root p || is_root q) → begins ≡ is_prefix p q
-        → same ≡ is_same_path p q
-        → MatchResult result (λ u. ends_refusal p q t ≡ None) (λ r. RefusedAs (refused_of r) (ends_refusal p q t)) }
+        → same ≡ is_same_path p q → RefusedBy (ends_refusal p q t) result }
+    // What it answers of any lot, damaged or not.
     ensures rootless { OnOk result (root ≡ false) }
-    ensures there { OnOk result ((is_place from.now.end ≡ true) × (is_dir_place into.now.parent ≡ true)) }
+    ensures there { OnOk result ((is_place from.now.end ≡ true)
+        × (is_dir_place into.now.parent ≡ true)) }
+    // Damage that it names is there.
     ensures undamaged { (n : ℕ) → IsErrOf result (Damaged n) → ⊥ }
+    // Which refusals there are, and when a fault comes.
     ensures set { IfErr result (IsOneOf rename_refusals []) }
     ensures faultless { IsErrOf result Fault → ⊥ }
 {
@@ -211,12 +219,12 @@ fn check_ends(from: &Ends, into: &Ends, root: bool, begins: bool, same: bool) ->
 }
 
 /// The directory at a place.
-fn spot_at(place: Place) -> Option<Spot>
+fn spot_at(place: Place) -> Option<DirAt>
     ensures { MatchOption result ((number size : ℕ)
         → place ≢ Dir number size) (λ spot. place ≡ Dir spot.number spot.entries) }
 {
     match place {
-        Place::Dir { number, size } => Some(Spot {
+        Place::Dir { number, size } => Some(DirAt {
             number,
             entries: size,
         }),
@@ -228,16 +236,19 @@ fn spot_at(place: Place) -> Option<Spot>
 
 /// The directories of both paths. Damaged, with the rule on kinds: something else stands where a walk went through.
 fn move_of(from: &Ends, into: &Ends, same: bool) -> Result<Move, Refusal>
+    // Of the ends of a path in a tree.
     ensures step { (f : Form) (o : Table) (p q : List (List ℕ)) (t : Tree) → IsEnds f o p t from.now
         → IsEnds f o q t into.now → same ≡ is_same_path p q → ends_refusal p q t ≡ None
         → MatchResult result (IsMove f o p q t) (λ r. ⊥) }
+    // What it answers of any lot, damaged or not.
     ensures fits { (lot : LotView) → EndsFit lot from.now → EndsFit lot into.now
         → IfOk result (MoveFits lot) }
-    ensures is { (entry : ℕ) (lot : LotView) (m : ℕ → List ℕ) (name : List ℕ) → EndsAre entry lot m from.now
-        → EndsAre entry lot m into.now → EndsFit lot from.now → EndsFit lot into.now
-        → PlaceNamed entry m from.now.parent name from.now.end → is_place from.now.end ≡ true
-        → is_dir_place into.now.parent ≡ true
-        → MatchResult result (MoveIs entry lot m name) (λ r. ⊥) }
+    ensures is { (form : Form) (lot : LotView) (m : ℕ → List ℕ) (name : List ℕ)
+        → EndsAre form lot m from.now → EndsAre form lot m into.now → EndsFit lot from.now
+        → EndsFit lot into.now → PlaceNamed form m from.now.parent name from.now.end
+        → is_place from.now.end ≡ true → is_dir_place into.now.parent ≡ true
+        → MatchResult result (MoveIs form lot m name) (λ r. ⊥) }
+    // Which refusals there are, and when a fault comes.
     ensures set { IfErr result (IsOneOf rename_refusals look_rules) }
     ensures faultless { IsErrOf result Fault → ⊥ }
 {
@@ -263,22 +274,26 @@ fn find_move<D: Disk, V: View<D>, F: Form>(
     to: &Path,
     depth: usize,
 ) -> Result<Move, Refusal>
+    // The lot lies on the disk and has a group, and both paths begin with the cube's names.
     requires sited { is_sited lot.now (D.state disk.old).size ≡ true }
     requires some { 1 ≤ length lot.now.groups }
     requires depth { depth ≤ length path.now }
     requires depth_to { depth ≤ length to.now }
     requires shallow { length to.now ≤ depth + deepest }
-    ensures found { (mode k : ℕ) (t : Tree) → IfShown V.View lot.now view.old disk.old (λ old.
-        MapRecovers (form_of F.VERSION) mode lot.now old t k
-        → MatchResult result (λ step. (move_refusal (drop depth path.now) (drop depth to.now) t ≡ None)
-        × IsMove (form_of F.VERSION) (own (form_of F.VERSION) old) (drop depth path.now) (drop depth to.now) t step) (λ r. RefusedAs (refused_of r) (move_refusal (drop depth path.now) (drop depth to.now) t))) }
+    // Over a lot that recovers a tree, it finds what the tree has.
+    ensures found { IfRecovers V.View F.VERSION lot.now view.old disk.old (λ old t _.
+        Accepts (IsMove (form_of F.VERSION) (own (form_of F.VERSION) old) (drop depth path.now)
+        (drop depth to.now) t) (move_refusal (drop depth path.now) (drop depth to.now) t) result) }
+    // What it answers of any lot, damaged or not.
     ensures fits { IfOk result (MoveFits lot.now) }
     ensures below { OnOk result ((depth < length path.now) × (depth < length to.now)) }
-    ensures looked { Looked D.Disk V.View lot.now view.old disk.old view.new disk.new }
     ensures is { IfShown V.View lot.now view.old disk.old (λ old.
         IfOk result (MoveIs (form_of F.VERSION) lot.now old (last_name (drop depth path.now)))) }
-    ensures damaged { (n : ℕ) → IsErrOf result (Damaged n) → IfShown V.View lot.now view.old disk.old (λ old.
-        (r : Rule) × (n ≡ rule_number r) × IsBroken (form_of F.VERSION) lot.now old r) }
+    // Damage that it names is there.
+    ensures damaged { NamesBroken V.View (form_of F.VERSION) lot.now view.old disk.old result }
+    // What stays as it was.
+    ensures looked { Looked D.Disk V.View lot.now view.old disk.old view.new disk.new }
+    // Which refusals there are, and when a fault comes.
     ensures set { IfErr result (IsOneOf rename_refusals list_rules) }
     ensures failed { IsErrOf result Fault → Rose (D.state disk.old).faults (D.state disk.new).faults }
 {
@@ -307,24 +322,31 @@ fn find_move<D: Disk, V: View<D>, F: Form>(
 fn two_costs<F: Form>(a: u32, b: u32) -> u32
     requires a { a ≤ 4096 }
     requires b { b ≤ 4096 }
-    ensures { result ≡ map_cost (dir_blocks (form_of F.VERSION) a) + map_cost (dir_blocks (form_of F.VERSION) b) }
+    ensures { result ≡ map_cost (dir_blocks (form_of F.VERSION) a) + map_cost
+        (dir_blocks (form_of F.VERSION) b) }
 {
     dir_cost::<F>(a) + dir_cost::<F>(b)
 }
 
 /// What a rename needs: where the directories differ, one loses an entry and the other gains one.
 fn need_of<F: Form>(step: &Move) -> Need
+    // What it is called with.
     requires from { step.now.from.entries < 4096 }
     requires to { step.now.to.entries < 4096 }
+    // Over a lot that recovers a tree, it finds what the tree has.
     ensures needs { (mode k : ℕ) (lot : LotView) (m : Map) (t : Tree) (p q : List (List ℕ))
         → MapRecovers (form_of F.VERSION) mode lot m t k
         → paths_refusal (form_of F.VERSION) (p ∷ q ∷ []) ≡ None → move_refusal p q t ≡ None
         → IsMove (form_of F.VERSION) (own (form_of F.VERSION) m) p q t step.now
         → Needs (form_of F.VERSION) t (next (Rename p q) t) result }
+    // What it answers of any lot, damaged or not.
     ensures nodeless { result.nodes ≡ 0 }
     ensures apart { step.now.same ≡ false → step.now.from.number ≢ step.now.to.number
-        → (result.blocks ≡ map_cost (dir_blocks (form_of F.VERSION) (step.now.to.entries + 1)) + map_cost (dir_blocks (form_of F.VERSION) (step.now.from.entries - 1)))
-        × (result.freed ≡ map_cost (dir_blocks (form_of F.VERSION) step.now.to.entries) + map_cost (dir_blocks (form_of F.VERSION) step.now.from.entries)) }
+        → (result.blocks ≡ map_cost (dir_blocks (form_of F.VERSION)
+        (step.now.to.entries + 1)) + map_cost
+        (dir_blocks (form_of F.VERSION) (step.now.from.entries - 1)))
+        × (result.freed ≡ map_cost (dir_blocks (form_of F.VERSION) step.now.to.entries) + map_cost
+        (dir_blocks (form_of F.VERSION) step.now.from.entries)) }
 {
     if step.same || step.from.number == step.to.number {
         return Need {
@@ -344,9 +366,11 @@ fn need_of<F: Form>(step: &Move) -> Need
 
 /// Whether two different directories have together as many entries as the lot has inodes, one more than there are to name.
 fn is_overfull(lot: &Lot, step: &Move) -> bool
+    // What it is called with.
     requires few { length lot.now.groups ≤ 64 }
     requires from { step.now.from.entries < 4096 }
     requires to { step.now.to.entries < 4096 }
+    // What it answers of any lot, damaged or not.
     ensures many { result ≡ true → (step.now.from.number ≢ step.now.to.number)
         × (64 * length lot.now.groups ≤ step.now.from.entries + step.now.to.entries) }
     ensures room { result ≡ false → step.now.from.number ≢ step.now.to.number
@@ -367,23 +391,30 @@ fn may_move<D: Disk, K: Keep<D>, P: Pool<D, K>, F: Form>(
     to: &Path,
     depth: usize,
 ) -> Result<Move, Refusal>
+    // The lot lies on the disk and has a group, and both paths begin with the cube's names.
     requires sited { is_sited lot.now (D.state disk.old).size ≡ true }
     requires some { 1 ≤ length lot.now.groups }
     requires depth { depth ≤ length path.now }
     requires depth_to { depth ≤ length to.now }
-    requires names { paths_refusal (form_of F.VERSION) (drop depth path.now ∷ drop depth to.now ∷ []) ≡ None }
-    ensures found { (mode k : ℕ) (t : Tree) → IfShown K.View lot.now keep.old disk.old (λ old.
-        MapRecovers (form_of F.VERSION) mode lot.now old t k
-        → MatchResult result (λ step. (refusal t k (length lot.now.groups) (form_of F.VERSION) (Rename (drop depth path.now) (drop depth to.now)) ≡ None) × IsMove (form_of F.VERSION) (own (form_of F.VERSION) old) (drop depth path.now) (drop depth to.now) t step) (λ r. RefusedAs (refused_of r) (refusal t k (length lot.now.groups) (form_of F.VERSION) (Rename (drop depth path.now) (drop depth to.now))))) }
+    requires names { paths_refusal (form_of F.VERSION)
+        (drop depth path.now ∷ drop depth to.now ∷ []) ≡ None }
+    // Over a lot that recovers a tree, it finds what the tree has.
+    ensures found { IfRecovers K.View F.VERSION lot.now keep.old disk.old (λ old t k.
+        Accepts (IsMove (form_of F.VERSION) (own (form_of F.VERSION) old) (drop depth path.now)
+        (drop depth to.now) t) (refusal t k (length lot.now.groups) (form_of F.VERSION)
+        (Rename (drop depth path.now) (drop depth to.now))) result) }
+    // What it answers of any lot, damaged or not.
     ensures fits { IfOk result (MoveFits lot.now) }
     ensures below { OnOk result ((depth < length path.now) × (depth < length to.now)) }
-    ensures looked { Looked D.Disk K.View lot.now keep.old disk.old keep.new disk.new }
     ensures is { IfShown K.View lot.now keep.old disk.old (λ old.
         IfOk result (MoveIs (form_of F.VERSION) lot.now old (last_name (drop depth path.now)))) }
     ensures room { IfShown K.View lot.now keep.old disk.old (λ old.
         IfOk result (RowFits (form_of F.VERSION) lot.now old)) }
-    ensures damaged { (n : ℕ) → IsErrOf result (Damaged n) → IfShown K.View lot.now keep.old disk.old (λ old.
-        (r : Rule) × (n ≡ rule_number r) × IsBroken (form_of F.VERSION) lot.now old r) }
+    // Damage that it names is there.
+    ensures damaged { NamesBroken K.View (form_of F.VERSION) lot.now keep.old disk.old result }
+    // What stays as it was.
+    ensures looked { Looked D.Disk K.View lot.now keep.old disk.old keep.new disk.new }
+    // Which refusals there are, and when a fault comes.
     ensures set { IfErr result (IsOneOf rename_refusals rename_rules) }
     ensures failed { IsErrOf result Fault → Rose (D.state disk.old).faults (D.state disk.new).faults }
 {
@@ -413,22 +444,31 @@ fn move_row<D: Disk, K: Keep<D>, P: Pool<D, K>, F: Form>(
     name: &Name,
     new: &Name,
 ) -> Result<(), OpFault>
+    // The lot lies on the disk and the keep has room.
     requires sited { is_sited lot.now (D.state disk.old).size ≡ true }
     requires fits { MoveFits lot.now step.now }
     requires short { length new.now ≤ F.NAME }
     requires room { 16 ≤ K.room keep.old }
-    ensures moved { (mode k : ℕ) (t : Tree) (p q : List (List ℕ)) → K.shows lot.now keep.old disk.old
-        → Renames (form_of F.VERSION) mode lot.now (K.map keep.old disk.old lot.now) t k p q step.now name.now new.now → step.now.same ≡ false
-        → OnOk result (MapRecovers (form_of F.VERSION) mode lot.now (K.map keep.new disk.new lot.now) (next (Rename p q) t) k) }
-    ensures sound { (mode k : ℕ) (t : Tree) (p q : List (List ℕ)) → K.shows lot.now keep.old disk.old
-        → Renames (form_of F.VERSION) mode lot.now (K.map keep.old disk.old lot.now) t k p q step.now name.now new.now → step.now.same ≡ false
-        → IfErr result (λ e. e ≡ FaultDisk) }
-    ensures spent { Spent D.Disk K.View lot.now 16 keep.old disk.old keep.new disk.new }
+    // Where it takes the operation, the lot recovers the changed tree; the disk alone may fail.
+    ensures moved { (mode k : ℕ) (t : Tree) (p q : List (List ℕ))
+        → K.shows lot.now keep.old disk.old
+        → Renames (form_of F.VERSION) mode lot.now
+        (K.map keep.old disk.old lot.now) t k p q step.now name.now new.now → step.now.same ≡ false
+        → OnOk result (MapRecovers (form_of F.VERSION) mode lot.now
+        (K.map keep.new disk.new lot.now) (next (Rename p q) t) k) }
+    ensures sound { (mode k : ℕ) (t : Tree) (p q : List (List ℕ))
+        → K.shows lot.now keep.old disk.old
+        → Renames (form_of F.VERSION) mode lot.now
+        (K.map keep.old disk.old lot.now) t k p q step.now name.now new.now → step.now.same ≡ false
+        → FailsByDisk result }
+    // Damage that it names is there.
     ensures broken { IfShown K.View lot.now keep.old disk.old (λ old.
         MoveIs (form_of F.VERSION) lot.now old name.now step.now → RowFits (form_of F.VERSION) lot.now old step.now
         → step.now.same ≡ false → IfErr result (IsBrokenBy (form_of F.VERSION) lot.now old)) }
-    ensures done { AsShown K.View lot.now keep.old disk.old keep.new disk.new (λ old new.
-        OnOk result (long_at (new sub_address) 16 ≡ long_at (old sub_address) 16)) }
+    // What it spends of the keep, and what stays as it was.
+    ensures spent { Spent D.Disk K.View lot.now 16 keep.old disk.old keep.new disk.new }
+    ensures done { KeepsDone K.View lot.now keep.old disk.old keep.new disk.new result }
+    // Which refusals there are, and when a fault comes.
     ensures faults { IfErr result (IsNamedIn change_rules) }
     ensures failed { IsErrOf result FaultDisk → Rose (D.state disk.old).faults (D.state disk.new).faults }
 {
@@ -455,21 +495,30 @@ fn put_moved<D: Disk, K: Keep<D>, P: Pool<D, K>, F: Form>(
     name: &Name,
     new: &Name,
 ) -> Result<(), OpFault>
+    // The lot lies on the disk and the keep has room.
     requires sited { is_sited lot.now (D.state disk.old).size ≡ true }
     requires fits { MoveFits lot.now step.now }
     requires short { length new.now ≤ F.NAME }
     requires room { 17 ≤ K.room keep.old }
-    ensures moved { (mode k : ℕ) (t : Tree) (p q : List (List ℕ)) → K.shows lot.now keep.old disk.old
-        → Renames (form_of F.VERSION) mode lot.now (K.map keep.old disk.old lot.now) t k p q step.now name.now new.now
-        → OnOk result (MapRecovers (form_of F.VERSION) mode lot.now (K.map keep.new disk.new lot.now) (next (Rename p q) t) (k + 1)) }
-    ensures sound { (mode k : ℕ) (t : Tree) (p q : List (List ℕ)) → K.shows lot.now keep.old disk.old
-        → Renames (form_of F.VERSION) mode lot.now (K.map keep.old disk.old lot.now) t k p q step.now name.now new.now
-        → IfErr result (λ e. e ≡ FaultDisk) }
-    ensures counted { OnOk result (K.held keep.new sub_address ≡ true) }
-    ensures spent { Spent D.Disk K.View lot.now 17 keep.old disk.old keep.new disk.new }
+    // Where it takes the operation, the lot recovers the changed tree; the disk alone may fail.
+    ensures moved { (mode k : ℕ) (t : Tree) (p q : List (List ℕ))
+        → K.shows lot.now keep.old disk.old
+        → Renames (form_of F.VERSION) mode lot.now
+        (K.map keep.old disk.old lot.now) t k p q step.now name.now new.now
+        → OnOk result (MapRecovers (form_of F.VERSION) mode lot.now
+        (K.map keep.new disk.new lot.now) (next (Rename p q) t) (k + 1)) }
+    ensures sound { (mode k : ℕ) (t : Tree) (p q : List (List ℕ))
+        → K.shows lot.now keep.old disk.old
+        → Renames (form_of F.VERSION) mode lot.now
+        (K.map keep.old disk.old lot.now) t k p q step.now name.now new.now → FailsByDisk result }
+    // Damage that it names is there.
     ensures broken { IfShown K.View lot.now keep.old disk.old (λ old.
         MoveIs (form_of F.VERSION) lot.now old name.now step.now → RowFits (form_of F.VERSION) lot.now old step.now
         → IfErr result (IsBrokenBy (form_of F.VERSION) lot.now old)) }
+    // What it spends of the keep, and what stays as it was.
+    ensures counted { OnOk result (K.held keep.new sub_address ≡ true) }
+    ensures spent { Spent D.Disk K.View lot.now 17 keep.old disk.old keep.new disk.new }
+    // Which refusals there are, and when a fault comes.
     ensures faults { IfErr result (IsNamedIn change_rules) }
     ensures failed { IsErrOf result FaultDisk → Rose (D.state disk.old).faults (D.state disk.new).faults }
 {
@@ -492,28 +541,28 @@ pub fn rename<D: Disk, K: Keep<D>, P: Pool<D, K>, F: Form>(
     to: &Path,
     depth: usize,
 ) -> Result<(), Refusal>
+    // The lot lies on the disk and has a group, both paths begin with the cube's names, and the keep has room.
     requires sited { is_sited lot.now (D.state disk.old).size ≡ true }
     requires some { 1 ≤ length lot.now.groups }
     requires depth { depth ≤ length path.now }
     requires depth_to { depth ≤ length to.now }
     requires room { 96 ≤ K.room keep.old }
-    ensures answers { (mode k : ℕ) (t : Tree) → IfShown K.View lot.now keep.old disk.old (λ old.
-        MapRecovers (form_of F.VERSION) mode lot.now old t k
-        → AsModel (meant_plain result) (answer t k (length lot.now.groups) (form_of F.VERSION) (Rename (drop depth path.now) (drop depth to.now))).0) }
-    ensures changed { (mode k : ℕ) (t : Tree)
-        → AsShown K.View lot.now keep.old disk.old keep.new disk.new (λ old new.
-        MapRecovers (form_of F.VERSION) mode lot.now old t k
-        → OnOk result (MapRecovers (form_of F.VERSION) mode lot.now new (answer t k (length lot.now.groups) (form_of F.VERSION) (Rename (drop depth path.now) (drop depth to.now))).1 (k + 1))) }
+    // Over a lot that recovers a tree, the answer and the change are the model's.
+    ensures answers { AnswersAs K.View F.VERSION lot.now keep.old disk.old
+        (Rename (drop depth path.now) (drop depth to.now)) (meant_plain result) }
+    ensures changed { ChangesAs K.View F.VERSION lot.now keep.old disk.old keep.new disk.new
+        (Rename (drop depth path.now) (drop depth to.now)) result }
+    // Damage that it names is there.
+    ensures damaged { NamesBroken K.View (form_of F.VERSION) lot.now keep.old disk.old result }
+    // Names alone refuse a path before any call of the disk.
+    ensures paths { RefusesPaths F.VERSION (drop depth path.now ∷ drop depth to.now ∷ []) result }
+    ensures untouched { UntouchedAll F.VERSION (drop depth path.now ∷ drop depth to.now ∷ [])
+        keep.old pool.old disk.old keep.new pool.new disk.new }
+    // What it spends of the keep, and what stays as it was.
     ensures counted { OnOk result (K.held keep.new sub_address ≡ true) }
-    ensures paths { ShownBy (paths_refusal (form_of F.VERSION) (drop depth path.now ∷ drop depth to.now ∷ [])) result }
-    ensures untouched { (r : Why)
-        → paths_refusal (form_of F.VERSION) (drop depth path.now ∷ drop depth to.now ∷ []) ≡ Some r
-        → (disk.new ≡ disk.old) × (keep.new ≡ keep.old) × (pool.new ≡ pool.old) }
-    ensures refused { IfErr result (λ r. number_of r ≤ 14
-        → Looked D.Disk K.View lot.now keep.old disk.old keep.new disk.new) }
+    ensures refused { LooksIfRefused D.Disk K.View lot.now keep.old disk.old keep.new disk.new result }
     ensures spent { Spent D.Disk K.View lot.now 96 keep.old disk.old keep.new disk.new }
-    ensures damaged { (n : ℕ) → IsErrOf result (Damaged n) → IfShown K.View lot.now keep.old disk.old (λ old.
-        (r : Rule) × (n ≡ rule_number r) × IsBroken (form_of F.VERSION) lot.now old r) }
+    // Which refusals there are, and when a fault comes.
     ensures set { IfErr result (IsOneOf rename_refusals rename_rules) }
     ensures failed { IsErrOf result Fault → Rose (D.state disk.old).faults (D.state disk.new).faults }
 {

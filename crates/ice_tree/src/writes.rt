@@ -1,43 +1,45 @@
 //! Changes of the bytes of files.
-ghost use Rattle.std.specs.Prelude.{◌≡◌, ◌≤◌, ◌<◌, ◌+◌, ◌*◌, ℕ, List, true, [], ◌∷◌, Some, None, OnOk, IfOk, IfErr, IsErrOf, MatchResult, length, drop};
+ghost use Rattle.std.specs.Prelude.{◌≡◌, ◌≤◌, ◌<◌, ◌+◌, ◌*◌, ℕ, List, true, [], ◌∷◌, None, OnOk, IfOk, IfErr, IsErrOf, length, drop};
 ghost use Rattle.ice_base.specs.Disk.{Rose};
 ghost use Rattle.ice_base.specs.Lots.{is_sited, sub_address};
 ghost use Rattle.ice_base.specs.Views.{Looked, Spent, AsShown, IfShown};
 ghost use Rattle.ice_base.specs.declared.fault.OpFault.TheVariants.{Disk as FaultDisk};
-ghost use Rattle.ice_base.specs.declared.fault.Rule.{Rule};
 ghost use Rattle.ice_map.specs.Inodes.{inode_of};
 ghost use Rattle.tree_spec.specs.Held.{most_bytes};
 ghost use Rattle.tree_spec.specs.Answers.{answer, next, refusal};
 ghost use Rattle.tree_spec.specs.Costs.{form_of, map_cost, file_blocks, form_one};
 ghost use Rattle.tree_spec.specs.Operations.{Write, Trunc};
-ghost use Rattle.tree_spec.specs.Replies.{number_of, refused_of};
 ghost use Rattle.tree_spec.specs.Trees.{Tree};
-ghost use Rattle.tree_spec.specs.Why.{Why};
-ghost use Rattle.tree_spec.specs.declared.reply.Refusal.TheVariants.{Fault, Damaged};
-ghost use Rattle.ice_reads.specs.Reads.{inode_on};
+ghost use Rattle.tree_spec.specs.declared.reply.Refusal.TheVariants.{Fault};
 ghost use Rattle.ice_reads.specs.Recovers.{MapRecovers};
 ghost use Rattle.ice_map.specs.Own.{own};
-ghost use Rattle.ice_rules.specs.Rules.{rule_number};
-ghost use Rattle.ice_look.specs.Broken.{IsBroken, IsBrokenBy};
+ghost use Rattle.ice_look.specs.Broken.{IsBrokenBy};
 ghost use Rattle.ice_tree.specs.Writes.{IsFile, FileFits, TakesAt, reach_refusal, FileIs, BytesFit};
 ghost use Rattle.ice_tree.specs.Quotas.{CanCount};
-ghost use Rattle.ice_look.specs.Outcomes.{AsModel, RefusedAs, meant_plain, ShownBy, IsOneOf, read_refusals, look_rules};
+ghost use Rattle.ice_look.specs.Outcomes.{meant_plain, IsOneOf, read_refusals, look_rules};
 ghost use Rattle.ice_tree.specs.Outcomes.{IsNamedIn, write_refusals, trunc_refusals, change_rules};
 ghost use Rattle.ice_look.specs.Stages.{paths_refusal};
+ghost use Rattle.ice_look.specs.Calls.{IfRecovers, AnswersAs, FailsByDisk, inode_at, Finds, Accepts, RefusesPaths, Untouched, NamesBroken};
+ghost use Rattle.ice_tree.specs.Calls.{ChangesAs, UntouchedAll, LooksIfRefused};
 
 use crate::counts::count_up;
 use crate::quota::{Need, check_quota, file_cost};
 use ice_base::{Disk, Form, Keep, Lot, OpFault, Pool, View};
 use ice_file::{cut_to, write_at};
-use ice_map::longest_file;
 use ice_look::{FileAt, check_path, file_at, refusal_of};
+use ice_map::longest_file;
 use tree_spec::{Path, Refusal};
 
 /// What a file of another size costs: `new` in place of `old` bytes.
 fn size_need(old: u32, new: u32) -> Need
     requires old { old ≤ form_one.longest_file }
     requires new { new ≤ form_one.longest_file }
-    ensures { result ≡ record { nodes = 0; lost = 0; blocks = map_cost (file_blocks new); freed = map_cost (file_blocks old) } }
+    ensures { result ≡ record {
+      nodes = 0;
+      lost = 0;
+      blocks = map_cost (file_blocks new);
+      freed = map_cost (file_blocks old);
+    } }
 {
     Need {
         nodes: 0,
@@ -48,6 +50,7 @@ fn size_need(old: u32, new: u32) -> Need
 }
 
 /// The file at a path's end. BeyondEnd: it has fewer than `at` bytes.
+#[tactic(auto, using(ice_map::proofs::SizeLaws::size_laws))]
 fn reach_file<D: Disk, V: View<D>, F: Form>(
     view: &mut V,
     disk: &mut D,
@@ -56,24 +59,32 @@ fn reach_file<D: Disk, V: View<D>, F: Form>(
     depth: usize,
     at: u32,
 ) -> Result<FileAt, Refusal>
+    // The lot lies on the disk and has a group, and the path begins with the cube's names.
     requires sited { is_sited lot.now (D.state disk.old).size ≡ true }
     requires some { 1 ≤ length lot.now.groups }
     requires depth { depth ≤ length path.now }
-    ensures found { (mode k : ℕ) (t : Tree) → IfShown V.View lot.now view.old disk.old (λ old.
-        MapRecovers (form_of F.VERSION) mode lot.now old t k
-        → MatchResult result (IsFile (form_of F.VERSION) (own (form_of F.VERSION) old) (drop depth path.now) t at) (λ r. RefusedAs (refused_of r) (reach_refusal (form_of F.VERSION) (drop depth path.now) at t))) }
-    ensures names { OnOk result (paths_refusal (form_of F.VERSION) (drop depth path.now ∷ []) ≡ None) }
+    // Over a lot that recovers a tree, it finds what the tree has.
+    ensures found { IfRecovers V.View F.VERSION lot.now view.old disk.old (λ old t _.
+        Finds (IsFile (form_of F.VERSION) (own (form_of F.VERSION) old)
+        (drop depth path.now) t at) (reach_refusal (form_of F.VERSION) (drop depth path.now) at t)
+        result) }
+    // What it answers of any lot, damaged or not.
+    ensures names { OnOk result (paths_refusal (form_of F.VERSION)
+        (drop depth path.now ∷ []) ≡ None) }
     ensures fits { IfOk result (FileFits lot.now at) }
-    ensures paths { ShownBy (paths_refusal (form_of F.VERSION) (drop depth path.now ∷ [])) result }
-    ensures untouched { (r : Why) → paths_refusal (form_of F.VERSION) (drop depth path.now ∷ []) ≡ Some r
-        → (disk.new ≡ disk.old) × (view.new ≡ view.old) }
-    ensures looked { Looked D.Disk V.View lot.now view.old disk.old view.new disk.new }
     ensures is { IfShown V.View lot.now view.old disk.old (λ old.
         IfOk result (λ file. FileIs (form_of F.VERSION) lot.now old at file.number)) }
     ensures size { IfShown V.View lot.now view.old disk.old (λ old.
         IfOk result (λ file. (inode_of old file.number).size ≡ file.size)) }
-    ensures damaged { (n : ℕ) → IsErrOf result (Damaged n) → IfShown V.View lot.now view.old disk.old (λ old.
-        (r : Rule) × (n ≡ rule_number r) × IsBroken (form_of F.VERSION) lot.now old r) }
+    // Damage that it names is there.
+    ensures damaged { NamesBroken V.View (form_of F.VERSION) lot.now view.old disk.old result }
+    // Names alone refuse a path before any call of the disk.
+    ensures paths { RefusesPaths F.VERSION (drop depth path.now ∷ []) result }
+    ensures untouched { Untouched F.VERSION (drop depth path.now ∷ [])
+        view.old disk.old view.new disk.new }
+    // What stays as it was.
+    ensures looked { Looked D.Disk V.View lot.now view.old disk.old view.new disk.new }
+    // Which refusals there are, and when a fault comes.
     ensures set { IfErr result (IsOneOf read_refusals look_rules) }
     ensures failed { IsErrOf result Fault → Rose (D.state disk.old).faults (D.state disk.new).faults }
 {
@@ -92,6 +103,7 @@ fn reach_file<D: Disk, V: View<D>, F: Form>(
 }
 
 /// The file that is written, where nothing refuses that. FileBig: it would be too long.
+#[tactic(auto, using(ice_map::proofs::SizeLaws::size_laws))]
 fn check_write<D: Disk, K: Keep<D>, P: Pool<D, K>, F: Form>(
     keep: &mut K,
     pool: &mut P,
@@ -102,23 +114,30 @@ fn check_write<D: Disk, K: Keep<D>, P: Pool<D, K>, F: Form>(
     at: u32,
     bytes: &[u8],
 ) -> Result<u32, Refusal>
+    // The lot lies on the disk and has a group, and the path begins with the cube's names.
     requires sited { is_sited lot.now (D.state disk.old).size ≡ true }
     requires some { 1 ≤ length lot.now.groups }
     requires depth { depth ≤ length path.now }
-    requires few { length bytes.now ≤ most_bytes }
-    ensures file { (mode k : ℕ) (t : Tree) → IfShown K.View lot.now keep.old disk.old (λ old.
-        MapRecovers (form_of F.VERSION) mode lot.now old t k
-        → MatchResult result (λ number. (number ≡ inode_on (form_of F.VERSION) (own (form_of F.VERSION) old) 0 (drop depth path.now)) × (refusal t k (length lot.now.groups) (form_of F.VERSION) (Write (drop depth path.now) at bytes.now) ≡ None)) (λ r. RefusedAs (refused_of r) (refusal t k (length lot.now.groups) (form_of F.VERSION) (Write (drop depth path.now) at bytes.now)))) }
+    requires few { length bytes.now ≤ most_at_once }
+    // Over a lot that recovers a tree, it finds what the tree has.
+    ensures file { IfRecovers K.View F.VERSION lot.now keep.old disk.old (λ old t k.
+        Accepts (λ number. number ≡ inode_at F.VERSION old (drop depth path.now))
+        (refusal t k (length lot.now.groups) (form_of F.VERSION)
+        (Write (drop depth path.now) at bytes.now)) result) }
+    // What it answers of any lot, damaged or not.
     ensures fits { IfOk result (λ number. number < 64 * length lot.now.groups) }
     ensures short { OnOk result (at + length bytes.now ≤ (form_of F.VERSION).longest_file) }
-    ensures paths { ShownBy (paths_refusal (form_of F.VERSION) (drop depth path.now ∷ [])) result }
-    ensures untouched { (r : Why) → paths_refusal (form_of F.VERSION) (drop depth path.now ∷ []) ≡ Some r
-        → (disk.new ≡ disk.old) × (keep.new ≡ keep.old) × (pool.new ≡ pool.old) }
-    ensures looked { Looked D.Disk K.View lot.now keep.old disk.old keep.new disk.new }
     ensures ready { IfShown K.View lot.now keep.old disk.old (λ old.
         IfOk result (BytesFit (form_of F.VERSION) lot.now old at (at + length bytes.now))) }
-    ensures damaged { (n : ℕ) → IsErrOf result (Damaged n) → IfShown K.View lot.now keep.old disk.old (λ old.
-        (r : Rule) × (n ≡ rule_number r) × IsBroken (form_of F.VERSION) lot.now old r) }
+    // Damage that it names is there.
+    ensures damaged { NamesBroken K.View (form_of F.VERSION) lot.now keep.old disk.old result }
+    // Names alone refuse a path before any call of the disk.
+    ensures paths { RefusesPaths F.VERSION (drop depth path.now ∷ []) result }
+    ensures untouched { UntouchedAll F.VERSION (drop depth path.now ∷ [])
+        keep.old pool.old disk.old keep.new pool.new disk.new }
+    // What stays as it was.
+    ensures looked { Looked D.Disk K.View lot.now keep.old disk.old keep.new disk.new }
+    // Which refusals there are, and when a fault comes.
     ensures set { IfErr result (IsOneOf write_refusals change_rules) }
     ensures failed { IsErrOf result Fault → Rose (D.state disk.old).faults (D.state disk.new).faults }
 {
@@ -139,6 +158,7 @@ fn check_write<D: Disk, K: Keep<D>, P: Pool<D, K>, F: Form>(
 }
 
 /// The file that is cut, where nothing refuses that.
+#[tactic(auto, using(ice_map::proofs::SizeLaws::size_laws))]
 fn check_trunc<D: Disk, K: Keep<D>, P: Pool<D, K>, F: Form>(
     keep: &mut K,
     pool: &mut P,
@@ -148,22 +168,29 @@ fn check_trunc<D: Disk, K: Keep<D>, P: Pool<D, K>, F: Form>(
     depth: usize,
     len: u32,
 ) -> Result<u32, Refusal>
+    // The lot lies on the disk and has a group, and the path begins with the cube's names.
     requires sited { is_sited lot.now (D.state disk.old).size ≡ true }
     requires some { 1 ≤ length lot.now.groups }
     requires depth { depth ≤ length path.now }
-    ensures file { (mode k : ℕ) (t : Tree) → IfShown K.View lot.now keep.old disk.old (λ old.
-        MapRecovers (form_of F.VERSION) mode lot.now old t k
-        → MatchResult result (λ number. (number ≡ inode_on (form_of F.VERSION) (own (form_of F.VERSION) old) 0 (drop depth path.now)) × (refusal t k (length lot.now.groups) (form_of F.VERSION) (Trunc (drop depth path.now) len) ≡ None)) (λ r. RefusedAs (refused_of r) (refusal t k (length lot.now.groups) (form_of F.VERSION) (Trunc (drop depth path.now) len)))) }
+    // Over a lot that recovers a tree, it finds what the tree has.
+    ensures file { IfRecovers K.View F.VERSION lot.now keep.old disk.old (λ old t k.
+        Accepts (λ number. number ≡ inode_at F.VERSION old (drop depth path.now))
+        (refusal t k (length lot.now.groups) (form_of F.VERSION) (Trunc (drop depth path.now) len))
+        result) }
+    // What it answers of any lot, damaged or not.
     ensures fits { IfOk result (λ number. number < 64 * length lot.now.groups) }
-    ensures paths { ShownBy (paths_refusal (form_of F.VERSION) (drop depth path.now ∷ [])) result }
-    ensures untouched { (r : Why) → paths_refusal (form_of F.VERSION) (drop depth path.now ∷ []) ≡ Some r
-        → (disk.new ≡ disk.old) × (keep.new ≡ keep.old) × (pool.new ≡ pool.old) }
-    ensures looked { Looked D.Disk K.View lot.now keep.old disk.old keep.new disk.new }
     ensures ready { IfShown K.View lot.now keep.old disk.old (λ old.
         IfOk result (FileIs (form_of F.VERSION) lot.now old len)) }
     ensures room { IfShown K.View lot.now keep.old disk.old (λ old. OnOk result (CanCount old)) }
-    ensures damaged { (n : ℕ) → IsErrOf result (Damaged n) → IfShown K.View lot.now keep.old disk.old (λ old.
-        (r : Rule) × (n ≡ rule_number r) × IsBroken (form_of F.VERSION) lot.now old r) }
+    // Damage that it names is there.
+    ensures damaged { NamesBroken K.View (form_of F.VERSION) lot.now keep.old disk.old result }
+    // Names alone refuse a path before any call of the disk.
+    ensures paths { RefusesPaths F.VERSION (drop depth path.now ∷ []) result }
+    ensures untouched { UntouchedAll F.VERSION (drop depth path.now ∷ [])
+        keep.old pool.old disk.old keep.new pool.new disk.new }
+    // What stays as it was.
+    ensures looked { Looked D.Disk K.View lot.now keep.old disk.old keep.new disk.new }
+    // Which refusals there are, and when a fault comes.
     ensures set { IfErr result (IsOneOf trunc_refusals change_rules) }
     ensures failed { IsErrOf result Fault → Rose (D.state disk.old).faults (D.state disk.new).faults }
 {
@@ -179,6 +206,7 @@ fn check_trunc<D: Disk, K: Keep<D>, P: Pool<D, K>, F: Form>(
 }
 
 /// Puts the bytes into a file, as one more accepted operation.
+#[tactic(auto, using(ice_map::proofs::SizeLaws::size_laws))]
 fn put_bytes<D: Disk, K: Keep<D>, P: Pool<D, K>, F: Form>(
     keep: &mut K,
     pool: &mut P,
@@ -188,24 +216,30 @@ fn put_bytes<D: Disk, K: Keep<D>, P: Pool<D, K>, F: Form>(
     at: u32,
     bytes: &[u8],
 ) -> Result<(), OpFault>
+    // The lot lies on the disk and the keep has room.
     requires sited { is_sited lot.now (D.state disk.old).size ≡ true }
     requires number { number < 64 * length lot.now.groups }
     requires room { 49 ≤ K.room keep.old }
-    requires few { length bytes.now ≤ most_bytes }
+    requires few { length bytes.now ≤ most_at_once }
     requires short { at + length bytes.now ≤ (form_of F.VERSION).longest_file }
+    // Where it takes the operation, the lot recovers the changed tree; the disk alone may fail.
     ensures set { (mode k : ℕ) (t : Tree) (p : List (List ℕ))
         → AsShown K.View lot.now keep.old disk.old keep.new disk.new (λ old new.
         TakesAt (form_of F.VERSION) mode lot.now old t k p (Write p at bytes.now) number
-        → OnOk result (MapRecovers (form_of F.VERSION) mode lot.now new (next (Write p at bytes.now) t) (k + 1))) }
+        → OnOk result (MapRecovers (form_of F.VERSION) mode lot.now new
+        (next (Write p at bytes.now) t) (k + 1))) }
     ensures sound { (mode k : ℕ) (t : Tree) (p : List (List ℕ))
         → IfShown K.View lot.now keep.old disk.old (λ old.
         TakesAt (form_of F.VERSION) mode lot.now old t k p (Write p at bytes.now) number
-        → IfErr result (λ e. e ≡ FaultDisk)) }
-    ensures counted { OnOk result (K.held keep.new sub_address ≡ true) }
-    ensures spent { Spent D.Disk K.View lot.now 49 keep.old disk.old keep.new disk.new }
+        → FailsByDisk result) }
+    // Damage that it names is there.
     ensures broken { IfShown K.View lot.now keep.old disk.old (λ old.
         BytesFit (form_of F.VERSION) lot.now old at (at + length bytes.now) number
         → IfErr result (IsBrokenBy (form_of F.VERSION) lot.now old)) }
+    // What it spends of the keep, and what stays as it was.
+    ensures counted { OnOk result (K.held keep.new sub_address ≡ true) }
+    ensures spent { Spent D.Disk K.View lot.now 49 keep.old disk.old keep.new disk.new }
+    // Which refusals there are, and when a fault comes.
     ensures faults { IfErr result (IsNamedIn change_rules) }
     ensures failed { IsErrOf result FaultDisk → Rose (D.state disk.old).faults (D.state disk.new).faults }
 {
@@ -223,22 +257,28 @@ fn put_cut<D: Disk, K: Keep<D>, P: Pool<D, K>, F: Form>(
     number: u32,
     len: u32,
 ) -> Result<(), OpFault>
+    // The lot lies on the disk and the keep has room.
     requires sited { is_sited lot.now (D.state disk.old).size ≡ true }
     requires number { number < 64 * length lot.now.groups }
     requires room { 73 ≤ K.room keep.old }
+    // Where it takes the operation, the lot recovers the changed tree; the disk alone may fail.
     ensures set { (mode k : ℕ) (t : Tree) (p : List (List ℕ))
         → AsShown K.View lot.now keep.old disk.old keep.new disk.new (λ old new.
         TakesAt (form_of F.VERSION) mode lot.now old t k p (Trunc p len) number
-        → OnOk result (MapRecovers (form_of F.VERSION) mode lot.now new (next (Trunc p len) t) (k + 1))) }
+        → OnOk result (MapRecovers (form_of F.VERSION) mode lot.now new (next (Trunc p len) t)
+        (k + 1))) }
     ensures sound { (mode k : ℕ) (t : Tree) (p : List (List ℕ))
         → IfShown K.View lot.now keep.old disk.old (λ old.
         TakesAt (form_of F.VERSION) mode lot.now old t k p (Trunc p len) number
-        → IfErr result (λ e. e ≡ FaultDisk)) }
-    ensures counted { OnOk result (K.held keep.new sub_address ≡ true) }
-    ensures spent { Spent D.Disk K.View lot.now 73 keep.old disk.old keep.new disk.new }
+        → FailsByDisk result) }
+    // Damage that it names is there.
     ensures broken { IfShown K.View lot.now keep.old disk.old (λ old.
         FileIs (form_of F.VERSION) lot.now old len number → CanCount old
         → IfErr result (IsBrokenBy (form_of F.VERSION) lot.now old)) }
+    // What it spends of the keep, and what stays as it was.
+    ensures counted { OnOk result (K.held keep.new sub_address ≡ true) }
+    ensures spent { Spent D.Disk K.View lot.now 73 keep.old disk.old keep.new disk.new }
+    // Which refusals there are, and when a fault comes.
     ensures faults { IfErr result (IsNamedIn change_rules) }
     ensures failed { IsErrOf result FaultDisk → Rose (D.state disk.old).faults (D.state disk.new).faults }
 {
@@ -258,27 +298,28 @@ pub fn write<D: Disk, K: Keep<D>, P: Pool<D, K>, F: Form>(
     at: u32,
     bytes: &[u8],
 ) -> Result<(), Refusal>
+    // The lot lies on the disk and has a group, the path begins with the cube's names, and the keep has room.
     requires sited { is_sited lot.now (D.state disk.old).size ≡ true }
     requires some { 1 ≤ length lot.now.groups }
     requires depth { depth ≤ length path.now }
     requires room { 96 ≤ K.room keep.old }
-    requires few { length bytes.now ≤ most_bytes }
-    ensures answers { (mode k : ℕ) (t : Tree) → IfShown K.View lot.now keep.old disk.old (λ old.
-        MapRecovers (form_of F.VERSION) mode lot.now old t k
-        → AsModel (meant_plain result) (answer t k (length lot.now.groups) (form_of F.VERSION) (Write (drop depth path.now) at bytes.now)).0) }
-    ensures changed { (mode k : ℕ) (t : Tree)
-        → AsShown K.View lot.now keep.old disk.old keep.new disk.new (λ old new.
-        MapRecovers (form_of F.VERSION) mode lot.now old t k
-        → OnOk result (MapRecovers (form_of F.VERSION) mode lot.now new (answer t k (length lot.now.groups) (form_of F.VERSION) (Write (drop depth path.now) at bytes.now)).1 (k + 1))) }
+    requires few { length bytes.now ≤ most_at_once }
+    // Over a lot that recovers a tree, the answer and the change are the model's.
+    ensures answers { AnswersAs K.View F.VERSION lot.now keep.old disk.old
+        (Write (drop depth path.now) at bytes.now) (meant_plain result) }
+    ensures changed { ChangesAs K.View F.VERSION lot.now keep.old disk.old keep.new disk.new
+        (Write (drop depth path.now) at bytes.now) result }
+    // Damage that it names is there.
+    ensures damaged { NamesBroken K.View (form_of F.VERSION) lot.now keep.old disk.old result }
+    // Names alone refuse a path before any call of the disk.
+    ensures paths { RefusesPaths F.VERSION (drop depth path.now ∷ []) result }
+    ensures untouched { UntouchedAll F.VERSION (drop depth path.now ∷ [])
+        keep.old pool.old disk.old keep.new pool.new disk.new }
+    // What it spends of the keep, and what stays as it was.
     ensures counted { OnOk result (K.held keep.new sub_address ≡ true) }
-    ensures paths { ShownBy (paths_refusal (form_of F.VERSION) (drop depth path.now ∷ [])) result }
-    ensures untouched { (r : Why) → paths_refusal (form_of F.VERSION) (drop depth path.now ∷ []) ≡ Some r
-        → (disk.new ≡ disk.old) × (keep.new ≡ keep.old) × (pool.new ≡ pool.old) }
-    ensures refused { IfErr result (λ r. number_of r ≤ 14
-        → Looked D.Disk K.View lot.now keep.old disk.old keep.new disk.new) }
+    ensures refused { LooksIfRefused D.Disk K.View lot.now keep.old disk.old keep.new disk.new result }
     ensures spent { Spent D.Disk K.View lot.now 96 keep.old disk.old keep.new disk.new }
-    ensures damaged { (n : ℕ) → IsErrOf result (Damaged n) → IfShown K.View lot.now keep.old disk.old (λ old.
-        (r : Rule) × (n ≡ rule_number r) × IsBroken (form_of F.VERSION) lot.now old r) }
+    // Which refusals there are, and when a fault comes.
     ensures set { IfErr result (IsOneOf write_refusals change_rules) }
     ensures failed { IsErrOf result Fault → Rose (D.state disk.old).faults (D.state disk.new).faults }
 {
@@ -302,26 +343,27 @@ pub fn trunc<D: Disk, K: Keep<D>, P: Pool<D, K>, F: Form>(
     depth: usize,
     len: u32,
 ) -> Result<(), Refusal>
+    // The lot lies on the disk and has a group, the path begins with the cube's names, and the keep has room.
     requires sited { is_sited lot.now (D.state disk.old).size ≡ true }
     requires some { 1 ≤ length lot.now.groups }
     requires depth { depth ≤ length path.now }
     requires room { 96 ≤ K.room keep.old }
-    ensures answers { (mode k : ℕ) (t : Tree) → IfShown K.View lot.now keep.old disk.old (λ old.
-        MapRecovers (form_of F.VERSION) mode lot.now old t k
-        → AsModel (meant_plain result) (answer t k (length lot.now.groups) (form_of F.VERSION) (Trunc (drop depth path.now) len)).0) }
-    ensures changed { (mode k : ℕ) (t : Tree)
-        → AsShown K.View lot.now keep.old disk.old keep.new disk.new (λ old new.
-        MapRecovers (form_of F.VERSION) mode lot.now old t k
-        → OnOk result (MapRecovers (form_of F.VERSION) mode lot.now new (answer t k (length lot.now.groups) (form_of F.VERSION) (Trunc (drop depth path.now) len)).1 (k + 1))) }
+    // Over a lot that recovers a tree, the answer and the change are the model's.
+    ensures answers { AnswersAs K.View F.VERSION lot.now keep.old disk.old
+        (Trunc (drop depth path.now) len) (meant_plain result) }
+    ensures changed { ChangesAs K.View F.VERSION lot.now keep.old disk.old keep.new disk.new
+        (Trunc (drop depth path.now) len) result }
+    // Damage that it names is there.
+    ensures damaged { NamesBroken K.View (form_of F.VERSION) lot.now keep.old disk.old result }
+    // Names alone refuse a path before any call of the disk.
+    ensures paths { RefusesPaths F.VERSION (drop depth path.now ∷ []) result }
+    ensures untouched { UntouchedAll F.VERSION (drop depth path.now ∷ [])
+        keep.old pool.old disk.old keep.new pool.new disk.new }
+    // What it spends of the keep, and what stays as it was.
     ensures counted { OnOk result (K.held keep.new sub_address ≡ true) }
-    ensures paths { ShownBy (paths_refusal (form_of F.VERSION) (drop depth path.now ∷ [])) result }
-    ensures untouched { (r : Why) → paths_refusal (form_of F.VERSION) (drop depth path.now ∷ []) ≡ Some r
-        → (disk.new ≡ disk.old) × (keep.new ≡ keep.old) × (pool.new ≡ pool.old) }
-    ensures refused { IfErr result (λ r. number_of r ≤ 14
-        → Looked D.Disk K.View lot.now keep.old disk.old keep.new disk.new) }
+    ensures refused { LooksIfRefused D.Disk K.View lot.now keep.old disk.old keep.new disk.new result }
     ensures spent { Spent D.Disk K.View lot.now 96 keep.old disk.old keep.new disk.new }
-    ensures damaged { (n : ℕ) → IsErrOf result (Damaged n) → IfShown K.View lot.now keep.old disk.old (λ old.
-        (r : Rule) × (n ≡ rule_number r) × IsBroken (form_of F.VERSION) lot.now old r) }
+    // Which refusals there are, and when a fault comes.
     ensures set { IfErr result (IsOneOf trunc_refusals change_rules) }
     ensures failed { IsErrOf result Fault → Rose (D.state disk.old).faults (D.state disk.new).faults }
 {

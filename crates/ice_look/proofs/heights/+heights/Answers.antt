@@ -1,4 +1,4 @@
-use Rattle.std.proofs.Common.{◌≡◌, ◌∙◌, ◌+◌, ◌<◌, ◌≤◌, ◌⊎◌, length, rules, sym, refl, subst, arith, inl, inr}
+use Rattle.std.proofs.Common.{◌≡◌, ◌∙◌, ◌+◌, ◌<◌, ◌≤◌, ◌⊎◌, length, rules, sym, refl, subst, arith, inl, inr, ap}
 use Rattle.std.proofs.lemmas.Result.{err_from_is_err_and}
 use Rattle.tree_spec.specs.Costs.{form_of}
 use Rattle.tree_spec.specs.Trees.{Dir, rows}
@@ -10,10 +10,10 @@ use Rattle.ice_base.specs.declared.fault.Rule.TheVariants.{InodeTwice}
 use Rattle.ice_map.specs.Inodes.{inode_of}
 use Rattle.ice_dir.specs.Rows.{HasEntry}
 use Rattle.ice_dir.proofs.DirLaws.{length-rows}
-use Rattle.ice_look.specs.Broken.{spread_at, IsBrokenBy}
+use Rattle.ice_look.specs.Broken.{count_within_place, IsBrokenBy}
 use Rattle.ice_look.specs.Heights.{IsEntry, IsChild}
 use Rattle.ice_look.specs.Places.{IsReached, PlaceIs, PlaceReached}
-use Rattle.ice_look.proofs.SpreadLaws.{row-pays, row-fault, rows-whole, spread-dir, place-some}
+use Rattle.ice_look.proofs.WithinLaws.{row-pays, row-fault, rows-whole, within-dir, place-some}
 use Rattle.ice_look.proofs.HeightLaws.{all-low, all-spent, child-enough, child-spent, child-low, child-higher, low-place, high-place}
 use Rattle.ice_look.proofs.heights.+heights.Goals as goal
 
@@ -114,7 +114,7 @@ has_higher-loop-k-preserved g t c = record {
       let by = subst (λ (n : Map). PlaceReached (form_of g.F.Form.VERSION) lot n c.in_ok-place.place) (sym (then.map ∙ inv.looked.map)) child.reached in
       let shown = then.shows (inv.looked.shows s) in
       row-pays (form_of g.F.Form.VERSION) m lot c.args.levels c.args.number c.loop-k.k c.args.budget.now c.in_ok-place.place child c.loop-k.budget (inv.pays s reached dir size) c.is_higher.new.budget
-      (subst (λ (n : Map). c.loop-k.budget ≤ c.is_higher.new.budget + spread_at (form_of g.F.Form.VERSION) n c.args.levels c.in_ok-place.place) (then.map ∙ inv.looked.map)
+      (subst (λ (n : Map). c.loop-k.budget ≤ c.is_higher.new.budget + count_within_place (form_of g.F.Form.VERSION) n c.args.levels c.in_ok-place.place) (then.map ∙ inv.looked.map)
       (c.in_ok-higher.ensures.pays shown is by c.if-higher.false));
   low = λ h es s r is fits.
       let f = form_of g.F.Form.VERSION in
@@ -195,7 +195,7 @@ has_higher-returns-in_err-higher-clause-broken g t c = λ s reached dir size.
     let shown = then.shows (inv.looked.shows s) in
     rw (p.1, p.2)
     (row-fault (form_of g.F.Form.VERSION) m lot c.args.levels c.args.number c.loop-k.k c.args.budget.now c.in_ok-place.place child c.loop-k.budget (inv.pays s reached dir size) dir.kind c.in_err-higher.field-0.0
-    (subst (λ (n : Map). IsBrokenBy (form_of g.F.Form.VERSION) lot n c.in_err-higher.field-0.0 ⊎ ((c.in_err-higher.field-0.0 ≡ Damaged InodeTwice) × (c.loop-k.budget < spread_at (form_of g.F.Form.VERSION) n c.args.levels c.in_ok-place.place))) (then.map ∙ inv.looked.map)
+    (subst (λ (n : Map). IsBrokenBy (form_of g.F.Form.VERSION) lot n c.in_err-higher.field-0.0 ⊎ ((c.in_err-higher.field-0.0 ≡ Damaged InodeTwice) × (c.loop-k.budget < count_within_place (form_of g.F.Form.VERSION) n c.args.levels c.in_ok-place.place))) (then.map ∙ inv.looked.map)
     (c.in_err-higher.ensures.broken shown is by)))
 
 pub has_higher-returns-clause-pays : goal.has_higher-returns-clause-pays
@@ -203,7 +203,7 @@ has_higher-returns-clause-pays g t c = λ s reached dir size e.
     let m = g.V.View.map c.args.view.now c.args.disk.now c.args.lot.now in
     omega (
       arith,
-      spread-dir (form_of g.F.Form.VERSION) m c.args.levels c.args.number dir.kind,
+      within-dir (form_of g.F.Form.VERSION) m c.args.levels c.args.number dir.kind,
       c.loop-k.invariant.pays s reached dir size,
       rows-whole (form_of g.F.Form.VERSION) m c.args.levels c.args.number c.loop-k.k (omega (arith, length-rows (form_of g.F.Form.VERSION) m c.args.number (ap form_of g.F.Form.is_one.0), size, c.loop-k-test.false)),
     )

@@ -11,7 +11,7 @@ use Rattle.ice_map.specs.Own.{own}
 use Rattle.ice_reads.specs.Tables.{rows_in}
 use Rattle.ice_look.specs.Places.{IsReached}
 use Rattle.ice_look.proofs.HeightLaws.{high, many}
-use Rattle.ice_look.proofs.SpreadLaws.{by_row}
+use Rattle.ice_look.proofs.WithinLaws.{by_row}
 use Rattle.ice_look.proofs.heights.+heights.Given as goal
 
 abbrev pub invariant-has_higher-loop-k : goal.invariant-has_higher-loop-k

@@ -17,7 +17,7 @@ use Rattle.ice_look.proofs.SoundLaws.{no-bad-entry}
 use Rattle.ice_look.proofs.lists.list.Goals as goal
 
 pub add_entries-requires-clause-few : goal.add_entries-requires-clause-few
-add_entries-requires-clause-few g c = let few = sited-few _ _ c.requires.sited in let below = c.in-Ok.ensures.fits.1 in omega (arith, few, below)
+add_entries-requires-clause-few g c = let few = sited-few _ _ c.requires.sited in let below = c.in-Ok.ensures.fits.count in omega (arith, few, below)
 
 pub returns-in-Err-clause-answers : goal.returns-in-Err-clause-answers
 returns-in-Err-clause-answers g c = λ mode k t s recovers. list-paths t k (length c.args.lot.now.groups) (form_of g.F.Form.VERSION) (drop c.args.depth c.args.path.now) _ c.in-Err.ensures.refusal
@@ -33,10 +33,10 @@ returns-in-Err-add_entries-clause-answers g c = λ mode k t s recovers.
     let names = drop c.args.depth c.args.path.now in
     let x = c.in-Ok.ensures.found mode k t s recovers in
     let looked = c.dir_at.ensures.looked in
-    let r : Reads f c.args.lot.now (own f m) c.in-Ok.dir.number (0 + length names) (Dir x.0) =
-    subst (λ j. Reads f c.args.lot.now (own f m) j (0 + length names) (Dir x.0)) (sym x.2) (Reads-part f c.args.lot.now (own f m) names 0 0 t (Dir x.0) x.1 recovers.holds.reads) in
+    let r : Reads f c.args.lot.now (own f m) c.in-Ok.dir.number (0 + length names) (Dir x.inside) =
+    subst (λ j. Reads f c.args.lot.now (own f m) j (0 + length names) (Dir x.inside)) (sym x.number) (Reads-part f c.args.lot.now (own f m) names 0 0 t (Dir x.inside) x.there recovers.holds.reads) in
     fault_model _ c.in-Err-add_entries.fault _ c.refusal_of.ensures
-    (c.in-Err-add_entries.ensures.sound (0 + length names) x.0 (looked.shows s) (subst (λ (m : ℕ → List ℕ). Reads f c.args.lot.now (own f m) c.in-Ok.dir.number (0 + length names) (Dir x.0)) (sym looked.map) r) x.3
+    (c.in-Err-add_entries.ensures.sound (0 + length names) x.inside (looked.shows s) (subst (λ (m : ℕ → List ℕ). Reads f c.args.lot.now (own f m) c.in-Ok.dir.number (0 + length names) (Dir x.inside)) (sym looked.map) r) x.count
     (subst (λ (m : ℕ → List ℕ). IsReached (form_of g.F.Form.VERSION) c.args.lot.now m c.in-Ok.dir.number) (sym looked.map) (c.in-Ok.ensures.reached s))
     (λ b. no-bad-entry f (ap form_of g.F.Form.is_one.0) (form_of g.F.Form.VERSION) (ap form_of g.F.Form.is_one.0) mode c.args.lot.now m t k recovers (subst (BadEntry (form_of g.F.Form.VERSION) c.args.lot.now) looked.map b)))
 
@@ -47,15 +47,15 @@ returns-in-Ok-add_entries-clause-answers g c = λ mode k t s recovers.
     let names = drop c.args.depth c.args.path.now in
     let x = c.in-Ok.ensures.found mode k t s recovers in
     let looked = c.dir_at.ensures.looked in
-    let r : Reads f c.args.lot.now (own f m) c.in-Ok.dir.number (0 + length names) (Dir x.0) =
-    subst (λ j. Reads f c.args.lot.now (own f m) j (0 + length names) (Dir x.0)) (sym x.2) (Reads-part f c.args.lot.now (own f m) names 0 0 t (Dir x.0) x.1 recovers.holds.reads) in
-    let there = c.in-Ok-add_entries.ensures.listed (0 + length names) x.0 (looked.shows s) (subst (λ (m : ℕ → List ℕ). Reads f c.args.lot.now (own f m) c.in-Ok.dir.number (0 + length names) (Dir x.0)) (sym looked.map) r) x.3
+    let r : Reads f c.args.lot.now (own f m) c.in-Ok.dir.number (0 + length names) (Dir x.inside) =
+    subst (λ j. Reads f c.args.lot.now (own f m) j (0 + length names) (Dir x.inside)) (sym x.number) (Reads-part f c.args.lot.now (own f m) names 0 0 t (Dir x.inside) x.there recovers.holds.reads) in
+    let there = c.in-Ok-add_entries.ensures.listed (0 + length names) x.inside (looked.shows s) (subst (λ (m : ℕ → List ℕ). Reads f c.args.lot.now (own f m) c.in-Ok.dir.number (0 + length names) (Dir x.inside)) (sym looked.map) r) x.count
     (subst (λ (m : ℕ → List ℕ). IsReached (form_of g.F.Form.VERSION) c.args.lot.now m c.in-Ok.dir.number) (sym looked.map) (c.in-Ok.ensures.reached s))
     (λ b. no-bad-entry f (ap form_of g.F.Form.is_one.0) (form_of g.F.Form.VERSION) (ap form_of g.F.Form.is_one.0) mode c.args.lot.now m t k recovers (subst (BadEntry (form_of g.F.Form.VERSION) c.args.lot.now) looked.map b)) in
-    let here : c.add_entries.new.room.entries ≡ map (listed_as x.0) (rows_in f (own f m c.in-Ok.dir.number)) = there ∙ ap (λ (m : ℕ → List ℕ). map (listed_as x.0) (rows_in f (own f m c.in-Ok.dir.number))) looked.map in
+    let here : c.add_entries.new.room.entries ≡ map (listed_as x.inside) (rows_in f (own f m c.in-Ok.dir.number)) = there ∙ ap (λ (m : ℕ → List ℕ). map (listed_as x.inside) (rows_in f (own f m c.in-Ok.dir.number))) looked.map in
     ap (λ v. Ok (accepted_of v c.in_order.new.room)) c.in_order.ensures.number
-    ∙ list-value t k (length c.args.lot.now.groups) f names c.in_default.ensures.refusal x.0 x.1 c.in_order.new.room.entries c.in_order.new.room.rows
-    (sorted-listing x.0 (rows_in f (own f m c.in-Ok.dir.number)) c.in_order.new.room.entries r.1.sorted r.1.differ r.1.maps (subst (λ es. IsPermutation es c.in_order.new.room.entries) here c.in_order.ensures.permutation) c.in_order.ensures.sorted)
+    ∙ list-value t k (length c.args.lot.now.groups) f names c.in_default.ensures.refusal x.inside x.there c.in_order.new.room.entries c.in_order.new.room.rows
+    (sorted-listing x.inside (rows_in f (own f m c.in-Ok.dir.number)) c.in_order.new.room.entries r.1.sorted r.1.differ r.1.maps (subst (λ es. IsPermutation es c.in_order.new.room.entries) here c.in_order.ensures.permutation) c.in_order.ensures.sorted)
     c.in_order.ensures.rows
 
 pub returns-in-Ok-add_entries-clause-tallies : goal.returns-in-Ok-add_entries-clause-tallies

@@ -17,7 +17,8 @@ pub returns-in-Ok-Dir-clause-found : goal.returns-in-Ok-Dir-clause-found
 returns-in-Ok-Dir-clause-found g c = λ mode k t s recovers.
     let f = form_of g.F.Form.VERSION in
     let o = own f (g.V.View.map c.args.view.now c.args.disk.now c.args.lot.now) in
-    ends_dir _ _ _ _ (whole_path f o c.args.path.now c.args.depth c.len.result t _ _ c.len.ensures c.in-Ok-Dir.field-0-is (c.in-Ok-Dir.ensures.place mode k t s recovers))
+    let e = ends_dir (inode_on f o 0 (drop c.args.depth c.args.path.now)) _ _ (walk (drop c.args.depth c.args.path.now) t) (whole_path f o c.args.path.now c.args.depth c.len.result t _ _ c.len.ensures c.in-Ok-Dir.field-0-is (c.in-Ok-Dir.ensures.place mode k t s recovers)) in
+    record { inside = e.0; there = e.1; number = e.2; count = e.3 }
 
 pub returns-in-Ok-Missing-clause-found : goal.returns-in-Ok-Missing-clause-found
 returns-in-Ok-Missing-clause-found g c = λ mode k t s recovers.

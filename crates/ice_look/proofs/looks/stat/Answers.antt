@@ -10,10 +10,10 @@ use Rattle.ice_look.proofs.LookLaws.{ends_file, ends_dir, ends_missing, ends_blo
 use Rattle.ice_look.proofs.looks.stat.Goals as goal
 
 pub returns-in-Err-clause-answers : goal.returns-in-Err-clause-answers
-returns-in-Err-clause-answers g c = λ mode k t room s recovers. stat-paths t k (length c.args.lot.now.groups) (form_of g.F.Form.VERSION) (drop c.args.depth c.args.path.now) _ c.in-Err.ensures.refusal
+returns-in-Err-clause-answers g c = λ room mode k t s recovers. stat-paths t k (length c.args.lot.now.groups) (form_of g.F.Form.VERSION) (drop c.args.depth c.args.path.now) _ c.in-Err.ensures.refusal
 
 pub returns-in-Ok-File-clause-answers : goal.returns-in-Ok-File-clause-answers
-returns-in-Ok-File-clause-answers g c = λ mode k t room s recovers.
+returns-in-Ok-File-clause-answers g c = λ room mode k t s recovers.
     let f = form_of g.F.Form.VERSION in
     let o = own f (g.V.View.map c.args.view.now c.args.disk.now c.args.lot.now) in
     let names = drop c.args.depth c.args.path.now in
@@ -21,7 +21,7 @@ returns-in-Ok-File-clause-answers g c = λ mode k t room s recovers.
     stat-value t k (length c.args.lot.now.groups) f names c.in_default.ensures.refusal (walk names t) refl (tree.File e.0) e.1 (value.File c.in-Ok-File.size) (ap (λ n. value.File n) e.3)
 
 pub returns-in-Ok-Dir-clause-answers : goal.returns-in-Ok-Dir-clause-answers
-returns-in-Ok-Dir-clause-answers g c = λ mode k t room s recovers.
+returns-in-Ok-Dir-clause-answers g c = λ room mode k t s recovers.
     let f = form_of g.F.Form.VERSION in
     let o = own f (g.V.View.map c.args.view.now c.args.disk.now c.args.lot.now) in
     let names = drop c.args.depth c.args.path.now in
@@ -29,7 +29,7 @@ returns-in-Ok-Dir-clause-answers g c = λ mode k t room s recovers.
     stat-value t k (length c.args.lot.now.groups) f names c.in_default.ensures.refusal (walk names t) refl (tree.Dir e.0) e.1 (value.Dir c.in-Ok-Dir.size) (ap (λ n. value.Dir n) e.3)
 
 pub returns-in-Ok-Missing-clause-answers : goal.returns-in-Ok-Missing-clause-answers
-returns-in-Ok-Missing-clause-answers g c = λ mode k t room s recovers.
+returns-in-Ok-Missing-clause-answers g c = λ room mode k t s recovers.
     let f = form_of g.F.Form.VERSION in
     let o = own f (g.V.View.map c.args.view.now c.args.disk.now c.args.lot.now) in
     let names = drop c.args.depth c.args.path.now in
@@ -37,7 +37,7 @@ returns-in-Ok-Missing-clause-answers g c = λ mode k t room s recovers.
     stat-none t k (length c.args.lot.now.groups) f names c.in_default.ensures.refusal NotFound e why.NotFound refl
 
 pub returns-in-Ok-Blocked-clause-answers : goal.returns-in-Ok-Blocked-clause-answers
-returns-in-Ok-Blocked-clause-answers g c = λ mode k t room s recovers.
+returns-in-Ok-Blocked-clause-answers g c = λ room mode k t s recovers.
     let f = form_of g.F.Form.VERSION in
     let o = own f (g.V.View.map c.args.view.now c.args.disk.now c.args.lot.now) in
     let names = drop c.args.depth c.args.path.now in
@@ -45,4 +45,4 @@ returns-in-Ok-Blocked-clause-answers g c = λ mode k t room s recovers.
     stat-none t k (length c.args.lot.now.groups) f names c.in_default.ensures.refusal NotDir e why.NotDir refl
 
 pub returns-in-Err-walk-clause-answers : goal.returns-in-Err-walk-clause-answers
-returns-in-Err-walk-clause-answers g c = λ mode k t room s recovers. fault_model _ c.in-Err-walk.fault _ c.refusal_of.ensures (c.in-Err-walk.ensures.sound mode k t s recovers)
+returns-in-Err-walk-clause-answers g c = λ room mode k t s recovers. fault_model _ c.in-Err-walk.fault _ c.refusal_of.ensures (c.in-Err-walk.ensures.sound mode k t s recovers)

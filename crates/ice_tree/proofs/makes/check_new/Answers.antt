@@ -49,11 +49,11 @@ returns-in-Ok-check_quota-clause-spot g c = λ dir mode k t s r.
     let o = own f (g.K.View.map c.args.keep.now c.args.disk.now c.args.lot.now) in
     let ends = c.in-Ok.ensures.found mode k t s r in
     let spot = c.in-Ok-new_spot.ensures.spot f o p t ends (root-is c.args.path.now c.args.depth c.len.result c.requires.depth c.len.ensures) in
-    let needs = new-needs f (ap form_of g.F.Form.is_one.0) o p t c.in-Ok-new_spot.spot dir spot.0 spot.1 c.dir_cost.result c.dir_cost-2.result c.dir_cost.ensures c.dir_cost-2.ensures in
+    let needs = new-needs f (ap form_of g.F.Form.is_one.0) o p t c.in-Ok-new_spot.spot dir spot.1 spot.0 c.dir_cost.result c.dir_cost-2.result c.dir_cost.ensures c.dir_cost-2.ensures in
     let later = recovers-same f mode c.args.lot.now (g.K.View.map c.args.keep.now c.args.disk.now c.args.lot.now) (g.K.View.map c.find_ends.new.view c.find_ends.new.disk c.args.lot.now) t k c.find_ends.ensures.looked.map r in (
-      spot.0,
       new-stages dir t k n f p ∙ none-both (paths_refusal f (p ∷ [])) (or_else (new_refusal p t) (quota_refusal n f k (next (new_operation dir p) t))) c.in_default.ensures.refusal
-          (none-both (new_refusal p t) (quota_refusal n f k (next (new_operation dir p) t)) spot.1 (c.in-Ok-check_quota.ensures.quota mode k t (next (new_operation dir p) t) (c.find_ends.ensures.looked.shows s) later needs)),
+          (none-both (new_refusal p t) (quota_refusal n f k (next (new_operation dir p) t)) spot.0 (c.in-Ok-check_quota.ensures.quota mode k t (next (new_operation dir p) t) (c.find_ends.ensures.looked.shows s) later needs)),
+      spot.1,
     )
 
 pub returns-in-Err-check_quota-clause-spot : goal.returns-in-Err-check_quota-clause-spot
@@ -65,11 +65,11 @@ returns-in-Err-check_quota-clause-spot g c = λ dir mode k t s r.
     let x = refused_of c.in-Err-check_quota.refusal in
     let ends = c.in-Ok.ensures.found mode k t s r in
     let spot = c.in-Ok-new_spot.ensures.spot f o p t ends (root-is c.args.path.now c.args.depth c.len.result c.requires.depth c.len.ensures) in
-    let needs = new-needs f (ap form_of g.F.Form.is_one.0) o p t c.in-Ok-new_spot.spot dir spot.0 spot.1 c.dir_cost.result c.dir_cost-2.result c.dir_cost.ensures c.dir_cost-2.ensures in
+    let needs = new-needs f (ap form_of g.F.Form.is_one.0) o p t c.in-Ok-new_spot.spot dir spot.1 spot.0 c.dir_cost.result c.dir_cost-2.result c.dir_cost.ensures c.dir_cost-2.ensures in
     let later = recovers-same f mode c.args.lot.now (g.K.View.map c.args.keep.now c.args.disk.now c.args.lot.now) (g.K.View.map c.find_ends.new.view c.find_ends.new.disk c.args.lot.now) t k c.find_ends.ensures.looked.map r in
     subst (RefusedAs x) (sym (new-stages dir t k n f p))
     (refused-later x (paths_refusal f (p ∷ [])) (or_else (new_refusal p t) (quota_refusal n f k (next (new_operation dir p) t))) c.in_default.ensures.refusal
-    (refused-later x (new_refusal p t) (quota_refusal n f k (next (new_operation dir p) t)) spot.1
+    (refused-later x (new_refusal p t) (quota_refusal n f k (next (new_operation dir p) t)) spot.0
     (c.in-Err-check_quota.ensures.quota mode k t (next (new_operation dir p) t) (c.find_ends.ensures.looked.shows s) later needs)))
 
 pub returns-in-Ok-check_quota-clause-ready : goal.returns-in-Ok-check_quota-clause-ready
@@ -114,8 +114,8 @@ returns-then-spot-len-clause-spot g c = λ dir mode k t s r.
     let x = Because why.NoNodes in
     let now = next (new_operation dir p) t in
     let spot = c.in-Ok-new_spot.ensures.spot f o p t (c.in-Ok.ensures.found mode k t s r) (root-is c.args.path.now c.args.depth c.len.result c.requires.depth c.len.ensures) in
-    let needs = new-needs f (ap form_of g.F.Form.is_one.0) o p t c.in-Ok-new_spot.spot dir spot.0 spot.1 _ _ refl refl in
-    let many = many_nodes n (nodes now) (omega (arith, needs.nodes_move, spot-nodes f o (parent p) t c.in-Ok-new_spot.spot spot.0)) now refl in
+    let needs = new-needs f (ap form_of g.F.Form.is_one.0) o p t c.in-Ok-new_spot.spot dir spot.1 spot.0 _ _ refl refl in
+    let many = many_nodes n (nodes now) (omega (arith, needs.nodes_move, spot-nodes f o (parent p) t c.in-Ok-new_spot.spot spot.1)) now refl in
     new-stages dir t k n f p
     ∙ refused-later x (paths_refusal f (p ∷ [])) (or_else (new_refusal p t) (quota_refusal n f k now)) c.in_default.ensures.refusal
-    (refused-later x (new_refusal p t) (quota_refusal n f k now) spot.1 (refused-now x (nodes_refusal n now) (or_else (blocks_refusal n f now) (done_refusal k)) many))
+    (refused-later x (new_refusal p t) (quota_refusal n f k now) spot.0 (refused-now x (nodes_refusal n now) (or_else (blocks_refusal n f now) (done_refusal k)) many))

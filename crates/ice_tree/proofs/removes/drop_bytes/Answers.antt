@@ -1,11 +1,11 @@
-use Rattle.std.proofs.Common.{◌∙◌, ap, Err, ℕ, List, arith}
+use Rattle.std.proofs.Common.{◌∙◌, ap, Err, ℕ, List, arith, subst, sym}
 use Rattle.std.proofs.lemmas.Result.{on_ok_weaker}
 use Rattle.ice_base.proofs.LotLaws.{sited-few}
 use Rattle.ice_base.specs.Lots.{sub_address}
 use Rattle.ice_base.specs.declared.fault.OpFault.{OpFault}
 use Rattle.ice_base.specs.declared.fault.OpFault.TheVariants.{Disk as FaultDisk}
-use Rattle.ice_file.specs.Files.{IsCutToFault}
-use Rattle.tree_spec.specs.Costs.{form_of}
+use Rattle.ice_file.specs.Files.{IsCutToFault, ReachesTo}
+use Rattle.tree_spec.specs.Costs.{form_of, Form}
 use Rattle.ice_tree.proofs.RemoveLaws.{err-is, loose-made, nothing-dropped, bytes-dropped, can-drop}
 use Rattle.ice_tree.proofs.FaultLaws.{err-by, done-beside, count-beside}
 use Rattle.ice_tree.proofs.FileDamage.{cut-loose}
@@ -15,6 +15,7 @@ use Rattle.ice_look.specs.Broken.{IsFaultBy}
 use Rattle.ice_tree.specs.Removes.{LooseBroken}
 use Rattle.ice_tree.specs.Outcomes.{IsNamedIn, change_rules}
 use Rattle.ice_base.specs.declared.fault.Rule.TheVariants.{Pointer, Bitmap}
+use Rattle.ice_map.specs.Inodes.{inode_of}
 use Rattle.ice_tree.proofs.removes.drop_bytes.Goals as goal
 
 pub returns-then-bytes-eq0-clause-dropped : goal.returns-then-bytes-eq0-clause-dropped
@@ -50,7 +51,7 @@ returns-clause-broken g c = λ s file.
     let x = c.cut_to.ensures in
     err-by c.cut_to.result IsCutToFault (IsFaultBy (LooseBroken lot m c.args.number)) x.faults
     (λ e is fault.
-    cut-loose (form_of g.F.Form.VERSION) (ap form_of g.F.Form.is_one.0) lot m 0 c.args.number (file (omega arith)) e fault (λ q. x.kind (is ∙ ap (λ (y : OpFault). Err y) q) s) (λ q. x.zero (is ∙ ap (λ (y : OpFault). Err y) q) s) (λ q. x.unused (is ∙ ap (λ (y : OpFault). Err y) q) s)
+    cut-loose (form_of g.F.Form.VERSION) (ap form_of g.F.Form.is_one.0) lot m 0 c.args.number (subst (λ (x : Form). ReachesTo x 0 (inode_of m c.args.number)) (sym (ap form_of g.F.Form.is_one.0)) (file (omega arith))) e fault (λ q. x.kind (is ∙ ap (λ (y : OpFault). Err y) q) s) (λ q. x.zero (is ∙ ap (λ (y : OpFault). Err y) q) s) (λ q. x.unused (is ∙ ap (λ (y : OpFault). Err y) q) s)
     (λ q. x.single_placed (is ∙ ap (λ (y : OpFault). Err y) q) s) (λ q. x.misled (is ∙ ap (λ (y : OpFault). Err y) q) s))
 
 pub returns-clause-faults : goal.returns-clause-faults

@@ -31,9 +31,9 @@ returns-in-Ok-check_quota-clause-file g c = λ mode k t s r.
     let names = c.in-Ok.ensures.names in
     let later = recovers-same f mode c.args.lot.now (g.K.View.map c.args.keep.now c.args.disk.now c.args.lot.now) (g.K.View.map c.reach_file.new.view c.reach_file.new.disk c.args.lot.now) t k c.reach_file.ensures.looked.map r in
     let needs = trunc-needs f p t file.bytes c.args.len file.there file.reaches c.in-Ok.file.size c.size_need-need.result file.size c.size_need-need.ensures in (
-      file.number,
       trunc-stages t k n f p c.args.len ∙ none-both (reach_refusal f p c.args.len t) (quota_refusal n f k (next (Trunc p c.args.len) t)) (reach-none f p c.args.len t names file.bytes file.there file.reaches)
           (c.in-Ok-check_quota.ensures.quota mode k t (next (Trunc p c.args.len) t) (c.reach_file.ensures.looked.shows s) later needs),
+      file.number,
     )
 
 pub returns-in-Err-check_quota-clause-file : goal.returns-in-Err-check_quota-clause-file

@@ -22,7 +22,7 @@ returns-in-Err-clause-answers g c = λ mode k t s r.
 
 pub returns-in-Ok-put_cut-clause-answers : goal.returns-in-Ok-put_cut-clause-answers
 returns-in-Ok-put_cut-clause-answers g c = λ mode k t s r.
-    accepted-model t k (length c.args.lot.now.groups) (form_of g.F.Form.VERSION) (Trunc (drop c.args.depth c.args.path.now) c.args.len) refl (c.in-Ok.ensures.file mode k t s r).1
+    accepted-model t k (length c.args.lot.now.groups) (form_of g.F.Form.VERSION) (Trunc (drop c.args.depth c.args.path.now) c.args.len) refl (c.in-Ok.ensures.file mode k t s r).0
 
 pub returns-in-Ok-put_cut-clause-changed : goal.returns-in-Ok-put_cut-clause-changed
 returns-in-Ok-put_cut-clause-changed g c = λ mode k t s r.
@@ -31,8 +31,8 @@ returns-in-Ok-put_cut-clause-changed g c = λ mode k t s r.
     let lot = c.args.lot.now in
     let file = c.in-Ok.ensures.file mode k t s r in
     let looked = c.check_trunc.ensures.looked in
-    let takes = takes_at-after f mode lot (g.K.View.map c.args.keep.now c.args.disk.now lot) (g.K.View.map c.check_trunc.new.keep c.check_trunc.new.disk lot) t k p (Trunc p c.args.len) c.in-Ok.number looked.map r file.0 file.1 in
-    accepted-recovers t k (length lot.groups) f (Trunc p c.args.len) refl file.1 mode lot (g.K.View.map c.put_cut.new.keep c.put_cut.new.disk lot) (c.in-Ok-put_cut.ensures.set mode k t p (looked.shows s) takes)
+    let takes = takes_at-after f mode lot (g.K.View.map c.args.keep.now c.args.disk.now lot) (g.K.View.map c.check_trunc.new.keep c.check_trunc.new.disk lot) t k p (Trunc p c.args.len) c.in-Ok.number looked.map r file.1 file.0 in
+    accepted-recovers t k (length lot.groups) f (Trunc p c.args.len) refl file.0 mode lot (g.K.View.map c.put_cut.new.keep c.put_cut.new.disk lot) (c.in-Ok-put_cut.ensures.set mode k t p (looked.shows s) takes)
 
 pub returns-in-Err-put_cut-clause-answers : goal.returns-in-Err-put_cut-clause-answers
 returns-in-Err-put_cut-clause-answers g c = λ mode k t s r.
@@ -41,7 +41,7 @@ returns-in-Err-put_cut-clause-answers g c = λ mode k t s r.
     let lot = c.args.lot.now in
     let file = c.in-Ok.ensures.file mode k t s r in
     let looked = c.check_trunc.ensures.looked in
-    let takes = takes_at-after f mode lot (g.K.View.map c.args.keep.now c.args.disk.now lot) (g.K.View.map c.check_trunc.new.keep c.check_trunc.new.disk lot) t k p (Trunc p c.args.len) c.in-Ok.number looked.map r file.0 file.1 in
+    let takes = takes_at-after f mode lot (g.K.View.map c.args.keep.now c.args.disk.now lot) (g.K.View.map c.check_trunc.new.keep c.check_trunc.new.disk lot) t k p (Trunc p c.args.len) c.in-Ok.number looked.map r file.1 file.0 in
     fault_model c.refusal_of.result c.in-Err-put_cut.fault (answer t k (length lot.groups) f (Trunc p c.args.len)).0 c.refusal_of.ensures (c.in-Err-put_cut.ensures.sound mode k t p (looked.shows s) takes)
 
 pub returns-in-Err-put_cut-clause-set : goal.returns-in-Err-put_cut-clause-set

@@ -21,7 +21,7 @@ returns-in-Err-clause-answers g c = λ mode k t s r.
 
 pub returns-in-Ok-put_bytes-clause-answers : goal.returns-in-Ok-put_bytes-clause-answers
 returns-in-Ok-put_bytes-clause-answers g c = λ mode k t s r.
-    accepted-model t k (length c.args.lot.now.groups) (form_of g.F.Form.VERSION) (Write (drop c.args.depth c.args.path.now) c.args.at c.args.bytes.now) refl (c.in-Ok.ensures.file mode k t s r).1
+    accepted-model t k (length c.args.lot.now.groups) (form_of g.F.Form.VERSION) (Write (drop c.args.depth c.args.path.now) c.args.at c.args.bytes.now) refl (c.in-Ok.ensures.file mode k t s r).0
 
 pub returns-in-Ok-put_bytes-clause-changed : goal.returns-in-Ok-put_bytes-clause-changed
 returns-in-Ok-put_bytes-clause-changed g c = λ mode k t s r.
@@ -30,8 +30,8 @@ returns-in-Ok-put_bytes-clause-changed g c = λ mode k t s r.
     let lot = c.args.lot.now in
     let file = c.in-Ok.ensures.file mode k t s r in
     let looked = c.check_write.ensures.looked in
-    let takes = takes_at-after f mode lot (g.K.View.map c.args.keep.now c.args.disk.now lot) (g.K.View.map c.check_write.new.keep c.check_write.new.disk lot) t k p (Write p c.args.at c.args.bytes.now) c.in-Ok.number looked.map r file.0 file.1 in
-    accepted-recovers t k (length lot.groups) f (Write p c.args.at c.args.bytes.now) refl file.1 mode lot (g.K.View.map c.put_bytes.new.keep c.put_bytes.new.disk lot) (c.in-Ok-put_bytes.ensures.set mode k t p (looked.shows s) takes)
+    let takes = takes_at-after f mode lot (g.K.View.map c.args.keep.now c.args.disk.now lot) (g.K.View.map c.check_write.new.keep c.check_write.new.disk lot) t k p (Write p c.args.at c.args.bytes.now) c.in-Ok.number looked.map r file.1 file.0 in
+    accepted-recovers t k (length lot.groups) f (Write p c.args.at c.args.bytes.now) refl file.0 mode lot (g.K.View.map c.put_bytes.new.keep c.put_bytes.new.disk lot) (c.in-Ok-put_bytes.ensures.set mode k t p (looked.shows s) takes)
 
 pub returns-in-Err-put_bytes-clause-answers : goal.returns-in-Err-put_bytes-clause-answers
 returns-in-Err-put_bytes-clause-answers g c = λ mode k t s r.
@@ -40,7 +40,7 @@ returns-in-Err-put_bytes-clause-answers g c = λ mode k t s r.
     let lot = c.args.lot.now in
     let file = c.in-Ok.ensures.file mode k t s r in
     let looked = c.check_write.ensures.looked in
-    let takes = takes_at-after f mode lot (g.K.View.map c.args.keep.now c.args.disk.now lot) (g.K.View.map c.check_write.new.keep c.check_write.new.disk lot) t k p (Write p c.args.at c.args.bytes.now) c.in-Ok.number looked.map r file.0 file.1 in
+    let takes = takes_at-after f mode lot (g.K.View.map c.args.keep.now c.args.disk.now lot) (g.K.View.map c.check_write.new.keep c.check_write.new.disk lot) t k p (Write p c.args.at c.args.bytes.now) c.in-Ok.number looked.map r file.1 file.0 in
     fault_model c.refusal_of.result c.in-Err-put_bytes.fault (answer t k (length lot.groups) f (Write p c.args.at c.args.bytes.now)).0 c.refusal_of.ensures (c.in-Err-put_bytes.ensures.sound mode k t p (looked.shows s) takes)
 
 pub returns-in-Err-put_bytes-clause-set : goal.returns-in-Err-put_bytes-clause-set

@@ -4,7 +4,7 @@ use Rattle.tree_spec.specs.Costs.{form_of, map_cost, dir_blocks}
 use Rattle.tree_spec.specs.Operations.{Remove}
 use Rattle.tree_spec.specs.Answers.{next}
 use Rattle.ice_tree.proofs.GoneLaws.{gone-needs}
-use Rattle.ice_tree.proofs.removes.check_gone.Goals as goal
+use Rattle.ice_tree.proofs.removes.check_removal.Goals as goal
 
 pub dir_cost-requires : goal.dir_cost-requires
 dir_cost-requires g c = let few = sited-few c.args.lot.now _ c.requires.sited in let n = c.requires.fits.spot.count in let x = c.saturating_sub.ensures in omega arith
