@@ -30,7 +30,7 @@ IfRecovers view version lot v e P = (mode k : ℕ) (t : Tree) → IfShown view l
 
 -- the reply to an operation is the model's, but where the disk failed
 abbrev pub AnswersAs : {V D : Type 0} → view.Ghosts V D → ℕ → LotView → V → D → Operation → Response → Type 0
-AnswersAs view version lot v e op reply = (mode k : ℕ) (t : Tree) → IfShown view lot v e (λ old. MapRecovers (form_of version) mode lot old t k → AsModel reply (answer t k (length lot.groups) (form_of version) op).0)
+AnswersAs view version lot v e op reply = IfRecovers view version lot v e (λ old t k. AsModel reply (answer t k (length lot.groups) (form_of version) op).0)
 
 -- a fault is the disk's
 abbrev pub FailsByDisk : {A : Type 0} → Result A OpFault → Type 0
@@ -38,7 +38,7 @@ FailsByDisk result = IfErr result (λ e. e ≡ Disk)
 
 -- where the lot recovers a tree, a fault is the disk's
 abbrev pub FailsByDiskAlone : {A V D : Type 0} → view.Ghosts V D → ℕ → LotView → V → D → Result A OpFault → Type 0
-FailsByDiskAlone view version lot v e result = (mode k : ℕ) (t : Tree) → IfShown view lot v e (λ old. MapRecovers (form_of version) mode lot old t k → IfErr result (λ e. e ≡ Disk))
+FailsByDiskAlone view version lot v e result = IfRecovers view version lot v e (λ old t k. FailsByDisk result)
 
 -- inode `number`, reached by h names, stands for this tree
 abbrev pub ReadsIn : ℕ → LotView → (ℕ → List ℕ) → ℕ → ℕ → Tree → Type 0

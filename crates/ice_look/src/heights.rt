@@ -31,7 +31,7 @@ fn entry_place<D: Disk, V: View<D>, F: Form>(
     // The lot lies on the disk.
     requires sited { is_sited lot.now (D.state disk.old).size ≡ true }
     requires number { number < 64 * length lot.now.groups }
-    // Over a lot that recovers a tree, it finds what the tree has; the disk alone may fail.
+    // Where the inode stands for a tree, it finds what the tree has; the disk alone may fail.
     ensures place { (h : ℕ) (es : Entries) → IfShown V.View lot.now view.old disk.old (λ old.
         ReadsIn F.VERSION lot.now old number h (Dir es) → k < length (rows es)
         → IfOk result (IsChild (form_of F.VERSION) lot.now
@@ -74,7 +74,7 @@ fn has_higher<D: Disk, V: View<D>, F: Form>(
     requires sited { is_sited lot.now (D.state disk.old).size ≡ true }
     requires number { number < 64 * length lot.now.groups }
     requires levels { levels < 24 }
-    // Over a lot that recovers a tree, it finds what the tree has; the disk alone may fail.
+    // Where the inode stands for a tree, it finds what the tree has; the disk alone may fail.
     ensures higher { (h : ℕ) (es : Entries) → IfShown V.View lot.now view.old disk.old (λ old.
         ReadsIn F.VERSION lot.now old number h (Dir es) → size ≡ length (rows es)
         → nodes (Dir es) ≤ budget.old + 1
@@ -129,7 +129,7 @@ pub fn is_higher<D: Disk, V: View<D>, F: Form>(
     requires sited { is_sited lot.now (D.state disk.old).size ≡ true }
     requires fits { PlaceFits lot.now place }
     requires levels { levels ≤ 24 }
-    // Over a lot that recovers a tree, it finds what the tree has; the disk alone may fail.
+    // Where the inode stands for a tree, it finds what the tree has; the disk alone may fail.
     ensures higher { (i h : ℕ) (s : Tree) → IfShown V.View lot.now view.old disk.old (λ old.
         ReadsIn F.VERSION lot.now old i h s → place ≡ place_by i (Found s) → nodes s ≤ budget.old
         → IfOk result (λ b. b ≡ nat_lt levels (height s))) }

@@ -44,7 +44,7 @@ fn add_entry<D: Disk, V: View<D>, F: Form>(
     requires sited { is_sited lot.now (D.state disk.old).size ≡ true }
     requires number { number < 64 * length lot.now.groups }
     requires fits { length room.old.entries < most_entries }
-    // Over a lot that recovers a tree, it finds what the tree has; the disk alone may fail.
+    // Where the inode stands for a tree, it finds what the tree has; the disk alone may fail.
     ensures added { (h : ℕ) (es : Entries) (row : Row)
         → IfShown V.View lot.now view.old disk.old (λ old.
         ReadsIn F.VERSION lot.now old number h (Dir es)
@@ -92,7 +92,7 @@ fn add_entries<D: Disk, V: View<D>, F: Form>(
     requires number { number < 64 * length lot.now.groups }
     requires few { count ≤ most_entries }
     requires empty { room.old.entries ≡ [] }
-    // Over a lot that recovers a tree, it finds what the tree has; the disk alone may fail.
+    // Where the inode stands for a tree, it finds what the tree has; the disk alone may fail.
     ensures listed { (h : ℕ) (es : Entries) → IfShown V.View lot.now view.old disk.old (λ old.
         ReadsIn F.VERSION lot.now old number h (Dir es) → count ≡ length (rows es)
         → IsReached (form_of F.VERSION) lot.now old number → ¬ BadEntry (form_of F.VERSION) lot.now old

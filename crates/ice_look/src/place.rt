@@ -40,7 +40,7 @@ pub(crate) fn look<D: Disk, V: View<D>, F: Form>(
     // The lot lies on the disk.
     requires sited { is_sited lot.now (D.state disk.old).size ≡ true }
     requires number { number < 64 * length lot.now.groups }
-    // Over a lot that recovers a tree, it finds what the tree has; the disk alone may fail.
+    // Where the inode stands for a tree, it finds what the tree has; the disk alone may fail.
     ensures place { (h : ℕ) (t : Tree) → IfShown V.View lot.now view.old disk.old (λ old.
         ReadsIn F.VERSION lot.now old number h t
         → IfOk result (λ p. p ≡ place_by number (Found t))) }
@@ -84,7 +84,7 @@ pub(crate) fn enter<D: Disk, V: View<D>, F: Form>(
 ) -> Result<Place, OpFault>
     // The lot lies on the disk.
     requires sited { is_sited lot.now (D.state disk.old).size ≡ true }
-    // Over a lot that recovers a tree, it finds what the tree has; the disk alone may fail.
+    // Where the inode stands for a tree, it finds what the tree has; the disk alone may fail.
     ensures place { (h : ℕ) (t : Tree) → IfShown V.View lot.now view.old disk.old (λ old.
         ReadsIn F.VERSION lot.now old number h t
         → IfOk result (λ p. p ≡ place_by number (Found t))) }
@@ -122,7 +122,7 @@ pub(crate) fn enter_named<D: Disk, V: View<D>, F: Form>(
 ) -> Result<Place, OpFault>
     // The lot lies on the disk.
     requires sited { is_sited lot.now (D.state disk.old).size ≡ true }
-    // Over a lot that recovers a tree, it finds what the tree has; the disk alone may fail.
+    // Where the inode stands for a tree, it finds what the tree has; the disk alone may fail.
     ensures place { (h : ℕ) (t : Tree) → IfShown V.View lot.now view.old disk.old (λ old.
         number ≢ 0 → ReadsIn F.VERSION lot.now old number h t
         → IfOk result (λ p. p ≡ place_by number (Found t))) }
@@ -162,7 +162,7 @@ pub(crate) fn step<D: Disk, V: View<D>, F: Form>(
     // The lot lies on the disk.
     requires sited { is_sited lot.now (D.state disk.old).size ≡ true }
     requires fits { PlaceFits lot.now from }
-    // Over a lot that recovers a tree, it finds what the tree has; the disk alone may fail.
+    // Where the inode stands for a tree, it finds what the tree has; the disk alone may fail.
     ensures place { (i h : ℕ) (t : Tree) → IfShown V.View lot.now view.old disk.old (λ old.
         ReadsIn F.VERSION lot.now old i h t → from ≡ place_by i (Found t)
         → PlaceReached (form_of F.VERSION) lot.now old from → ¬ BadEntry (form_of F.VERSION) lot.now old

@@ -2,7 +2,7 @@
 ghost use Rattle.std.specs.Prelude.{◌≡◌, ◌≢◌, ◌≤◌, ◌<◌, ◌+◌, ◌-◌, ◌*◌, ◌||◌, ℕ, List, true, false, [], ◌∷◌, Some, None, OnOk, IfOk, IfErr, IsErrOf, MatchResult, MatchOption, length, drop, get_or};
 ghost use Rattle.ice_base.specs.Disk.{Rose};
 ghost use Rattle.ice_base.specs.Lots.{LotView, is_sited, sub_address};
-ghost use Rattle.ice_base.specs.Views.{Looked, Spent, IfShown};
+ghost use Rattle.ice_base.specs.Views.{Looked, Spent, AsShown, IfShown};
 ghost use Rattle.ice_base.specs.declared.fault.OpFault.TheVariants.{Disk as FaultDisk};
 ghost use Rattle.ice_base.specs.declared.fault.Rule.{Rule};
 ghost use Rattle.tree_spec.specs.Answers.{answer, refusal, next, is_root, is_found, is_not_found, is_not_dir, deepest};
@@ -451,16 +451,15 @@ fn move_row<D: Disk, K: Keep<D>, P: Pool<D, K>, F: Form>(
     requires room { 16 ≤ K.room keep.old }
     // Where it takes the operation, the lot recovers the changed tree; the disk alone may fail.
     ensures moved { (mode k : ℕ) (t : Tree) (p q : List (List ℕ))
-        → K.shows lot.now keep.old disk.old
-        → Renames (form_of F.VERSION) mode lot.now
-        (K.map keep.old disk.old lot.now) t k p q step.now name.now new.now → step.now.same ≡ false
-        → OnOk result (MapRecovers (form_of F.VERSION) mode lot.now
-        (K.map keep.new disk.new lot.now) (next (Rename p q) t) k) }
+        → AsShown K.View lot.now keep.old disk.old keep.new disk.new (λ old later.
+        Renames (form_of F.VERSION) mode lot.now old t k p q step.now name.now new.now
+        → step.now.same ≡ false
+        → OnOk result (MapRecovers (form_of F.VERSION) mode lot.now later (next (Rename p q) t) k)) }
     ensures sound { (mode k : ℕ) (t : Tree) (p q : List (List ℕ))
-        → K.shows lot.now keep.old disk.old
-        → Renames (form_of F.VERSION) mode lot.now
-        (K.map keep.old disk.old lot.now) t k p q step.now name.now new.now → step.now.same ≡ false
-        → FailsByDisk result }
+        → IfShown K.View lot.now keep.old disk.old (λ old.
+        Renames (form_of F.VERSION) mode lot.now old t k p q step.now name.now new.now
+        → step.now.same ≡ false
+        → FailsByDisk result) }
     // Damage that it names is there.
     ensures broken { IfShown K.View lot.now keep.old disk.old (λ old.
         MoveIs (form_of F.VERSION) lot.now old name.now step.now → RowFits (form_of F.VERSION) lot.now old step.now
@@ -502,15 +501,13 @@ fn put_moved<D: Disk, K: Keep<D>, P: Pool<D, K>, F: Form>(
     requires room { 17 ≤ K.room keep.old }
     // Where it takes the operation, the lot recovers the changed tree; the disk alone may fail.
     ensures moved { (mode k : ℕ) (t : Tree) (p q : List (List ℕ))
-        → K.shows lot.now keep.old disk.old
-        → Renames (form_of F.VERSION) mode lot.now
-        (K.map keep.old disk.old lot.now) t k p q step.now name.now new.now
-        → OnOk result (MapRecovers (form_of F.VERSION) mode lot.now
-        (K.map keep.new disk.new lot.now) (next (Rename p q) t) (k + 1)) }
+        → AsShown K.View lot.now keep.old disk.old keep.new disk.new (λ old later.
+        Renames (form_of F.VERSION) mode lot.now old t k p q step.now name.now new.now
+        → OnOk result (MapRecovers (form_of F.VERSION) mode lot.now later (next (Rename p q) t) (k + 1))) }
     ensures sound { (mode k : ℕ) (t : Tree) (p q : List (List ℕ))
-        → K.shows lot.now keep.old disk.old
-        → Renames (form_of F.VERSION) mode lot.now
-        (K.map keep.old disk.old lot.now) t k p q step.now name.now new.now → FailsByDisk result }
+        → IfShown K.View lot.now keep.old disk.old (λ old.
+        Renames (form_of F.VERSION) mode lot.now old t k p q step.now name.now new.now
+        → FailsByDisk result) }
     // Damage that it names is there.
     ensures broken { IfShown K.View lot.now keep.old disk.old (λ old.
         MoveIs (form_of F.VERSION) lot.now old name.now step.now → RowFits (form_of F.VERSION) lot.now old step.now
