@@ -39,7 +39,11 @@ fn count(rt: &HostRuntime) -> io::Result<()> {
     let reads = host.reads().saturating_sub(before);
     let hundredths = reads.saturating_mul(100) / u64::from(sums.blocks.max(1));
     println!(rt; "reads: {reads}")?;
-    println!(rt; "reads per used block: {}.{:02}", hundredths / 100, hundredths % 100)
+    println!(rt;
+        "reads per used block: {}.{:02}",
+        hundredths / 100,
+        hundredths % 100
+    )
 }
 
 /// Writes an image with the lot to a file, which is made or made longer if need be.
