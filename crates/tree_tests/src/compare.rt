@@ -93,7 +93,50 @@ const DIGITS: [&str; 16] = [
     "0", "1", "2", "3", "4", "5", "6", "7", "8", "9", "a", "b", "c", "d", "e", "f",
 ];
 
-/// A line with a path; `end` is the size of the file that was looked at last, at which every other write begins.
+/// The words of lines, each as often as it is to come.
+const WORDS: [&str; 24] = [
+    "mkdir", "mkdir", "mkdir", "mkdir", "make", "make", "make", "remove", "list", "list", "stat",
+    "stat", "write", "write", "write", "write", "trunc", "trunc", "rename", "rename", "rename", "read",
+    "read", "read",
+];
+
+/// What stands behind the path of a line with word number `word`; `end` is the size of the file that was looked at last, at which every
+/// other write begins.
+fn some_rest(
+    alloc: Global,
+    random: &mut Random,
+    letters: u32,
+    end: u32,
+    word: usize,
+) -> Result<String, AllocError>
+    requires some { 0 < letters }
+    requires few { letters ≤ 5 }
+{
+    let far = some_size(random, 250_880);
+    let count = some_size(random, 16384);
+    match word {
+        0..=11 => Ok(String::new(alloc)),
+        12..=15 => {
+            let at = if random.next(4) > 0 { end } else { far };
+            let digits = some_digits(alloc, random, count)?;
+            format!(in alloc; " {at} {digits}")
+        }
+        16 | 17 => {
+            let len = if word == 16 { far.min(end) } else { far };
+            format!(in alloc; " {len}")
+        }
+        18..=20 => {
+            let to = some_path(alloc, random, letters)?;
+            format!(in alloc; " {to}")
+        }
+        _ => {
+            let at = far.min(end);
+            format!(in alloc; " {at} {count}")
+        }
+    }
+}
+
+/// A line with a path, or seldom one that asks for the counts.
 fn some_line(
     alloc: Global,
     random: &mut Random,
@@ -103,39 +146,14 @@ fn some_line(
     requires some { 0 < letters }
     requires few { letters ≤ 5 }
 {
-    let path = some_path(alloc, random, letters)?;
-    match random.next(25) {
-        0 | 1 | 2 | 3 => format!(in alloc; "mkdir {path}"),
-        4 | 5 | 6 => format!(in alloc; "make {path}"),
-        7 | 8 | 9 | 10 => {
-            let far = some_size(random, 250_880);
-            let at = if random.next(4) > 0 { end } else { far };
-            let count = some_size(random, 16384);
-            let digits = some_digits(alloc, random, count)?;
-            format!(in alloc; "write {path} {at} {digits}")
-        }
-        11 => {
-            let len = some_size(random, 250_880).min(end);
-            format!(in alloc; "trunc {path} {len}")
-        }
-        12 => {
-            let len = some_size(random, 250_880);
-            format!(in alloc; "trunc {path} {len}")
-        }
-        13 => format!(in alloc; "remove {path}"),
-        14 | 15 | 16 => {
-            let to = some_path(alloc, random, letters)?;
-            format!(in alloc; "rename {path} {to}")
-        }
-        17 | 18 => format!(in alloc; "list {path}"),
-        19 | 20 => format!(in alloc; "stat {path}"),
-        21 => format!(in alloc; "check /a"),
-        _ => {
-            let at = some_size(random, 250_880).min(end);
-            let len = some_size(random, 16384);
-            format!(in alloc; "read {path} {at} {len}")
-        }
+    if random.next(25) == 0 {
+        return format!(in alloc; "check /a");
     }
+    let word = random.next(24) as usize;
+    let path = some_path(alloc, random, letters)?;
+    let rest = some_rest(alloc, random, letters, end, word)?;
+    let name = WORDS[word];
+    format!(in alloc; "{name} {path}{rest}")
 }
 
 /// The first lines: a cube, pieces of a file and 40 empty files, so that few blocks and nodes are left. A cube of one group gets
