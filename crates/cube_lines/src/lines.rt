@@ -97,7 +97,10 @@ fn decode(token: &[u8], bytes: &mut [u8]) -> Result<usize, Refusal>
         return Ok(0);
     }
     let len = token.len() / 2;
-    if token.is_empty() || token.len() % 2 != 0 || !token.iter().all(|digit| digit.is_ascii_hexdigit()) {
+    if token.is_empty()
+        || token.len() % 2 != 0
+        || !token.iter().all(|digit| digit.is_ascii_hexdigit())
+    {
         return Err(Refusal::Hex);
     }
     if len > MOST_BYTES || len > bytes.len() {
@@ -113,21 +116,7 @@ fn decode(token: &[u8], bytes: &mut [u8]) -> Result<usize, Refusal>
 fn parse<'a>(word: Word, tokens: [&[u8]; 3], bytes: &'a mut [u8]) -> Result<Command<'a>, Refusal> {
     let [first, second, third] = tokens;
     match word {
-        Word::Create => {
-            let groups = groups_of(second)?;
-            let path = path_of(first)?;
-            if path.text().len() > 199 {
-                return Err(Refusal::Path);
-            }
-            Ok(Command::Create { path, groups })
-        }
-        Word::Grow => {
-            let groups = groups_of(second)?;
-            Ok(Command::Grow {
-                path: path_of(first)?,
-                groups,
-            })
-        }
+        Word::Create | Word::Grow => parse_groups(word, first, second),
         Word::Write => {
             let at = number_of(second)?;
             let len = decode(third, bytes)?;
@@ -158,6 +147,19 @@ fn parse<'a>(word: Word, tokens: [&[u8]; 3], bytes: &'a mut [u8]) -> Result<Comm
         }
         _ => parse_paths(word, first, second),
     }
+}
+
+/// The command of a line that has a path of a cube and a number of groups.
+fn parse_groups<'a>(word: Word, first: &[u8], second: &[u8]) -> Result<Command<'a>, Refusal> {
+    let groups = groups_of(second)?;
+    let path = path_of(first)?;
+    if word == Word::Grow {
+        return Ok(Command::Grow { path, groups });
+    }
+    if path.text().len() > 199 {
+        return Err(Refusal::Path);
+    }
+    Ok(Command::Create { path, groups })
 }
 
 /// The command of a line that has paths alone.

@@ -48,7 +48,8 @@ impl Cube {
             | Command::Remove { path }
             | Command::List { path }
             | Command::Stat { path } => is_prefix(&self.path, path),
-            Command::Rename { path, to } => is_prefix(&self.path, path) && is_prefix(&self.path, to),
+            Command::Rename { path, to } => is_prefix(&self.path, path)
+                && is_prefix(&self.path, to),
             _ => false,
         }
     }
@@ -227,11 +228,13 @@ impl Session {
     /// Whether these are the blocks, nodes and accepted changes of the plain tree.
     fn has_counts(&self, reply: &Reply) -> bool {
         match reply {
-            Ok(Value::Checked {
-                blocks,
-                nodes,
-                done,
-            }) => {
+            Ok(
+                Value::Checked {
+                    blocks,
+                    nodes,
+                    done,
+                },
+            ) => {
                 u64::from(*blocks) == self.tree.block_count(form_one())
                     && u64::from(*nodes) == self.tree.node_count() as u64
                     && *done == self.done
@@ -251,8 +254,15 @@ impl Session {
                 let (lot, groups, depth) = (cube.lot(), cube.groups, cube.path.len());
                 let got = reply(keep, &mut self.host, &lot, command, depth, &mut self.room);
                 let tree = mem::replace(&mut self.tree, PlainTree::new(alloc));
-                let (plain, tree) =
-                    answer(alloc, tree, self.done, groups, form_one(), command, depth)?;
+                let (plain, tree) = answer(
+                    alloc,
+                    tree,
+                    self.done,
+                    groups,
+                    form_one(),
+                    command,
+                    depth,
+                )?;
                 self.tree = tree;
                 if got == Ok(Value::Plain) {
                     self.done = self.done.saturating_add(1);

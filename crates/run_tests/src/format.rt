@@ -58,7 +58,11 @@ fn a_failing_call_of_the_disk_ends_format_with_disk(rt: HostRuntime) -> Result<(
         let mut host = MemHost::new(alloc, 1312)?;
         host.reserve(40, 0)?;
         host.fail_at(call)?;
-        assert_eq!(rt; status_of(alloc, &FORMAT, &mut host)?, Status::Disk, "call {call}");
+        assert_eq!(rt;
+            status_of(alloc, &FORMAT, &mut host)?,
+            Status::Disk,
+            "call {call}"
+        );
         assert_eq!(rt; host.calls(), call.saturating_add(1));
     }
     Ok(())
@@ -85,7 +89,11 @@ fn words_that_are_no_form_are_usage(rt: HostRuntime) -> Result<(), Fail> {
     ];
     for texts in wrong {
         let mut host = MemHost::new(alloc, 1)?;
-        assert_eq!(rt; status_of(alloc, texts, &mut host)?, Status::Usage, "{texts:?}");
+        assert_eq!(rt;
+            status_of(alloc, texts, &mut host)?,
+            Status::Usage,
+            "{texts:?}"
+        );
         assert_eq!(rt; host.calls(), 0);
         let words = words_of(alloc, texts)?;
         assert!(rt; is_usage(alloc, &words), "{texts:?}");

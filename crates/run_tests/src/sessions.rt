@@ -163,6 +163,9 @@ fn a_host_that_tells_nothing_is_served_too(rt: HostRuntime) -> Result<(), Fail> 
     let mut garbage = MuteHost {
         host: MemHost::new(alloc, 100)?,
     };
-    assert_eq!(rt; status_of(alloc, &["run", "img"], &mut garbage)?, Status::Volume);
+    assert_eq!(rt;
+        status_of(alloc, &["run", "img"], &mut garbage)?,
+        Status::Volume
+    );
     Ok(())
 }

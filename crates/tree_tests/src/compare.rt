@@ -58,7 +58,9 @@ fn some_path(alloc: Global, random: &mut Random, letters: u32) -> Result<String,
         1 => path.push_str(LONG)?,
         _ => {
             path.push_str("/a")?;
-            let names = [0u32, 1, 1, 1, 1, 1, 2, 2, 2, 2, 2, 2, 3, 3, 3, 3][random.next(16) as usize];
+            let names = [0u32, 1, 1, 1, 1, 1, 2, 2, 2, 2, 2, 2, 3, 3, 3, 3][random.next(
+                16,
+            ) as usize];
             for _ in 0..names {
                 path.push_str(LETTERS[random.next(letters) as usize])?;
             }
@@ -96,8 +98,8 @@ const DIGITS: [&str; 16] = [
 /// The words of lines, each as often as it is to come.
 const WORDS: [&str; 24] = [
     "mkdir", "mkdir", "mkdir", "mkdir", "make", "make", "make", "remove", "list", "list", "stat",
-    "stat", "write", "write", "write", "write", "trunc", "trunc", "rename", "rename", "rename", "read",
-    "read", "read",
+    "stat", "write", "write", "write", "write", "trunc", "trunc", "rename", "rename", "rename",
+    "read", "read", "read",
 ];
 
 /// What stands behind the path of a line with word number `word`; `end` is the size of the file that was looked at last, at which every

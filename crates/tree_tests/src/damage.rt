@@ -47,7 +47,14 @@ pub(crate) fn sound(rt: &impl Abort, alloc: Global) -> Result<MemHost, Fail> {
     let mut host = fresh(alloc)?;
     let mut room = Room::new(alloc)?;
     for line in SOUND {
-        let got = reply_to(&mut ThroughKeep::new(), &mut host, &one_group(), line, 1, &mut room);
+        let got = reply_to(
+            &mut ThroughKeep::new(),
+            &mut host,
+            &one_group(),
+            line,
+            1,
+            &mut room,
+        );
         assert!(rt; got.is_ok(), "{line:?}");
     }
     Ok(host)
@@ -114,12 +121,22 @@ static SUBS: [Case; 9] = [
     (Refusal::Damaged(6), &[(SUB, 28, 0)], &[b"remove /a/d"]),
     (
         Refusal::Damaged(6),
-        &[(SUB, 24, 0xff), (SUB, 25, 0xff), (SUB, 26, 0xff), (SUB, 27, 0xff)],
+        &[
+            (SUB, 24, 0xff),
+            (SUB, 25, 0xff),
+            (SUB, 26, 0xff),
+            (SUB, 27, 0xff),
+        ],
         &[b"mkdir /a/d/z", b"make /a/d/z"],
     ),
     (
         Refusal::Damaged(6),
-        &[(SUB, 28, 0xff), (SUB, 29, 0xff), (SUB, 30, 0xff), (SUB, 31, 0xff)],
+        &[
+            (SUB, 28, 0xff),
+            (SUB, 29, 0xff),
+            (SUB, 30, 0xff),
+            (SUB, 31, 0xff),
+        ],
         &[b"mkdir /a/z", b"make /a/z"],
     ),
 ];
@@ -133,7 +150,11 @@ static MEETINGS: [Case; 11] = [
     (Refusal::Damaged(10), &[(ROOT, 64, 64)], &MET),
     (Refusal::Damaged(10), &[(ROOT, 64, 0)], &MET),
     (Refusal::Damaged(11), &[(ROOT, 5, b'/')], &[b"list /a"]),
-    (Refusal::Damaged(11), &[(ENTRIES, 5, b'/')], &[b"rename /a/e /a/d/e"]),
+    (
+        Refusal::Damaged(11),
+        &[(ENTRIES, 5, b'/')],
+        &[b"rename /a/e /a/d/e"],
+    ),
     (
         Refusal::Damaged(10),
         &[
@@ -148,12 +169,22 @@ static MEETINGS: [Case; 11] = [
     ),
     (
         Refusal::Damaged(10),
-        &[(INODES, 4, 63), (INODES, 12, 10), (INODES, 16, 10), (INODES, 20, 10)],
+        &[
+            (INODES, 4, 63),
+            (INODES, 12, 10),
+            (INODES, 16, 10),
+            (INODES, 20, 10),
+        ],
         &[b"rename /a/e/y /a/z"],
     ),
     (
         Refusal::NoNodes,
-        &[(INODES, 4, 63), (INODES, 12, 10), (INODES, 16, 10), (INODES, 20, 10)],
+        &[
+            (INODES, 4, 63),
+            (INODES, 12, 10),
+            (INODES, 16, 10),
+            (INODES, 20, 10),
+        ],
         &[b"mkdir /a/z", b"make /a/z"],
     ),
 ];
@@ -170,13 +201,21 @@ static BITMAPS: [Case; 5] = [
         &[(BITMAP, 1, 0xfb)],
         &[b"trunc /a/f 0", b"remove /a/f"],
     ),
-    (Refusal::Damaged(13), &[(BITMAP, 32, 0xfb)], &[b"remove /a/f"]),
+    (
+        Refusal::Damaged(13),
+        &[(BITMAP, 32, 0xfb)],
+        &[b"remove /a/f"],
+    ),
     (
         Refusal::Damaged(13),
         &[(BITMAP, 32, 0xfd)],
         &[b"mkdir /a/d/z", b"make /a/d/z"],
     ),
-    (Refusal::Damaged(13), &[(BITMAP, 32, 0xfd)], &[b"remove /a/d"]),
+    (
+        Refusal::Damaged(13),
+        &[(BITMAP, 32, 0xfd)],
+        &[b"remove /a/d"],
+    ),
 ];
 
 #[test]
@@ -188,7 +227,14 @@ fn a_command_names_a_rule_that_the_lot_breaks(rt: HostRuntime) -> Result<(), Fai
     for (want, bytes, lines) in cases.iter().flat_map(|part| part.iter()) {
         for line in lines.iter() {
             let mut host = damaged(&rt, alloc, &base, bytes)?;
-            let got = reply_to(&mut ThroughKeep::new(), &mut host, &one_group(), line, 1, &mut room);
+            let got = reply_to(
+                &mut ThroughKeep::new(),
+                &mut host,
+                &one_group(),
+                line,
+                1,
+                &mut room,
+            );
             let text = str::from_utf8(line)?;
             assert_eq!(rt; got, Err(*want), "{text} with {bytes:?}");
         }
@@ -209,7 +255,14 @@ fn a_directory_that_is_marked_free_is_not_overwritten(rt: HostRuntime) -> Result
         (b"list /a/e", None),
         (b"list /a/e/x", None),
     ] {
-        let got = reply_to(&mut ThroughKeep::new(), &mut host, &one_group(), line, 1, &mut room);
+        let got = reply_to(
+            &mut ThroughKeep::new(),
+            &mut host,
+            &one_group(),
+            line,
+            1,
+            &mut room,
+        );
         assert_eq!(&rt; got.err(), want);
         assert!(&rt; host.blocks() == BLOCKS);
         assert!(&rt; *host.block(INODES) == inodes);

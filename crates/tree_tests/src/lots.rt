@@ -59,7 +59,11 @@ fn a_directory_writes_these_bytes(rt: HostRuntime) -> Result<(), Fail> {
     let made: [(&[u8], Reply); 1] = [(b"mkdir /home/a", PLAIN)];
     replies(&rt, &mut ThroughKeep::new(), &mut host, &mut room, &made)?;
     let parts: [(u32, usize, &[u8]); 6] = [
-        (SUB_BLOCK, 16, &[1, 0, 0, 0, 0, 0, 0, 0, 1, 0, 0, 0, 2, 0, 0, 0]),
+        (
+            SUB_BLOCK,
+            16,
+            &[1, 0, 0, 0, 0, 0, 0, 0, 1, 0, 0, 0, 2, 0, 0, 0],
+        ),
         (BITMAP, 0, &[0xff, 0x03, 0]),
         (BITMAP, 32, &[0x03, 0]),
         (INODES, 0, &[2, 0, 0, 0, 1, 0, 0, 0, 9, 0, 0, 0, 0]),
@@ -68,7 +72,10 @@ fn a_directory_writes_these_bytes(rt: HostRuntime) -> Result<(), Fail> {
     ];
     for (at, start, bytes) in parts {
         assert!(rt; at < host.blocks() && start < 1024);
-        assert!(rt; host.block(at)[start..].starts_with(bytes), "block {at} from {start} on");
+        assert!(rt;
+            host.block(at)[start..].starts_with(bytes),
+            "block {at} from {start} on"
+        );
     }
     Ok(())
 }
@@ -119,7 +126,10 @@ fn a_keep_that_holds_a_list_is_filled_to_its_last_room(rt: HostRuntime) -> Resul
     assert!(rt; host.blocks() == BLOCKS);
     while Keep::<MemHost>::spare(&keep) > 0 {
         assert!(rt; at < 400);
-        assert!(rt; keep.put(&mut host, &two_groups(), at, &[at as u8; 1024]).is_ok());
+        assert!(rt;
+            keep.put(&mut host, &two_groups(), at, &[at as u8; 1024])
+                .is_ok()
+        );
         at += 1;
     }
     assert_eq!(rt; at, 395);
@@ -157,7 +167,14 @@ fn garbage_that_tells_nothing_is_refused_by_name(rt: HostRuntime) -> Result<(), 
             mute.host.set_block(at, &[fill; 1024]);
         }
         for (line, rule) in lines {
-            let got = reply_to(&mut ThroughKeep::new(), &mut mute, &two_groups(), line, 1, &mut room);
+            let got = reply_to(
+                &mut ThroughKeep::new(),
+                &mut mute,
+                &two_groups(),
+                line,
+                1,
+                &mut room,
+            );
             let text = str::from_utf8(line)?;
             let is_named = got == Err(Refusal::Damaged(rule)) || got == Err(Refusal::Damaged(7));
             assert!(rt; is_named, "{text} over {fill}: {got:?}");
