@@ -2,10 +2,10 @@
 #![tactic(auto)]
 
 ghost use Rattle.std.specs.Prelude.{◌≡◌, ◌≤◌, ◌+◌, true, [], length};
-ghost use Rattle.ice_base.specs.Lots.{is_sited};
 
 use disk_mem::MemHost;
-use ice_base::{Block, Disk, DiskFault, FormOne, Lot, OpFault, write_u32};
+use fresh_lots::{BLOCKS, fresh, two_groups};
+use ice_base::{Disk, FormOne, OpFault};
 use ice_file::{read_at, write_at};
 use ice_keep::ThroughKeep;
 use ice_map::{Inode, put_inode};
@@ -13,42 +13,9 @@ use ice_pool::BitPool;
 use std::io;
 use tree_spec::Room;
 
-const BLOCKS: u32 = 800;
-
 const FILE: u32 = 1;
 
 const PIECE: u32 = 16384;
-
-/// The lot of slot 0 with groups 0 and 1, in an image of one slot and two groups.
-#[tactic(auto, unfolding(ice_base::specs::Lots::is_sited, ice_base::specs::Lots::lies_below))]
-fn lot() -> Lot
-    ensures sited { is_sited result 800 ≡ true }
-    ensures groups { length result.groups ≡ 2 }
-{
-    let mut lot = Lot::new(0, 288);
-    lot.push(0);
-    lot.push(1);
-    lot
-}
-
-fn bitmap(nodes: u8) -> Block {
-    let mut block = [0; 1024];
-    block[0] = 0xff;
-    block[1] = 0x01;
-    block[32] = nodes;
-    block
-}
-
-/// Writes what the pool looks at: the counts of used blocks and inodes, and a bitmap for each group, with the root and one file.
-fn make_fresh<D: Disk>(disk: &mut D) -> Result<(), DiskFault>
-    requires { (D.state disk.old).size ≡ 800 }
-{
-    let mut counts = [0; 1024];
-    write_u32(&mut counts, 28, 2);
-    disk.write(32, &counts)?;
-    disk.write(288, &bitmap(3))?;
-    disk.write(544, &bitmap(0))
-}
 
 /// An empty file.
 fn make_file<D: Disk>(disk: &mut D) -> Result<(), OpFault>
@@ -65,7 +32,7 @@ fn make_file<D: Disk>(disk: &mut D) -> Result<(), OpFault>
         &mut ThroughKeep::new(),
         &mut BitPool::new(),
         disk,
-        &lot(),
+        &two_groups(),
         FILE,
         &file,
     )
@@ -80,7 +47,7 @@ fn write_end<D: Disk>(disk: &mut D, at: u32, bytes: &[u8]) -> Result<(), OpFault
         &mut ThroughKeep::new(),
         &mut BitPool::new(),
         disk,
-        &lot(),
+        &two_groups(),
         FILE,
         at,
         bytes,
@@ -92,7 +59,15 @@ fn read_end<D: Disk>(disk: &mut D, at: u32, room: &mut Room) -> Result<(), OpFau
     requires few { at ≤ 274432 }
     requires empty { room.old.bytes ≡ [] }
 {
-    read_at::<D, ThroughKeep, FormOne>(&mut ThroughKeep::new(), disk, &lot(), FILE, at, PIECE, room)
+    read_at::<D, ThroughKeep, FormOne>(
+        &mut ThroughKeep::new(),
+        disk,
+        &two_groups(),
+        FILE,
+        at,
+        PIECE,
+        room,
+    )
 }
 
 /// The calls of one write and one read of a piece: good reads and writes of each.
@@ -124,11 +99,11 @@ fn measure(host: &mut MemHost, at: u32, bytes: &[u8], room: &mut Room) -> Option
 
 fn work(rt: &HostRuntime) -> io::Result<Option<()>> {
     let alloc = rt.alloc();
-    let mut host = MemHost::new(alloc, BLOCKS)?;
+    let mut host = fresh(alloc)?;
     let mut room = Room::new(alloc)?;
-    let bytes = [7; 16384];
-    if host.blocks() != BLOCKS || make_fresh(&mut host).is_err() {
-        return Ok(None);
+    let mut bytes = [0; 16384];
+    for (i, byte) in bytes.iter_mut().enumerate() {
+        *byte = (i % 251) as u8;
     }
     if host.blocks() != BLOCKS || make_file(&mut host).is_err() {
         return Ok(None);

@@ -95,9 +95,8 @@ fn a_path_has_the_names_of_its_text(rt: HostRuntime) {
             Ok(path) => {
                 assert_eq!(rt; path.len(), len, "of {text:?}");
                 assert_eq!(rt; path.text(), text);
-                if len > 0 && len <= path.len() {
-                    assert_eq!(rt; path.name(len - 1).bytes(), last);
-                }
+                assert!(rt; len > 0 && len <= path.len());
+                assert_eq!(rt; path.name(len - 1).bytes(), last);
             }
             Err(_) => assert!(rt; false, "{text:?} is refused"),
         }

@@ -4,7 +4,6 @@
 //! No clause ties them to the model: tests compare them with what other code answers.
 #![tactic(auto)]
 
-mod asks;
 mod command;
 mod cost;
 mod next;
@@ -13,7 +12,6 @@ mod tests;
 mod text;
 mod tree;
 
-pub use asks::{cuts, lists, makes, mkdirs, path, reads, removes, renames, stats, writes};
 pub use command::{PlainEntry, PlainReply, answer};
 pub use cost::{PlainForm, form_one, form_two, map_cost};
 pub use tree::PlainTree;

@@ -1,33 +1,35 @@
-//! The commands of a tree beside a plain slow tree: 6,000 generated commands, boundary sizes among them.
-ghost use Rattle.std.specs.Prelude.{◌≡◌, ◌≤◌, ◌<◌, ◌+◌, true, length};
+//! The commands of a tree beside a plain slow tree: 12,000 generated lines, boundary sizes among them, over both keeps.
+ghost use Rattle.std.specs.Prelude.{◌≡◌, ◌≤◌, ◌<◌};
 
-use crate::cube::{BLOCKS, fresh, one_group, reply};
+use cube_lines::Session;
 use disk_mem::MemHost;
-use ice_base::Disk;
-use ice_keep::ThroughKeep;
-use plain_tree::{PlainReply, PlainTree, answer, form_one, makes, path, writes};
-use std::alloc::Global;
+use ice_base::Keep;
+use ice_keep::{ListKeep, ThroughKeep};
+use std::alloc::{AllocError, Global};
 use std::process::Abort;
 use std::test::Fail;
-use tree_spec::{Command, Path, Reply, Room, Value};
+use tree_spec::{Reply, Value};
 
-/// Fresh lots, and commands for each.
-const ROUNDS: u32 = 4;
+/// The seeds of the rounds, each with the number of the cube's groups.
+const ROUNDS: [(u32, u32); 4] = [(20, 1), (7, 1), (1_999, 1), (4_242, 2)];
 
-const COMMANDS: u32 = 1500;
+const LINES: u32 = 1500;
+
+/// The lines that fill the cube.
+const FIRST: u32 = 58;
 
 /// Sizes about the ends of blocks, of the direct blocks and of what one command may write.
 const SIZES: [u32; 12] = [
     0, 1, 2, 1023, 1024, 1025, 12287, 12288, 12289, 16383, 16384, 250_880,
 ];
 
-static BYTES: [u8; 16384] = [5; 16384];
-
 /// 25 names below the cube's own.
-static DEEP: [u8; 52] = *b"/a/d/d/d/d/d/d/d/d/d/d/d/d/d/d/d/d/d/d/d/d/d/d/d/d/d";
+const DEEP: &str = "/a/d/d/d/d/d/d/d/d/d/d/d/d/d/d/d/d/d/d/d/d/d/d/d/d/d";
 
 /// A name of 60 bytes below the cube's own.
-static LONG: [u8; 63] = *b"/a/nnnnnnnnnnnnnnnnnnnnnnnnnnnnnnnnnnnnnnnnnnnnnnnnnnnnnnnnnnnn";
+const LONG: &str = "/a/nnnnnnnnnnnnnnnnnnnnnnnnnnnnnnnnnnnnnnnnnnnnnnnnnnnnnnnnnnnn";
+
+const LETTERS: [&str; 5] = ["/p", "/q", "/r", "/s", "/t"];
 
 /// A small generator: the higher bits of a linear congruence.
 #[derive(Drop)]
@@ -46,26 +48,25 @@ impl Random {
 }
 
 /// A path of up to three names of one letter each below the cube's own, and seldom one that is too deep or has a long name.
-fn some_path(random: &mut Random, letters: u32) -> Path
+fn some_path(alloc: Global, random: &mut Random, letters: u32) -> Result<String, AllocError>
     requires some { 0 < letters }
-    requires few { letters ≤ 8 }
+    requires few { letters ≤ 5 }
 {
+    let mut path = String::new(alloc);
     match random.next(200) {
-        0 => return path(&DEEP),
-        1 => return path(&LONG),
-        _ => {}
+        0 => path.push_str(DEEP)?,
+        1 => path.push_str(LONG)?,
+        _ => {
+            path.push_str("/a")?;
+            let names = [0u32, 1, 1, 1, 1, 1, 2, 2, 2, 2, 2, 2, 3, 3, 3, 3][random.next(
+                16,
+            ) as usize];
+            for _ in 0..names {
+                path.push_str(LETTERS[random.next(letters) as usize])?;
+            }
+        }
     }
-    let mut text = *b"/a/x/x/x";
-    for k in 0..3usize {
-        text[3 + 2 * k] = b'p' + random.next(letters) as u8;
-    }
-    let end = match random.next(16) {
-        0 => 2,
-        1 | 2 | 3 | 4 | 5 => 4,
-        6 | 7 | 8 | 9 | 10 | 11 => 6,
-        _ => 8,
-    };
-    path(&text[..end])
+    Ok(path)
 }
 
 fn some_size(random: &mut Random, most: u32) -> u32
@@ -74,169 +75,172 @@ fn some_size(random: &mut Random, most: u32) -> u32
     SIZES[random.next(12) as usize].min(most)
 }
 
-/// A command; `end` is the size of the file that was looked at last, at which every other write begins.
-fn some_command(random: &mut Random, letters: u32, path: Path, end: u32) -> Command<'static>
-    requires some { 0 < letters }
-    requires few { letters ≤ 8 }
-{
-    match random.next(24) {
-        0 | 1 | 2 | 3 => Command::Mkdir { path },
-        4 | 5 | 6 => Command::Make { path },
-        7 | 8 | 9 | 10 => Command::Write {
-            path,
-            at: if random.next(4) > 0 {
-                end
-            } else {
-                some_size(random, 250_880)
-            },
-            bytes: &BYTES[..some_size(random, 16384) as usize],
-        },
-        11 => Command::Trunc {
-            path,
-            len: some_size(random, 250_880).min(end),
-        },
-        12 => Command::Trunc {
-            path,
-            len: some_size(random, 250_880),
-        },
-        13 => Command::Remove { path },
-        14 | 15 | 16 => Command::Rename {
-            path,
-            to: some_path(random, letters),
-        },
-        17 | 18 => Command::List { path },
-        19 | 20 => Command::Stat { path },
-        _ => Command::Read {
-            path,
-            at: some_size(random, 250_880).min(end),
-            len: some_size(random, 16384),
-        },
+/// The hexadecimal digits of so many bytes, which differ from place to place and from one to the next.
+fn some_digits(alloc: Global, random: &mut Random, count: u32) -> Result<String, AllocError> {
+    let mut digits = String::new(alloc);
+    if count == 0 {
+        digits.push('-')?;
     }
-}
-
-/// The room holds what the plain reply holds, and the entries in the order of their names.
-fn agree(rt: &impl Abort, i: u32, got: &Reply, room: &Room, plain: &PlainReply) {
-    assert_eq!(rt; *got, plain.reply, "of command {i}");
-    match got {
-        Ok(Value::Bytes) => assert_eq!(rt; room.bytes(), plain.bytes.as_slice(), "of command {i}"),
-        Ok(Value::Listed(_)) => {
-            assert_eq!(rt; room.entries().len(), plain.entries.len(), "of command {i}");
-            let mut last: &[u8] = b"";
-            for entry in room.entries() {
-                assert!(rt; last < entry.name.bytes(), "of command {i}");
-                last = entry.name.bytes();
-                let has = plain.entries.iter().any(|p| p.name.as_slice() == entry.name.bytes()
-                    && p.dir == entry.dir);
-                assert!(rt; has, "of command {i}");
-            }
+    let first = random.next(251);
+    for k in 0..count {
+        let byte = first.wrapping_add(k) % 251;
+        for digit in [byte / 16, byte % 16] {
+            digits.push_str(DIGITS[digit as usize])?;
         }
-        _ => {}
+    }
+    Ok(digits)
+}
+
+const DIGITS: [&str; 16] = [
+    "0", "1", "2", "3", "4", "5", "6", "7", "8", "9", "a", "b", "c", "d", "e", "f",
+];
+
+/// The words of lines, each as often as it is to come.
+const WORDS: [&str; 24] = [
+    "mkdir", "mkdir", "mkdir", "mkdir", "make", "make", "make", "remove", "list", "list", "stat",
+    "stat", "write", "write", "write", "write", "trunc", "trunc", "rename", "rename", "rename",
+    "read", "read", "read",
+];
+
+/// What stands behind the path of a line with word number `word`; `end` is the size of the file that was looked at last, at which every
+/// other write begins.
+fn some_rest(
+    alloc: Global,
+    random: &mut Random,
+    letters: u32,
+    end: u32,
+    word: usize,
+) -> Result<String, AllocError>
+    requires some { 0 < letters }
+    requires few { letters ≤ 5 }
+{
+    let far = some_size(random, 250_880);
+    let count = some_size(random, 16384);
+    match word {
+        0..=11 => Ok(String::new(alloc)),
+        12..=15 => {
+            let at = if random.next(4) > 0 { end } else { far };
+            let digits = some_digits(alloc, random, count)?;
+            format!(in alloc; " {at} {digits}")
+        }
+        16 | 17 => {
+            let len = if word == 16 { far.min(end) } else { far };
+            format!(in alloc; " {len}")
+        }
+        18..=20 => {
+            let to = some_path(alloc, random, letters)?;
+            format!(in alloc; " {to}")
+        }
+        _ => {
+            let at = far.min(end);
+            format!(in alloc; " {at} {count}")
+        }
     }
 }
 
-/// The number of the reply's refusal, and 0 for none.
+/// A line with a path, or seldom one that asks for the counts.
+fn some_line(
+    alloc: Global,
+    random: &mut Random,
+    letters: u32,
+    end: u32,
+) -> Result<String, AllocError>
+    requires some { 0 < letters }
+    requires few { letters ≤ 5 }
+{
+    if random.next(25) == 0 {
+        return format!(in alloc; "check /a");
+    }
+    let word = random.next(24) as usize;
+    let path = some_path(alloc, random, letters)?;
+    let rest = some_rest(alloc, random, letters, end, word)?;
+    let name = WORDS[word];
+    format!(in alloc; "{name} {path}{rest}")
+}
+
+/// The first lines: a cube, pieces of a file and 40 empty files, so that few blocks and nodes are left. A cube of one group gets
+/// fourteen pieces, one of two groups as many as a file has, and one more.
+fn first_line(
+    alloc: Global,
+    random: &mut Random,
+    groups: u32,
+    i: u32,
+) -> Result<String, AllocError> {
+    let pieces: u32 = if groups > 1 { 17 } else { 14 };
+    match i {
+        0 => format!(in alloc; "create /a {groups}"),
+        1 => format!(in alloc; "make /a/z"),
+        _ if i < pieces.saturating_add(2) => {
+            let digits = some_digits(alloc, random, 16384)?;
+            let at = 16384u32.saturating_mul(i.saturating_sub(2));
+            format!(in alloc; "write /a/z {at} {digits}")
+        }
+        _ => format!(in alloc; "make /a/e{i}"),
+    }
+}
+
+/// The number of the reply's refusal, 0 for the value of a look, and 34 for an accepted change.
 fn number(reply: &Reply) -> usize {
     match reply {
+        Ok(Value::Plain) => 34,
         Ok(_) => 0,
         Err(refusal) => usize::from(refusal.number()),
     }
 }
 
-/// The first commands: fourteen pieces of a file and 40 empty files, so that few blocks and nodes are left.
-fn fill_up(i: u32) -> Command<'static> {
-    let (tens, ones) = (b'A' + (i / 8 % 8) as u8, b'a' + (i % 8) as u8);
-    match i {
-        0 => makes(b"/a/z"),
-        1..=14 => writes(b"/a/z", 16384 * (i - 1), &BYTES),
-        _ => makes(&[b'/', b'a', b'/', tens, ones]),
-    }
-}
-
-/// What is compared: a lot with its host, and the plain tree.
-#[derive(Drop)]
-struct Pair {
-    host: MemHost,
-    room: Room,
-    tree: PlainTree,
-    done: u64,
-    /// The size of the file that was looked at last.
-    end: u32,
-}
-
-fn new_pair(rt: &impl Abort, alloc: Global) -> Result<Pair, Fail> {
-    Ok(Pair {
-        host: fresh(rt, alloc)?,
-        room: Room::new(alloc)?,
-        tree: PlainTree::new(alloc),
-        done: 0,
-        end: 0,
-    })
-}
-
-/// Asks both, and answers the pair after it with the reply.
-fn ask(
+/// Asks a new cube and the plain tree the lines of a seed, and counts the replies by their numbers.
+fn round<K: Keep<MemHost>>(
     rt: &impl Abort,
     alloc: Global,
-    pair: Pair,
-    i: u32,
-    command: &Command,
-) -> Result<(Pair, Reply), Fail> {
-    let Pair {
-        mut host,
-        mut room,
-        tree,
-        mut done,
-        mut end,
-    } = pair;
-    assert!(rt; host.blocks() == BLOCKS);
-    let mut keep = ThroughKeep::new();
-    let got = reply(rt, &mut keep, &mut host, &one_group(), command, &mut room);
-    let (plain, tree) = answer(alloc, tree, done, 1, form_one(), command, 1)?;
-    agree(rt, i, &got, &room, &plain);
-    if got == Ok(Value::Plain) {
-        done = done.saturating_add(1);
+    keep: &mut K,
+    (seed, groups): (u32, u32),
+    times: &mut [u32; 35],
+) -> Result<(), Fail> {
+    let mut random = Random { state: seed };
+    let mut session = Session::new(alloc)?;
+    let mut bytes = vec![in alloc; 0u8; 16384]?;
+    let mut end = 0;
+    for i in 0..LINES {
+        let letters = if i < LINES / 3 { 2 } else { 5 };
+        let line = if i < FIRST {
+            first_line(alloc, &mut random, groups, i)?
+        } else {
+            some_line(alloc, &mut random, letters, end)?
+        };
+        let answer = session.line(alloc, keep, line.as_bytes(), &mut bytes)?;
+        let reply = answer.reply;
+        assert!(rt; answer.agrees, "seed {seed}, line {i}: {reply:?} to {line}");
+        if let Ok(Value::File(size)) = reply {
+            end = size;
+        }
+        let which = number(&reply);
+        assert!(rt; which < 35);
+        times[which] = times[which].saturating_add(1);
     }
-    if let Ok(Value::File(size)) = got {
-        end = size;
-    }
-    Ok((
-        Pair {
-            host,
-            room,
-            tree,
-            done,
-            end,
-        },
-        got,
-    ))
+    Ok(())
 }
 
 #[test]
 fn a_lot_answers_as_the_plain_tree_does(rt: HostRuntime) -> Result<(), Fail> {
-    let mut random = Random { state: 20 };
-    let mut times = [0u32; 34];
-    let mut done = 0u64;
-    for _ in 0..ROUNDS {
-        let mut pair = new_pair(&rt, rt.alloc())?;
-        for i in 0..COMMANDS {
-            let letters = if i < COMMANDS / 3 { 2 } else { 5 };
-            let path = some_path(&mut random, letters);
-            let command = match i {
-                0..=54 => fill_up(i),
-                _ => some_command(&mut random, letters, path, pair.end),
-            };
-            let (after, got) = ask(&rt, rt.alloc(), pair, i, &command)?;
-            pair = after;
-            let which = number(&got);
-            assert!(rt; which < 34);
-            times[which] = times[which].saturating_add(1);
+    for held in [false, true] {
+        let mut times = [0u32; 35];
+        for seed in ROUNDS {
+            if held {
+                let mut keep = ListKeep::new(rt.alloc(), 800)?;
+                round(&rt, rt.alloc(), &mut keep, seed, &mut times)?;
+            } else {
+                round(&rt, rt.alloc(), &mut ThroughKeep::new(), seed, &mut times)?;
+            }
         }
-        done = done.saturating_add(pair.done);
+        // Every refusal of a tree but Spent, and no other.
+        for (which, count) in times.iter().enumerate() {
+            assert_eq!(rt;
+                *count > 0,
+                which < 14 || which == 34,
+                "{count} answers {which}"
+            );
+        }
+        assert!(rt; times[0] > 300 && times[34] > 500, "{times:?}");
     }
-    // Every refusal but FileBig, which a lot of one group has no blocks for, and Spent.
-    for which in [0, 1, 2, 3, 4, 5, 6, 7, 8, 9, 10, 12, 13usize] {
-        assert!(rt; times[which] > 0, "no answer {which}");
-    }
-    assert!(rt; times[0] > 900 && done > 500, "{done} changes of {times:?}");
     Ok(())
 }

@@ -67,9 +67,8 @@ fn a_changed_byte_breaks_its_rule_first(rt: HostRuntime) {
     ];
     for (at, rule) in rows {
         let mut block = sub_block(5, 6, 7);
-        if at < 1024 {
-            block[at] = 0x80;
-        }
+        assert!(rt; at < 1024);
+        block[at] = 0x80;
         assert_eq!(rt; read_sub(&block, 0), Err(rule), "byte {at}");
     }
     assert_eq!(rt; read_sub(&[0xff; 1024], 0), Err(Rule::Magic));
@@ -119,9 +118,8 @@ fn superblocks_have_their_bytes_and_faults(rt: HostRuntime) -> Result<(), Fail> 
     ];
     for (at, fault) in rows {
         write_super(&sup, &mut block);
-        if at < 1024 {
-            block[at] = 0xff;
-        }
+        assert!(rt; at < 1024);
+        block[at] = 0xff;
         assert_eq!(rt; read_super(&block), Err(fault), "byte {at}");
     }
     fresh_block(&sup, 1, &mut block);

@@ -1,10 +1,9 @@
 //! Sessions in a volume without cubes.
 ghost use Rattle.std.specs.Prelude.{◌<◌};
 
-use crate::hosts::{formatted, session, words_of};
+use crate::hosts::{formatted, session, status_of};
 use disk_mem::{MemHost, MuteHost};
 use ice_base::{Disk, Status};
-use ice_run::run;
 use std::alloc::Global;
 use std::process::Abort;
 use std::test::Fail;
@@ -81,9 +80,8 @@ fn what_is_no_volume_is_refused(rt: HostRuntime) -> Result<(), Fail> {
     assert_eq!(rt; none.calls(), 0);
     for at in [1, 11, 18] {
         let mut host = formatted(alloc)?;
-        if at < host.blocks() && host.calls() == 0 {
-            host.set_block(at, &[1; 1024]);
-        }
+        assert!(rt; at < host.blocks() && host.calls() == 0);
+        host.set_block(at, &[1; 1024]);
         assert_eq!(rt;
             session(alloc, &mut host, b"cubes\n")?,
             Status::Volume,
@@ -157,15 +155,17 @@ fn each_crash_of_a_session_leaves_a_volume(rt: HostRuntime) -> Result<(), Fail> 
 #[test]
 fn a_host_that_tells_nothing_is_served_too(rt: HostRuntime) -> Result<(), Fail> {
     let alloc = rt.alloc();
-    let words = words_of(alloc, &["run", "img"])?;
     let mut image = formatted(alloc)?;
     image.set_script(b"cubes\n")?;
     let mut mute = MuteHost { host: image };
-    assert_eq!(rt; run(alloc, &words, &mut mute), Status::Done);
+    assert_eq!(rt; status_of(alloc, &["run", "img"], &mut mute)?, Status::Done);
     assert_eq!(rt; mute.host.output(), b"ok 0\n".as_slice());
     let mut garbage = MuteHost {
         host: MemHost::new(alloc, 100)?,
     };
-    assert_eq!(rt; run(alloc, &words, &mut garbage), Status::Volume);
+    assert_eq!(rt;
+        status_of(alloc, &["run", "img"], &mut garbage)?,
+        Status::Volume
+    );
     Ok(())
 }

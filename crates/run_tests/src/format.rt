@@ -1,9 +1,9 @@
 //! Making an image.
-use crate::hosts::words_of;
+use crate::hosts::{status_of, words_of};
 use disk_file::FileHost;
 use disk_mem::MemHost;
 use ice_base::{Disk, ImageFault, Status, Words};
-use ice_run::{image_of, run};
+use ice_run::image_of;
 use std::fs;
 use std::test::Fail;
 
@@ -16,10 +16,9 @@ const START: [u8; 20] = [
 #[test]
 fn a_disk_of_1312_blocks_gets_the_image_and_one_of_1311_stays(rt: HostRuntime) -> Result<(), Fail> {
     let alloc = rt.alloc();
-    let words = words_of(alloc, &FORMAT)?;
     let mut host = MemHost::new(alloc, 1312)?;
     host.reserve(40, 0)?;
-    assert_eq!(rt; run(alloc, &words, &mut host), Status::Done);
+    assert_eq!(rt; status_of(alloc, &FORMAT, &mut host)?, Status::Done);
     assert_eq!(rt; host.writes(), 32);
     assert_eq!(rt; host.barriers(), 1);
     assert_eq!(rt; host.calls(), 33);
@@ -29,7 +28,7 @@ fn a_disk_of_1312_blocks_gets_the_image_and_one_of_1311_stays(rt: HostRuntime) -
     assert_eq!(rt; first[..20], START[..]);
     assert!(rt; first[20..].iter().all(|byte| *byte == 0));
     let mut small = MemHost::new(alloc, 1311)?;
-    assert_eq!(rt; run(alloc, &words, &mut small), Status::Small);
+    assert_eq!(rt; status_of(alloc, &FORMAT, &mut small)?, Status::Small);
     assert_eq!(rt; small.calls(), 0);
     Ok(())
 }
@@ -37,9 +36,8 @@ fn a_disk_of_1312_blocks_gets_the_image_and_one_of_1311_stays(rt: HostRuntime) -
 #[test]
 fn a_file_of_1312_blocks_gets_the_image_and_one_of_1311_stays(rt: HostRuntime) -> Result<(), Fail> {
     let alloc = rt.alloc();
-    let words = words_of(alloc, &FORMAT)?;
     let mut host = FileHost::attach(&rt, "img", 1312)?;
-    assert_eq!(rt; run(alloc, &words, &mut host), Status::Done);
+    assert_eq!(rt; status_of(alloc, &FORMAT, &mut host)?, Status::Done);
     let mut block = [7; 1024];
     assert_eq!(rt; host.blocks(), 1312);
     host.read(0, &mut block)?;
@@ -47,7 +45,7 @@ fn a_file_of_1312_blocks_gets_the_image_and_one_of_1311_stays(rt: HostRuntime) -
     host.read(31, &mut block)?;
     assert!(rt; block.iter().all(|byte| *byte == 0));
     let mut small = FileHost::attach(&rt, "small", 1311)?;
-    assert_eq!(rt; run(alloc, &words, &mut small), Status::Small);
+    assert_eq!(rt; status_of(alloc, &FORMAT, &mut small)?, Status::Small);
     fs::remove_file(&rt, "img")?;
     fs::remove_file(&rt, "small")?;
     Ok(())
@@ -56,12 +54,15 @@ fn a_file_of_1312_blocks_gets_the_image_and_one_of_1311_stays(rt: HostRuntime) -
 #[test]
 fn a_failing_call_of_the_disk_ends_format_with_disk(rt: HostRuntime) -> Result<(), Fail> {
     let alloc = rt.alloc();
-    let words = words_of(alloc, &FORMAT)?;
     for call in [0, 7, 31, 32] {
         let mut host = MemHost::new(alloc, 1312)?;
         host.reserve(40, 0)?;
         host.fail_at(call)?;
-        assert_eq!(rt; run(alloc, &words, &mut host), Status::Disk, "call {call}");
+        assert_eq!(rt;
+            status_of(alloc, &FORMAT, &mut host)?,
+            Status::Disk,
+            "call {call}"
+        );
         assert_eq!(rt; host.calls(), call.saturating_add(1));
     }
     Ok(())
@@ -87,10 +88,14 @@ fn words_that_are_no_form_are_usage(rt: HostRuntime) -> Result<(), Fail> {
         &["fly", "img"],
     ];
     for texts in wrong {
-        let words = words_of(alloc, texts)?;
         let mut host = MemHost::new(alloc, 1)?;
-        assert_eq!(rt; run(alloc, &words, &mut host), Status::Usage, "{texts:?}");
+        assert_eq!(rt;
+            status_of(alloc, texts, &mut host)?,
+            Status::Usage,
+            "{texts:?}"
+        );
         assert_eq!(rt; host.calls(), 0);
+        let words = words_of(alloc, texts)?;
         assert!(rt; is_usage(alloc, &words), "{texts:?}");
     }
     Ok(())

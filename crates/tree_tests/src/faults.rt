@@ -1,0 +1,95 @@
+//! Each call of the disk of one command of each kind fails in turn.
+use crate::damage::sound;
+use cube_lines::reply_to;
+use disk_mem::MemHost;
+use fresh_lots::{BLOCKS, one_group};
+use ice_base::Disk;
+use ice_keep::{ListKeep, ThroughKeep};
+use std::alloc::Global;
+use std::process::Abort;
+use std::str;
+use std::test::Fail;
+use tree_spec::{Refusal, Reply, Room};
+
+/// A command of each kind, all of which are accepted.
+const CHANGES: [&[u8]; 6] = [
+    b"mkdir /a/d/z",
+    b"make /a/z",
+    b"write /a/f 0 797a",
+    b"trunc /a/f 0",
+    b"remove /a/f",
+    b"rename /a/e/x /a/d/x",
+];
+
+const LOOKS: [&[u8]; 3] = [b"read /a/f 0 9", b"list /a/e", b"stat /a/e/x"];
+
+/// The reply through a keep that holds all puts in memory, or through one that writes home at once.
+fn ask(
+    alloc: Global,
+    held: bool,
+    host: &mut MemHost,
+    line: &[u8],
+    room: &mut Room,
+) -> Result<Reply, Fail> {
+    if held {
+        let mut keep = ListKeep::new(alloc, 240)?;
+        return Ok(reply_to(&mut keep, host, &one_group(), line, 1, room));
+    }
+    let mut keep = ThroughKeep::new();
+    Ok(reply_to(&mut keep, host, &one_group(), line, 1, room))
+}
+
+/// Whether all blocks of two hosts are the same.
+fn same_blocks(host: &MemHost, base: &MemHost) -> bool {
+    for at in 0..BLOCKS {
+        if at >= host.blocks() || at >= base.blocks() || host.block(at) != base.block(at) {
+            return false;
+        }
+    }
+    true
+}
+
+/// Each call of a line fails in turn: the reply is Fault, and no call follows. It answers how many calls there are. Where nothing may be
+/// written, each block is as before, so that the tree is the one before.
+fn fail_each(
+    rt: &impl Abort,
+    alloc: Global,
+    base: &MemHost,
+    line: &[u8],
+    held: bool,
+    still: bool,
+) -> Result<u64, Fail> {
+    let mut room = Room::new(alloc)?;
+    let text = str::from_utf8(line)?;
+    for call in 0..1000u64 {
+        let mut host = base.crashed(alloc, base.calls(), 1)?;
+        host.fail_at(call)?;
+        let got = ask(alloc, held, &mut host, line, &mut room)?;
+        if host.calls() <= call {
+            assert!(rt; got.is_ok(), "{text}: {got:?}");
+            return Ok(call);
+        }
+        assert_eq!(rt; got, Err(Refusal::Fault), "call {call} of {text}");
+        assert_eq!(rt; host.calls(), call.saturating_add(1), "of {text}");
+        assert!(rt; !still || same_blocks(&host, base), "call {call} of {text}");
+    }
+    Err(Fail::new("too many calls"))
+}
+
+#[test]
+fn a_failing_call_of_the_disk_is_the_last_one_of_its_command(rt: HostRuntime) -> Result<(), Fail> {
+    let alloc = rt.alloc();
+    let made = sound(&rt, alloc)?;
+    let base = made.crashed(alloc, made.calls(), 1)?;
+    for held in [true, false] {
+        for line in CHANGES {
+            let calls = fail_each(&rt, alloc, &base, line, held, held)?;
+            assert!(rt; calls > 4, "{calls} calls");
+        }
+        for line in LOOKS {
+            let calls = fail_each(&rt, alloc, &base, line, held, true)?;
+            assert!(rt; calls > 2, "{calls} calls");
+        }
+    }
+    Ok(())
+}
