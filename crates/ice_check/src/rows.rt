@@ -1,13 +1,13 @@
 //! The entries of a directory, and the names in them.
-ghost use Rattle.std.specs.Prelude.{◌≡◌, ◌≤◌, ◌<◌, ◌*◌, ℕ, true, List, Some, OnOk, OnErr, IfOk, IfErr, IsErrOf, length};
-ghost use Rattle.ice_base.specs.Disk.{Rose};
+ghost use Rattle.std.specs.Prelude.{◌≡◌, ◌≤◌, ◌<◌, ◌*◌, ℕ, true, List, Some, OnOk, OnErr, IfOk, IfErr, length};
+ghost use Rattle.ice_base.specs.Disk.{Caused};
 ghost use Rattle.ice_base.specs.Lots.{is_sited};
 ghost use Rattle.ice_base.specs.Views.{Looked};
 ghost use Rattle.tree_spec.specs.Costs.{form_one};
 ghost use Rattle.ice_reads.specs.Tables.{Map, IsNameOf};
-ghost use Rattle.ice_rules.specs.Walks.{entry_of, LooksInto};
+ghost use Rattle.ice_rules.specs.Walks.{walk_entry, LooksInto};
 ghost use Rattle.ice_check.specs.Marks.{entry_count, AreRead, AllNew};
-ghost use Rattle.ice_check.specs.Names.{names_of};
+ghost use Rattle.ice_check.specs.Names.{array_names};
 ghost use Rattle.ice_check.specs.Shown.{Shows, IsCheckFault, Broke, told_as};
 ghost use Rattle.ice_check.specs.declared.fault.CheckFault.TheVariants.{Disk as FaultDisk};
 
@@ -47,13 +47,13 @@ pub fn read_entry<D: Disk, V: View<D>>(
     requires sited { is_sited lot.now (D.state disk.old).size ≡ true }
     requires number { number < 64 * length lot.now.groups }
     ensures row { (m : Map) → Shows V.View lot.now view.old disk.old m
-        → IfOk result (λ next. entry_of form_one m number k ≡ Some (name.new, next)) }
+        → IfOk result (λ next. walk_entry form_one m number k ≡ Some (name.new, next)) }
     ensures fits { OnOk result (IsNameOf form_one name.new) }
     ensures broken { (m : Map) (w : List ℕ) → Shows V.View lot.now view.old disk.old m → LooksInto form_one lot.now m w number
         → k < entry_count m number → IfErr result (Broke lot.now m) }
     ensures looked { Looked D.Disk V.View lot.now view.old disk.old view.new disk.new }
     ensures faults { IfErr result IsCheckFault }
-    ensures failed { IsErrOf result FaultDisk → Rose (D.state disk.old).faults (D.state disk.new).faults }
+    ensures failed { Caused D.state FaultDisk result disk.old disk.new }
 {
     match entry::<D, V, FormOne>(view, disk, lot, number, k, name) {
         Ok(next) => {
@@ -78,12 +78,12 @@ fn read_names<D: Disk, V: View<D>>(
     requires room { count ≤ length names.old }
     ensures long { length names.new ≡ length names.old }
     ensures names { (m : Map) → Shows V.View lot.now view.old disk.old m
-        → OnOk result (AreRead m number count (names_of names.new)) }
+        → OnOk result (AreRead m number count (array_names names.new)) }
     ensures broken { (m : Map) (w : List ℕ) → Shows V.View lot.now view.old disk.old m → LooksInto form_one lot.now m w number
         → count ≡ entry_count m number → IfErr result (Broke lot.now m) }
     ensures looked { Looked D.Disk V.View lot.now view.old disk.old view.new disk.new }
     ensures faults { IfErr result IsCheckFault }
-    ensures failed { IsErrOf result FaultDisk → Rose (D.state disk.old).faults (D.state disk.new).faults }
+    ensures failed { Caused D.state FaultDisk result disk.old disk.new }
 {
     let mut name = blank_name();
     for k in 0..count {
@@ -112,7 +112,7 @@ pub fn check_names<D: Disk, V: View<D>>(
         → count ≡ entry_count m number → IfErr result (Broke lot.now m) }
     ensures looked { Looked D.Disk V.View lot.now view.old disk.old view.new disk.new }
     ensures faults { IfErr result IsCheckFault }
-    ensures failed { IsErrOf result FaultDisk → Rose (D.state disk.old).faults (D.state disk.new).faults }
+    ensures failed { Caused D.state FaultDisk result disk.old disk.new }
 {
     read_names(view, disk, lot, number, count, names)?;
     if !names_differ(&mut names[..count as usize]) {

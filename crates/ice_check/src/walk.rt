@@ -1,6 +1,6 @@
 //! The walk over the inodes of a lot: what it comes to gets marks.
-ghost use Rattle.std.specs.Prelude.{◌≡◌, ℕ, ◌+◌, ◌*◌, ◌<◌, ◌≤◌, Bool, true, false, List, [], ◌∷◌, ◌++◌, length, IfOk, IfErr, IfNone, IfSome, OnOk, IsErrOf};
-ghost use Rattle.ice_base.specs.Disk.{Rose};
+ghost use Rattle.std.specs.Prelude.{◌≡◌, ℕ, ◌+◌, ◌*◌, ◌<◌, ◌≤◌, Bool, true, false, List, [], ◌∷◌, ◌++◌, length, IfOk, IfErr, IfNone, IfSome, OnOk};
+ghost use Rattle.ice_base.specs.Disk.{Caused};
 ghost use Rattle.ice_base.specs.Lots.{is_sited};
 ghost use Rattle.ice_base.specs.Used.{used_inode};
 ghost use Rattle.ice_base.specs.Views.{Looked};
@@ -8,7 +8,7 @@ ghost use Rattle.tree_spec.specs.Costs.{form_one};
 ghost use Rattle.ice_reads.specs.Tables.{Map, rows_in};
 ghost use Rattle.ice_map.specs.Own.{own};
 ghost use Rattle.ice_rules.specs.Walks.{WalksTo, LooksInto, IsSound, IsOpen, IsNamable};
-ghost use Rattle.ice_check.specs.Marks.{entry_count, Marked, Checked, CheckedRows, AllNew, IsGood, IsAt, SeenBefore, SeenWithin};
+ghost use Rattle.ice_check.specs.Marks.{entry_count, GotMarks, Checked, CheckedRows, AllNew, IsGood, IsAt, SeenBefore, SeenWithin};
 ghost use Rattle.ice_check.specs.Shown.{Shows, IsCheckFault, Broke};
 ghost use Rattle.ice_check.specs.declared.fault.CheckFault.TheVariants.{Disk as FaultDisk};
 
@@ -37,7 +37,7 @@ fn visit<D: Disk, V: View<D>>(
     ensures sound { (m : Map) → Shows V.View lot.now view.old disk.old m → used_inode m number ≡ true
         → OnOk result (IsSound form_one lot.now m number) }
     ensures marks { (m : Map) → Shows V.View lot.now view.old disk.old m
-        → OnOk result (Marked blocks.old blocks.new (own form_one m number).uses) }
+        → OnOk result (GotMarks blocks.old blocks.new (own form_one m number).uses) }
     ensures file { (m : Map) → Shows V.View lot.now view.old disk.old m
         → IfOk result (λ o. IfNone o ((own form_one m number).inode.kind ≡ 1)) }
     ensures dir { (m : Map) → Shows V.View lot.now view.old disk.old m
@@ -48,7 +48,7 @@ fn visit<D: Disk, V: View<D>>(
         → SeenBefore form_one lot.now m w inodes blocks.old → IfErr result (Broke lot.now m) }
     ensures looked { Looked D.Disk V.View lot.now view.old disk.old view.new disk.new }
     ensures faults { IfErr result IsCheckFault }
-    ensures failed { IsErrOf result FaultDisk → Rose (D.state disk.old).faults (D.state disk.new).faults }
+    ensures failed { Caused D.state FaultDisk result disk.old disk.new }
 {
     let mut pointers = [0; 1024];
     let inode = look(view, disk, lot, number, &mut pointers)?;
@@ -88,7 +88,7 @@ fn next_inode<D: Disk, V: View<D>>(
         → k < entry_count m number → IfErr result (Broke lot.now m) }
     ensures looked { Looked D.Disk V.View lot.now view.old disk.old view.new disk.new }
     ensures faults { IfErr result IsCheckFault }
-    ensures failed { IsErrOf result FaultDisk → Rose (D.state disk.old).faults (D.state disk.new).faults }
+    ensures failed { Caused D.state FaultDisk result disk.old disk.new }
 {
     let mut name = blank_name();
     let next = read_entry(view, disk, lot, number, k, &mut name)?;
@@ -129,7 +129,7 @@ pub fn check_inode<D: Disk, V: View<D>>(
         → OnOk result (SeenWithin form_one lot.now m w inodes.new blocks.new) }
     ensures looked { Looked D.Disk V.View lot.now view.old disk.old view.new disk.new }
     ensures faults { IfErr result IsCheckFault }
-    ensures failed { IsErrOf result FaultDisk → Rose (D.state disk.old).faults (D.state disk.new).faults }
+    ensures failed { Caused D.state FaultDisk result disk.old disk.new }
 {
     let used = is_used(view, disk, lot, number)?;
     if !used {
@@ -184,7 +184,7 @@ fn check_rows<D: Disk, V: View<D>>(
         → OnOk result (SeenWithin form_one lot.now m w inodes.new blocks.new) }
     ensures looked { Looked D.Disk V.View lot.now view.old disk.old view.new disk.new }
     ensures faults { IfErr result IsCheckFault }
-    ensures failed { IsErrOf result FaultDisk → Rose (D.state disk.old).faults (D.state disk.new).faults }
+    ensures failed { Caused D.state FaultDisk result disk.old disk.new }
 {
     check_names(view, disk, lot, number, count, names)?;
     for k in 0..count {

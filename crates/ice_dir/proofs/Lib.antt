@@ -1,7 +1,7 @@
-pub mod SizeLaws
-pub mod RowLaws
+mod SizeLaws
+mod RowLaws
 pub mod DirLaws
-pub mod SetLaws
+mod SetLaws
 pub mod PutLaws
-pub mod TakeLaws
-pub mod FaultLaws
+mod TakeLaws
+mod FaultLaws

@@ -11,12 +11,12 @@ use Rattle.ice_base.specs.Lots.{LotView}
 use Rattle.ice_map.specs.declared.codec.Inode.{Inode}
 use Rattle.ice_map.specs.Inodes.{inode_of, InodeSet}
 use Rattle.ice_map.specs.Own.{entry_size, MadeOf, WellMade, map_length, blocks_for}
-use Rattle.ice_map.specs.Moves.{Moved, Reached, content_of}
+use Rattle.ice_map.specs.Moves.{Moved, HadBlock, content_of}
 use Rattle.ice_map.proofs.MoveLaws.{moved-then, put-moved, put-others, put-here}
 use Rattle.ice_map.proofs.OwnLaws.{made-short}
 use Rattle.tree_spec.specs.Costs.{Form, form_one}
-use Rattle.ice_dir.specs.Changes.{blocks_sized, dir_blocks, RowPut, DirSet, TextAdded, TextTaken}
-use Rattle.ice_dir.specs.Rows.{Row, entries_in, place_of, row_bytes, row_in, row_sized, entry_bytes, texts_of, rows_of, IsText, IsDirectory}
+use Rattle.ice_dir.specs.Changes.{blocks_sized, entry_blocks, RowPut, DirSet, TextAdded, TextTaken}
+use Rattle.ice_dir.specs.Rows.{DirRow, entries_in, place_of, row_bytes, row_in, row_sized, entry_bytes, texts_of, dir_rows_of, IsText, IsDirectory}
 use Rattle.ice_dir.proofs.DirLaws.{map-same, rows-sized}
 use Rattle.ice_dir.proofs.RowLaws.{bytes-same}
 use Rattle.ice_map.proofs.SetLaws.{resized, own-set}
@@ -36,7 +36,7 @@ sized-sixteenth entry size e =
     rw e q
 
 -- the blocks of a directory
-pub dir-sixteenth : (f : Form) (size : ℕ) → f ≡ form_one → dir_blocks f size ≡ (size + 15) / 16
+pub dir-sixteenth : (f : Form) (size : ℕ) → f ≡ form_one → entry_blocks f size ≡ (size + 15) / 16
 dir-sixteenth f size e = sized-sixteenth (entry_size f) size (ap entry_size e)
 
 pub row-inside : (entry size j : ℕ) → entry ≡ 64 → j < size → j / entries_in entry < blocks_sized entry size
@@ -77,7 +77,7 @@ pub place-fits : (entry k : ℕ) → entry ≡ 64 → place_of entry k + entry �
 place-fits entry k e = rw e (let b = mod_below k 16 (omega arith) in omega (arith, b))
 
 -- a block of a map was put, in which one row was written
-module _ (lot : LotView) (entry : ℕ) (m0 m1 m2 : ℕ → List ℕ) (x y : Inode) (c d k at : ℕ) (old new bytes : List ℕ) (sixty : entry ≡ 64) (reached : Reached lot m0 m1 x y c (k / entries_in entry) at) (few : length lot.groups ≤ 64)
+module _ (lot : LotView) (entry : ℕ) (m0 m1 m2 : ℕ → List ℕ) (x y : Inode) (c d k at : ℕ) (old new bytes : List ℕ) (sixty : entry ≡ 64) (reached : HadBlock lot m0 m1 x y c (k / entries_in entry) at) (few : length lot.groups ≤ 64)
     (wide : max c (k / entries_in entry + 1) ≡ d) (had : k / entries_in entry < c → old ≡ content_of m0 x (k / entries_in entry)) (long : length old ≡ 1024) (now_long : length new ≡ 1024) (beside : SameBeside (place_of entry k) entry old new)
     (here : row_bytes entry new (place_of entry k) ≡ bytes) (put : m2 at ≡ new) (only : (b : ℕ) → b ≢ at → m2 b ≡ m1 b) where
   moved-one : Moved lot m0 m1 x y c d
@@ -143,20 +143,20 @@ module _ (lot : LotView) (f : Form) (entry : ℕ) (m0 m1 m2 : ℕ → List ℕ) 
       ∙ ap (λ (i : Inode). map (entry_bytes entry m0 i) (range_with_len 0 i.size) ++ bytes ∷ []) (sym before)
       ∙ ap (λ texts. texts ++ bytes ∷ []) (sym (texts-sized f entry m0 number same))
 
-  pub rows-added : (row : Row) → row_in bytes ≡ row → x.kind ≡ 2 → z.kind ≡ 2 → rows_of f m2 number ≡ rows_of f m0 number ++ row ∷ []
+  pub rows-added : (row : DirRow) → row_in bytes ≡ row → x.kind ≡ 2 → z.kind ≡ 2 → dir_rows_of f m2 number ≡ dir_rows_of f m0 number ++ row ∷ []
   rows-added row reads kx kz =
       rows-sized f entry m2 number one same (ap (λ (i : Inode). i.kind) after ∙ kz)
       ∙ ap (λ (i : Inode). map (row_sized entry m2 i) (range_with_len 0 i.size)) after
       ∙ ap (λ n. map (row_sized entry m2 z) (range_with_len 0 n)) more
       ∙ one-listed (row_sized entry m2 z) (row_sized entry m0 x) row x.size (λ j h. ap row_in (entry-had j h)) (ap row_in (entry-now x.size (omega arith) ∙ put.here) ∙ reads)
-      ∙ ap (λ (rs : List Row). rs ++ row ∷ []) (ap (λ (i : Inode). map (row_sized entry m0 i) (range_with_len 0 i.size)) (sym before)
+      ∙ ap (λ (rs : List DirRow). rs ++ row ∷ []) (ap (λ (i : Inode). map (row_sized entry m0 i) (range_with_len 0 i.size)) (sym before)
       ∙ sym (rows-sized f entry m0 number one same (ap (λ (i : Inode). i.kind) before ∙ kx)))
 
 dir-map : (f : Form) (entry : ℕ) (x : Inode) → entry_size f ≡ entry → x.kind ≡ 2 → map_length f x ≡ blocks_sized entry x.size
 dir-map f entry x same k = ap (λ n. blocks_for (cond (n == 2) (entry_size f * x.size) x.size)) k ∙ ap (λ n. blocks_sized n x.size) same
 
 -- a directory to which a row was added and which was then put
-module _ (lot : LotView) (f : Form) (entry : ℕ) (m0 m1 m2 : ℕ → List ℕ) (x y : Inode) (number : ℕ) (row : Row) (bytes : List ℕ) (one : f ≡ form_one) (same : entry_size f ≡ entry) (e : entry ≡ 64) (is : IsDirectory lot x) (room : x.size + 1 < 64 * length lot.groups) (before : inode_of m0 number ≡ x)
+module _ (lot : LotView) (f : Form) (entry : ℕ) (m0 m1 m2 : ℕ → List ℕ) (x y : Inode) (number : ℕ) (row : DirRow) (bytes : List ℕ) (one : f ≡ form_one) (same : entry_size f ≡ entry) (e : entry ≡ 64) (is : IsDirectory lot x) (room : x.size + 1 < 64 * length lot.groups) (before : inode_of m0 number ≡ x)
     (put : RowPut lot entry m0 m1 x y (blocks_sized entry x.size) (blocks_sized entry (x.size + 1)) x.size bytes) (text : IsText row bytes) (set : InodeSet m1 m2 number (resized y (y.size + 1)))
     (only : (b : ℕ) → b ≢ inode_address number → m2 b ≡ m1 b) where
   kind-put : y.kind ≡ 2
@@ -171,7 +171,7 @@ module _ (lot : LotView) (f : Form) (entry : ℕ) (m0 m1 m2 : ℕ → List ℕ) 
   pub text-added : TextAdded f m0 m2 number row
   text-added = (bytes, text, texts-added lot f entry m0 m1 m2 x y (resized y (y.size + 1)) number bytes one same e put before set.value size-put content-put)
 
-  pub dir-added : DirSet lot f m0 m2 number (rows_of f m0 number ++ row ∷ [])
+  pub dir-added : DirSet lot f m0 m2 number (dir_rows_of f m0 number ++ row ∷ [])
   dir-added = record {
     rows = rows-added lot f entry m0 m1 m2 x y (resized y (y.size + 1)) number bytes one same e put before set.value size-put content-put row text.reads is.kind kind-put;
     is = rw set.value (record { kind = kind-put; few = let s = size-put in omega arith });
@@ -244,18 +244,18 @@ module _ (lot : LotView) (f : Form) (entry : ℕ) (m0 m1 m2 m3 : ℕ → List �
       ∙ ap (λ (i : Inode). swap_remove (map (entry_bytes entry m0 i) (range_with_len 0 i.size)) k []) (sym before)
       ∙ ap (λ texts. swap_remove texts k []) (sym (texts-sized f entry m0 number same))
 
-  pub dir-taken : DirSet lot f m0 m3 number (swap_remove (rows_of f m0 number) k ([], 0))
+  pub dir-taken : DirSet lot f m0 m3 number (swap_remove (dir_rows_of f m0 number) k ([], 0))
   dir-taken =
       let few = is.few in
       let all = moved-then lot m0 m1 m2 x x y (blocks_sized entry x.size) (blocks_sized entry x.size) (blocks_sized entry (x.size - 1)) put.moved moved in
       let k0 : (inode_of m0 number).kind ≡ 2 = ap (λ (i : Inode). i.kind) before ∙ is.kind in
-      let now : rows_of f m3 number ≡ map (row_sized entry m3 (resized y (x.size - 1))) (range_with_len 0 (x.size - 1)) =
+      let now : dir_rows_of f m3 number ≡ map (row_sized entry m3 (resized y (x.size - 1))) (range_with_len 0 (x.size - 1)) =
       rows-sized f entry m3 number one same (ap (λ (i : Inode). i.kind) set.value ∙ kind-left) ∙ ap (λ (i : Inode). map (row_sized entry m3 i) (range_with_len 0 i.size)) set.value in
-      let old : rows_of f m0 number ≡ map (row_sized entry m0 x) (range_with_len 0 x.size) = rows-sized f entry m0 number one same k0 ∙ ap (λ (i : Inode). map (row_sized entry m0 i) (range_with_len 0 i.size)) before in
+      let old : dir_rows_of f m0 number ≡ map (row_sized entry m0 x) (range_with_len 0 x.size) = rows-sized f entry m0 number one same k0 ∙ ap (λ (i : Inode). map (row_sized entry m0 i) (range_with_len 0 i.size)) before in
       record {
         rows = now ∙ map-same (row_sized entry m3 (resized y (x.size - 1))) (row_sized entry m1 x) 0 (x.size - 1) (λ j l h. ap row_in (entry-left j (omega arith)))
             ∙ swapped ([], 0) (row_sized entry m0 x) (row_sized entry m1 x) x.size k below (ap row_in put.here) (λ j h ne. ap row_in (entry-other j h ne))
-            ∙ ap (λ (rs : List Row). swap_remove rs k ([], 0)) (sym old);
+            ∙ ap (λ (rs : List DirRow). swap_remove rs k ([], 0)) (sym old);
         is = rw set.value (record { kind = kind-left; few = omega arith });
         set = own-set lot m0 m2 m3 x y (blocks_sized entry x.size) (blocks_sized entry (x.size - 1)) (x.size - 1) f one number before (dir-map f entry x same is.kind) all set (dir-map f entry (resized y (x.size - 1)) same kind-left) only;
       }

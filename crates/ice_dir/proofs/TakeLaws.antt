@@ -18,15 +18,15 @@ use Rattle.ice_map.proofs.MarkLaws.{data_not_bitmap, data_not_sub, used-same, fr
 use Rattle.ice_map.proofs.MapLaws.{nth-direct, leads-direct, leads-single, leads-lost}
 use Rattle.ice_map.proofs.UsesLaws.{cut-same, off-free, off-has, times-has}
 use Rattle.ice_map.specs.Own.{entry_size, MadeOf, Confuses}
-use Rattle.ice_map.specs.Moves.{Moved, Reached, content_of, uses_of}
+use Rattle.ice_map.specs.Moves.{Moved, HadBlock, content_of, uses_of}
 use Rattle.ice_map.proofs.ShrinkLaws.{cut-moved, cut-contents}
 use Rattle.ice_map.proofs.GrowthLaws.{Unmixed, unmixed-one, misled-here}
 use Rattle.ice_map.proofs.MoveLaws.{had-reached}
 use Rattle.ice_map.proofs.OwnLaws.{uses-nth, nth-moves}
 use Rattle.ice_map.proofs.SetLaws.{resized, nth-resized}
 use Rattle.tree_spec.specs.Costs.{Form, form_one}
-use Rattle.ice_dir.specs.Changes.{blocks_sized, dir_blocks, RowPut, DirSet, TextTaken, EntryGone}
-use Rattle.ice_dir.specs.Rows.{Row, entries_in, per_block, place_of, row_bytes, entry_bytes, row_sized, rows_of, named, FirstNamed, IsDirectory}
+use Rattle.ice_dir.specs.Changes.{blocks_sized, entry_blocks, RowPut, DirSet, TextTaken, EntryGone}
+use Rattle.ice_dir.specs.Rows.{DirRow, entries_in, per_block, place_of, row_bytes, entry_bytes, row_sized, dir_rows_of, named, FirstNamed, IsDirectory}
 use Rattle.ice_dir.proofs.DirLaws.{position-found, rows-read}
 use Rattle.ice_dir.proofs.PutLaws.{in-sixteen, sized-sixteenth, row-inside, row-put, dir-taken, text-taken}
 
@@ -50,7 +50,7 @@ row-moved lot entry m0 ma mb m2 x k per at p q from old new e made few h pe ea e
     let at0 : at ≡ nth_block m0 x (k / entries_in entry) = ae ∙ ap (λ (m : ℕ → List ℕ). nth_block m x (k / per)) ea ∙ ap (λ n. nth_block m0 x (k / n)) pe in
     let old0 : old ≡ content_of m0 x (k / entries_in entry) = oe ∙ ap (λ (m : ℕ → List ℕ). content_of m x (k / per)) ea ∙ ap (λ n. content_of m0 x (k / n)) pe in
     let r = had-reached lot m0 x (blocks_sized entry x.size) (k / entries_in entry) at made inside at0 in
-    let r' = subst (λ (m : ℕ → List ℕ). Reached lot m0 m x x (blocks_sized entry x.size) (k / entries_in entry) at) (sym (eb ∙ ea)) r in
+    let r' = subst (λ (m : ℕ → List ℕ). HadBlock lot m0 m x x (blocks_sized entry x.size) (k / entries_in entry) at) (sym (eb ∙ ea)) r in
     row-put lot entry m0 mb m2 x x (blocks_sized entry x.size) (blocks_sized entry x.size) k at old new (entry_bytes entry m0 x (x.size - 1)) e r' few (omega arith) (λ l. old0) lo ln (subst (λ n. SameBeside n entry old new) pp beside)
     (ap (row_bytes entry new) (sym pp) ∙ copied ∙ ap (row_bytes entry from) qq ∙ ap (λ (b : List ℕ). row_bytes entry b (place_of entry (x.size - 1))) (fe ∙ ap (λ n. content_of m0 x ((x.size - 1) / n)) pe))
     put only
@@ -88,7 +88,7 @@ module _ (lot : LotView) (f : Form) (entry : ℕ) (m0 m1 m2 m3 : ℕ → List �
   contents' : (n : ℕ) → n < blocks_sized entry (x.size - 1) → content_of m2 y n ≡ content_of m1 x n
   contents' = cut-contents lot m1 m2 x y (blocks_sized entry x.size) (blocks_sized entry (x.size - 1)) put.moved.made order was' stay fields'
 
-  pub dir-removed : DirSet lot f m0 m3 number (swap_remove (rows_of f m0 number) k ([], 0))
+  pub dir-removed : DirSet lot f m0 m3 number (swap_remove (dir_rows_of f m0 number) k ([], 0))
   dir-removed = dir-taken lot f entry m0 m1 m2 m3 x y number k one same e is below before put moved' contents' set only
 
   pub text-removed : TextTaken f m0 m3 number k
@@ -96,9 +96,9 @@ module _ (lot : LotView) (f : Form) (entry : ℕ) (m0 m1 m2 m3 : ℕ → List �
 
 -- row k is the one of a name
 pub row-named : (f : Form) (entry : ℕ) (m m' : ℕ → List ℕ) (number : ℕ) (x : Inode) (name : List ℕ) (k : ℕ) → f ≡ form_one → entry_size f ≡ entry → x ≡ inode_of m number → x.kind ≡ 2 → m' ≡ m → FirstNamed (row_sized entry m' x) name 0 x.size k
-    → position_or_len (named name) (rows_of f m number) ≡ k
+    → position_or_len (named name) (dir_rows_of f m number) ≡ k
 row-named f entry m m' number x name k one same is kind looked found =
-    ap (λ (rs : List Row). position_or_len (named name) rs) (rows-read f entry m m' number x one same is kind looked) ∙ position-found (row_sized entry m' x) name x.size k found
+    ap (λ (rs : List DirRow). position_or_len (named name) rs) (rows-read f entry m m' number x one same is kind looked) ∙ position-found (row_sized entry m' x) name x.size k found
 
 -- how many blocks a directory gives back that loses one row
 pub off-length : (entry : ℕ) (m : ℕ → List ℕ) (x : Inode) (count rest : ℕ) → entry ≡ 64 → count ≡ blocks_sized entry x.size → rest ≡ blocks_sized entry (x.size - 1) → uses_of count ≡ uses_of rest + length (cut_off m x count rest)
@@ -193,7 +193,7 @@ short-lost lot m1 m2 m3 x y rest s n h fields same stays lost =
 
 -- a directory from which an entry was taken, whatever its blocks held
 module _ (lot : LotView) (f : Form) (m0 m1 m2 m3 : ℕ → List ℕ) (x y : Inode) (number k count rest : ℕ) (one : f ≡ form_one) (few : length lot.groups ≤ 64) (is : IsDirectory lot x) (below : k < x.size) (before : inode_of m0 number ≡ x)
-    (beside : (b : ℕ) → is_data lot b ≡ false → m1 b ≡ m0 b) (c : count ≡ dir_blocks f x.size) (r : rest ≡ dir_blocks f (x.size - 1)) (was : Cut lot m1 m2 x y count rest) (stay : Stays lot m1 m2 [])
+    (beside : (b : ℕ) → is_data lot b ≡ false → m1 b ≡ m0 b) (c : count ≡ entry_blocks f x.size) (r : rest ≡ entry_blocks f (x.size - 1)) (was : Cut lot m1 m2 x y count rest) (stay : Stays lot m1 m2 [])
     (placed : (b : ℕ) → has (cut_off m1 x count rest) b ≡ true → is_data lot b ≡ true) (fields : y ≡ shortened x rest) (set : InodeSet m2 m3 number (resized y (x.size - 1))) (only : (b : ℕ) → b ≢ inode_address number → m3 b ≡ m2 b) where
   gone-bitmaps : (o : ℕ) → m3 (256 * o) ≡ m2 (256 * o)
   gone-bitmaps o = only (256 * o) (λ e. inode_not_bitmap number o (sym e))
@@ -221,7 +221,7 @@ module _ (lot : LotView) (f : Form) (m0 m1 m2 m3 : ℕ → List ℕ) (x y : Inod
   gone-lacks b d = elim (has (cut_off m1 x count rest) b) as (λ t. has (cut_off m1 x count rest) b ≡ t → t ≡ false) [ true ↦ λ t. let p = placed b t in absurd cc | false ↦ λ t. refl ] refl
 
   abbrev mine : List ℕ
-  mine = uses m0 x (dir_blocks f x.size)
+  mine = uses m0 x (entry_blocks f x.size)
 
   module _ (within : (b : ℕ) → b ≢ nth_block m0 x (k / per_block f) → m1 b ≡ m0 b) (cut_only : (b : ℕ) → is_data lot b ≡ true → m2 b ≡ m1 b) where
     stays : (b : ℕ) → is_data lot b ≡ true → m3 b ≡ m2 b
@@ -230,7 +230,7 @@ module _ (lot : LotView) (f : Form) (m0 m1 m2 m3 : ℕ → List ℕ) (x y : Inod
     gone-blocks : (b : ℕ) → is_data lot b ≡ true → has mine b ≡ false → m3 b ≡ m0 b
     gone-blocks b d none =
         stays b d ∙ cut_only b d
-        ∙ within b (λ e. let h = uses-nth m0 x (dir_blocks f x.size) (k / per_block f) (row-inside (entry_size f) x.size k (ap entry_size one) below) in let f = ap (has mine) e in absurd cc)
+        ∙ within b (λ e. let h = uses-nth m0 x (entry_blocks f x.size) (k / per_block f) (row-inside (entry_size f) x.size k (ap entry_size one) below) in let f = ap (has mine) e in absurd cc)
 
     gone-marks : (b : ℕ) → used_block m3 b ≡ false → (used_block m0 b ≡ false) ⊎ (has mine b ≡ true) ⊎ HasTwice mine
     gone-marks b free =
@@ -248,7 +248,7 @@ module _ (lot : LotView) (f : Form) (m0 m1 m2 m3 : ℕ → List ℕ) (x y : Inod
         given : (12 < count → m1 x.single ≡ m0 x.single) → has (cut_off m1 x count rest) b ≡ true → has mine b ≡ true
         given kept t = subst (λ n. has (uses m0 x n) b ≡ true) c (off-has m0 x count rest order b (ap (λ xs. has xs b) (sym (cut-same m0 m1 x count rest kept)) ∙ t))
 
-    gone-leads : Misleads lot m3 (resized y (x.size - 1)) rest → Confuses lot m0 x (dir_blocks f x.size)
+    gone-leads : Misleads lot m3 (resized y (x.size - 1)) rest → Confuses lot m0 x (entry_blocks f x.size)
     gone-leads bad =
         row-misled lot (entry_size f) m0 m1 x k count (ap entry_size one) below within c
         (record { block = bad.block; below = let o = blocks-fall (entry_size f) x.size (ap entry_size one) in let l = bad.below in omega arith; bad = short-lost lot m1 m2 m3 x y rest (x.size - 1) bad.block bad.below fields was.blocks stays bad.bad })
@@ -258,13 +258,13 @@ module _ (lot : LotView) (f : Form) (m0 m1 m2 m3 : ℕ → List ℕ) (x y : Inod
       kind = ap (λ (i : Inode). i.kind) (set.value ∙ ap (λ (i : Inode). resized i (x.size - 1)) fields) ∙ is.kind;
       size = let a = ap (λ (i : Inode). i.size) set.value in let b = ap (λ (i : Inode). i.size) before in omega arith;
       others = λ n ne. set.others n ne ∙ stay.inodes n ∙ beside-inode lot m0 m1 beside n;
-      free = let a = ap (λ (i : Inode). uses_of (dir_blocks f i.size)) set.value ∙ ap uses_of (sym r) in let b = ap (λ (i : Inode). uses_of (dir_blocks f i.size)) before ∙ ap uses_of (sym c) in let f = gone-free in omega arith;
-      counts = let a = ap (λ (i : Inode). uses_of (dir_blocks f i.size)) set.value ∙ ap uses_of (sym r) in let b = ap (λ (i : Inode). uses_of (dir_blocks f i.size)) before ∙ ap uses_of (sym c) in let f = gone-counts in omega arith;
+      free = let a = ap (λ (i : Inode). uses_of (entry_blocks f i.size)) set.value ∙ ap uses_of (sym r) in let b = ap (λ (i : Inode). uses_of (entry_blocks f i.size)) before ∙ ap uses_of (sym c) in let f = gone-free in omega arith;
+      counts = let a = ap (λ (i : Inode). uses_of (entry_blocks f i.size)) set.value ∙ ap uses_of (sym r) in let b = ap (λ (i : Inode). uses_of (entry_blocks f i.size)) before ∙ ap uses_of (sym c) in let f = gone-counts in omega arith;
       sub = λ n h. ap (λ (b : List ℕ). slice_index b n) gone-sub ∙ was.gave.counts.others n h ∙ ap (λ (b : List ℕ). slice_index b n) (beside-sub lot m0 m1 beside few);
       places = λ b d. used-same false m2 m3 b gone-bitmaps ∙ was.gave.used b ∙ ap (λ t. cond t false (used_block m1 b)) (gone-lacks b d) ∙ used-same false m0 m1 b (beside-bitmaps lot m0 m1 beside);
       inodes = λ i. used-same true m2 m3 i gone-bitmaps ∙ was.gave.inodes i ∙ used-same true m0 m1 i (beside-bitmaps lot m0 m1 beside);
-      blocks = λ b d none. gone-blocks b d (subst (λ (i : Inode). has (uses m0 i (dir_blocks f i.size)) b ≡ false) before none);
-      marks = λ b free. subst (λ (i : Inode). (used_block m0 b ≡ false) ⊎ (has (uses m0 i (dir_blocks f i.size)) b ≡ true) ⊎ HasTwice (uses m0 i (dir_blocks f i.size))) (sym before) (gone-marks b free);
-      leads = λ bad. subst (λ (i : Inode). Confuses lot m0 i (dir_blocks f i.size)) (sym before)
-          (gone-leads (subst (λ n. Misleads lot m3 (resized y (x.size - 1)) n) (sym r) (subst (λ (i : Inode). Misleads lot m3 i (dir_blocks f i.size)) set.value bad)));
+      blocks = λ b d none. gone-blocks b d (subst (λ (i : Inode). has (uses m0 i (entry_blocks f i.size)) b ≡ false) before none);
+      marks = λ b free. subst (λ (i : Inode). (used_block m0 b ≡ false) ⊎ (has (uses m0 i (entry_blocks f i.size)) b ≡ true) ⊎ HasTwice (uses m0 i (entry_blocks f i.size))) (sym before) (gone-marks b free);
+      leads = λ bad. subst (λ (i : Inode). Confuses lot m0 i (entry_blocks f i.size)) (sym before)
+          (gone-leads (subst (λ n. Misleads lot m3 (resized y (x.size - 1)) n) (sym r) (subst (λ (i : Inode). Misleads lot m3 i (entry_blocks f i.size)) set.value bad)));
     }

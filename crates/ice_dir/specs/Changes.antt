@@ -10,7 +10,7 @@ use Rattle.ice_map.specs.Inodes.{inode_of}
 use Rattle.ice_map.specs.Maps.{uses, HasTwice, Misleads}
 use Rattle.ice_map.specs.Own.{entry_size, OwnSet, blocks_for, Confuses}
 use Rattle.ice_map.specs.Moves.{Moved, uses_of}
-use Rattle.ice_dir.specs.Rows.{Row, entries_in, entry_bytes, texts_of, rows_of, IsText, IsDirectory}
+use Rattle.ice_dir.specs.Rows.{DirRow, entries_in, entry_bytes, texts_of, dir_rows_of, IsText, IsDirectory}
 use Rattle.tree_spec.specs.Costs.{Form}
 
 -- how many blocks so many entries of this many bytes have
@@ -18,29 +18,29 @@ abbrev pub blocks_sized : ℕ → ℕ → ℕ
 blocks_sized entry size = blocks_for (entry * size)
 
 -- how many blocks a directory of so many entries has in a cube of the form
-abbrev pub dir_blocks : Form → ℕ → ℕ
-dir_blocks f = blocks_sized (entry_size f)
+abbrev pub entry_blocks : Form → ℕ → ℕ
+entry_blocks f = blocks_sized (entry_size f)
 
 -- fewer blocks are free than a directory of so many entries needs more for one more
 abbrev pub FewFree : LotView → Form → (ℕ → List ℕ) → ℕ → Type 0
-FewFree lot f m size = free_count false lot m + uses_of (dir_blocks f size) < uses_of (dir_blocks f (size + 1))
+FewFree lot f m size = free_count false lot m + uses_of (entry_blocks f size) < uses_of (entry_blocks f (size + 1))
 
 -- so many blocks are counted that these can't be
 abbrev pub CountFull : Form → (ℕ → List ℕ) → ℕ → Type 0
-CountFull f m size = 2 ^ 32 + uses_of (dir_blocks f size) ≤ counted false m + uses_of (dir_blocks f (size + 1))
+CountFull f m size = 2 ^ 32 + uses_of (entry_blocks f size) ≤ counted false m + uses_of (entry_blocks f (size + 1))
 
 -- fewer blocks are counted than a directory of so many entries gives back with one of them
 abbrev pub CountLow : Form → (ℕ → List ℕ) → ℕ → Type 0
-CountLow f m size = counted false m + uses_of (dir_blocks f (size - 1)) < uses_of (dir_blocks f size)
+CountLow f m size = counted false m + uses_of (entry_blocks f (size - 1)) < uses_of (entry_blocks f size)
 
 -- an inode is a directory that can have one entry more
-pub record HasRoom (lot : LotView) (inode : Inode) : Type 0 where
+pub record HasEntryRoom (lot : LotView) (inode : Inode) : Type 0 where
   pub is : IsDirectory lot inode
   pub room : inode.size + 1 < 64 * length lot.groups
 
 -- A directory's rows were set: its map is well made, the marks follow what it uses, and every other inode is as it was and says what it said.
-pub record DirSet (lot : LotView) (f : Form) (old new : ℕ → List ℕ) (number : ℕ) (now : List Row) : Type 0 where
-  pub rows : rows_of f new number ≡ now
+pub record DirSet (lot : LotView) (f : Form) (old new : ℕ → List ℕ) (number : ℕ) (now : List DirRow) : Type 0 where
+  pub rows : dir_rows_of f new number ≡ now
   pub is : IsDirectory lot (inode_of new number)
   pub set : OwnSet lot f old new number
 
@@ -51,7 +51,7 @@ pub record RowPut (lot : LotView) (entry : ℕ) (m0 m1 : ℕ → List ℕ) (x y 
   pub others : (j : ℕ) → j / entries_in entry < c → j ≢ k → entry_bytes entry m1 y j ≡ entry_bytes entry m0 x j
 
 -- a directory got the text of a row behind its last entry, and the bytes of its other entries stay
-abbrev pub TextAdded : Form → (ℕ → List ℕ) → (ℕ → List ℕ) → ℕ → Row → Type 0
+abbrev pub TextAdded : Form → (ℕ → List ℕ) → (ℕ → List ℕ) → ℕ → DirRow → Type 0
 TextAdded f old new number row = (bytes : List ℕ) × IsText row bytes × (texts_of f new number ≡ texts_of f old number ++ bytes ∷ [])
 
 -- entry k was taken from a directory: the bytes of the last one stand in its place, and those of its other entries stay
@@ -60,7 +60,7 @@ TextTaken f old new number k = texts_of f new number ≡ swap_remove (texts_of f
 
 -- what a directory uses
 abbrev pub dir_uses : Form → (ℕ → List ℕ) → ℕ → List ℕ
-dir_uses f m number = uses m (inode_of m number) (dir_blocks f (inode_of m number).size)
+dir_uses f m number = uses m (inode_of m number) (entry_blocks f (inode_of m number).size)
 
 -- An entry was taken from a directory, whatever its blocks held: the directory has one entry fewer, and as many blocks fewer as these need.
 -- No other inode, no other mark, and nothing of the sub-super block but the count of used blocks, changed. What became free was free or is what
@@ -69,11 +69,11 @@ pub record EntryGone (lot : LotView) (f : Form) (old new : ℕ → List ℕ) (nu
   pub kind : (inode_of new number).kind ≡ 2
   pub size : (inode_of new number).size + 1 ≡ (inode_of old number).size
   pub others : (k : ℕ) → k ≢ number → inode_of new k ≡ inode_of old k
-  pub free : free_count false lot new + uses_of (dir_blocks f (inode_of new number).size) ≡ free_count false lot old + uses_of (dir_blocks f (inode_of old number).size)
-  pub counts : counted false new ≡ counted false old - (uses_of (dir_blocks f (inode_of old number).size) - uses_of (dir_blocks f (inode_of new number).size))
+  pub free : free_count false lot new + uses_of (entry_blocks f (inode_of new number).size) ≡ free_count false lot old + uses_of (entry_blocks f (inode_of old number).size)
+  pub counts : counted false new ≡ counted false old - (uses_of (entry_blocks f (inode_of old number).size) - uses_of (entry_blocks f (inode_of new number).size))
   pub sub : SameBeside (count_place false) 4 (old sub_address) (new sub_address)
   pub places : (b : ℕ) → is_data lot b ≡ false → used_block new b ≡ used_block old b
   pub inodes : (i : ℕ) → used_inode new i ≡ used_inode old i
   pub blocks : (b : ℕ) → is_data lot b ≡ true → has (dir_uses f old number) b ≡ false → new b ≡ old b
   pub marks : (b : ℕ) → used_block new b ≡ false → (used_block old b ≡ false) ⊎ (has (dir_uses f old number) b ≡ true) ⊎ HasTwice (dir_uses f old number)
-  pub leads : Misleads lot new (inode_of new number) (dir_blocks f (inode_of new number).size) → Confuses lot old (inode_of old number) (dir_blocks f (inode_of old number).size)
+  pub leads : Misleads lot new (inode_of new number) (entry_blocks f (inode_of new number).size) → Confuses lot old (inode_of old number) (entry_blocks f (inode_of old number).size)

@@ -1,6 +1,6 @@
 //! Entries that are added.
 ghost use Rattle.std.specs.Prelude.{◌≡◌, ◌≢◌, ◌≤◌, ◌<◌, ◌*◌, ◌+◌, ◌/◌, ◌^◌, ◌++◌, ℕ, List, true, false, [], ◌∷◌, OnOk, OnErr, IfOk, IfErr, IsErrOf, length};
-ghost use Rattle.ice_base.specs.Disk.{Rose};
+ghost use Rattle.ice_base.specs.Disk.{Caused};
 ghost use Rattle.ice_base.specs.Fields.{SameBeside};
 ghost use Rattle.ice_base.specs.Lots.{is_sited, sub_address};
 ghost use Rattle.ice_base.specs.Used.{is_data, count_place, counted, free_count, Reserved};
@@ -12,10 +12,10 @@ ghost use Rattle.ice_map.specs.Faults.{IsGrowFault};
 ghost use Rattle.ice_map.specs.Inodes.{inode_of};
 ghost use Rattle.ice_map.specs.Maps.{longest, needs, Misleads};
 ghost use Rattle.ice_map.specs.Own.{MadeOf, WellMade};
-ghost use Rattle.ice_map.specs.Moves.{Reached, content_of, uses_of};
-ghost use Rattle.ice_dir.specs.Changes.{FewFree, CountFull, blocks_sized, HasRoom, DirSet, RowPut, TextAdded, dir_blocks};
+ghost use Rattle.ice_map.specs.Moves.{HadBlock, content_of, uses_of};
+ghost use Rattle.ice_dir.specs.Changes.{FewFree, CountFull, blocks_sized, HasEntryRoom, DirSet, RowPut, TextAdded, entry_blocks};
 ghost use Rattle.ice_dir.specs.Faults.{IsAddFault};
-ghost use Rattle.ice_dir.specs.Rows.{rows_of, IsText, IsDirectory};
+ghost use Rattle.ice_dir.specs.Rows.{dir_rows_of, IsText, IsDirectory};
 ghost use Rattle.tree_spec.specs.Costs.{form_of};
 
 use crate::looks::dir_inode;
@@ -42,7 +42,7 @@ fn open_block<D: Disk, K: Keep<D>, P: Pool<D, K>, F: Form>(
     requires short { k < longest }
     ensures reached { AsShown K.View lot.now keep.old disk.old keep.new disk.new (λ old new.
         MadeOf lot.now old inode.old count
-        → IfOk result (Reached lot.now old new inode.old inode.new count k)) }
+        → IfOk result (HadBlock lot.now old new inode.old inode.new count k)) }
     ensures content { IfShown K.View lot.now keep.old disk.old (λ old.
         k < count → OnOk result (into.new ≡ content_of old inode.old k)) }
     ensures fresh { k ≡ count → OnOk result (into.new ≡ into.old) }
@@ -65,7 +65,7 @@ fn open_block<D: Disk, K: Keep<D>, P: Pool<D, K>, F: Form>(
     ensures sub { AsShown K.View lot.now keep.old disk.old keep.new disk.new (λ old new.
         OnOk result (SameBeside (count_place false) 4 (old sub_address) (new sub_address))) }
     ensures faults { IfErr result IsGrowFault }
-    ensures failed { IsErrOf result FaultDisk → Rose (D.state disk.old).faults (D.state disk.new).faults }
+    ensures failed { Caused D.state FaultDisk result disk.old disk.new }
 {
     let at = reach::<D, K, P, F>(keep, pool, disk, lot, inode, count, k)?;
     if k < count {
@@ -112,7 +112,7 @@ fn append<D: Disk, K: Keep<D>, P: Pool<D, K>, F: Form>(
     ensures sub { AsShown K.View lot.now keep.old disk.old keep.new disk.new (λ old new.
         OnOk result (SameBeside (count_place false) 4 (old sub_address) (new sub_address))) }
     ensures faults { IfErr result IsGrowFault }
-    ensures failed { IsErrOf result FaultDisk → Rose (D.state disk.old).faults (D.state disk.new).faults }
+    ensures failed { Caused D.state FaultDisk result disk.old disk.new }
 {
     let mut block = [0; 1024];
     let count = blocks_for_rows::<F>(dir.size);
@@ -144,23 +144,23 @@ pub fn add<D: Disk, K: Keep<D>, P: Pool<D, K>, F: Form>(
     requires room { 8 ≤ K.room keep.old }
     ensures added { AsShown K.View lot.now keep.old disk.old keep.new disk.new (λ old new.
         WellMade lot.now (form_of F.VERSION) old number
-        → OnOk result (DirSet lot.now (form_of F.VERSION) old new number (rows_of (form_of F.VERSION) old number ++ (name.now, inode) ∷ []))) }
+        → OnOk result (DirSet lot.now (form_of F.VERSION) old new number (dir_rows_of (form_of F.VERSION) old number ++ (name.now, inode) ∷ []))) }
     ensures text { AsShown K.View lot.now keep.old disk.old keep.new disk.new (λ old new.
         WellMade lot.now (form_of F.VERSION) old number
         → OnOk result (TextAdded (form_of F.VERSION) old new number (name.now, inode))) }
     ensures is { IfShown K.View lot.now keep.old disk.old (λ old.
-        OnOk result (HasRoom lot.now (inode_of old number))) }
+        OnOk result (HasEntryRoom lot.now (inode_of old number))) }
     ensures spent { Spent D.Disk K.View lot.now 8 keep.old disk.old keep.new disk.new }
     ensures none { IsErrOf result NoSpace → IfShown K.View lot.now keep.old disk.old (λ old.
         FewFree lot.now (form_of F.VERSION) old (inode_of old number).size) }
     ensures full { IsErrOf result (Damaged Counts) → IfShown K.View lot.now keep.old disk.old (λ old.
         CountFull (form_of F.VERSION) old (inode_of old number).size) }
     ensures kind { IsErrOf result (Damaged Kind) → IfShown K.View lot.now keep.old disk.old (λ old.
-        ¬ HasRoom lot.now (inode_of old number)) }
+        ¬ HasEntryRoom lot.now (inode_of old number)) }
     ensures unreserved { IsErrOf result (Damaged Bitmap)
         → IfShown K.View lot.now keep.old disk.old (λ old. ¬ Reserved lot.now old) }
     ensures misled { IsErrOf result (Damaged Pointer) → IfShown K.View lot.now keep.old disk.old (λ old.
-        Misleads lot.now old (inode_of old number) (dir_blocks (form_of F.VERSION) (inode_of old number).size)) }
+        Misleads lot.now old (inode_of old number) (entry_blocks (form_of F.VERSION) (inode_of old number).size)) }
     ensures is_dir { (rule : Rule) → IsErrOf result (Damaged rule) → rule ≢ Kind
         → IfShown K.View lot.now keep.old disk.old (λ old. IsDirectory lot.now (inode_of old number)) }
     ensures looked { IsErrOf result NoSpace
@@ -172,7 +172,7 @@ pub fn add<D: Disk, K: Keep<D>, P: Pool<D, K>, F: Form>(
     ensures unchanged { IsErrOf result (Damaged Kind)
         → Looked D.Disk K.View lot.now keep.old disk.old keep.new disk.new }
     ensures faults { IfErr result IsAddFault }
-    ensures failed { IsErrOf result FaultDisk → Rose (D.state disk.old).faults (D.state disk.new).faults }
+    ensures failed { Caused D.state FaultDisk result disk.old disk.new }
 {
     let mut dir = dir_inode::<D, K, F>(keep, disk, lot, number)?;
     if dir.size + 1 >= 64 * lot.len() as u32 {

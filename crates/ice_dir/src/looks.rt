@@ -1,6 +1,6 @@
 //! What directories hold.
 ghost use Rattle.std.specs.Prelude.{◌≡◌, ◌≤◌, ◌<◌, ◌*◌, ◌+◌, ◌-◌, ◌/◌, ℕ, true, false, min, OnOk, OnErr, IfOk, IfErr, IfNone, IfSome, IsErrOf, Some, MatchOption, length, slice_get};
-ghost use Rattle.ice_base.specs.Disk.{Rose};
+ghost use Rattle.ice_base.specs.Disk.{Caused};
 ghost use Rattle.ice_base.specs.Lots.{is_sited};
 ghost use Rattle.ice_base.specs.Used.{is_data};
 ghost use Rattle.ice_base.specs.Views.{Looked, IfShown};
@@ -10,8 +10,8 @@ ghost use Rattle.ice_map.specs.Faults.{IsLookFault};
 ghost use Rattle.ice_map.specs.Inodes.{inode_of};
 ghost use Rattle.ice_map.specs.Maps.{longest, nth_block, leads};
 ghost use Rattle.tree_spec.specs.Names.{is_name};
-ghost use Rattle.ice_dir.specs.Faults.{IsKindFault, IsFindFault, IsEntryFault};
-ghost use Rattle.ice_dir.specs.Rows.{entries_in, rows_of, row_at, row_sized, look_up, NoneNamed, FirstNamed, IsDirectory, HasEntry, per_block};
+ghost use Rattle.ice_dir.specs.Faults.{IsDirFault, IsFindFault, IsEntryFault};
+ghost use Rattle.ice_dir.specs.Rows.{entries_in, dir_rows_of, row_at, row_sized, look_up, NoneNamed, FirstNamed, IsDirectory, HasEntry, per_block};
 ghost use Rattle.tree_spec.specs.Costs.{form_of};
 
 use crate::rows::{read_name, read_number, row_place, rows_per_block};
@@ -34,8 +34,8 @@ pub fn dir_inode<D: Disk, V: View<D>, F: Form>(
     ensures kind { IsErrOf result (Damaged Kind) → IfShown V.View lot.now view.old disk.old (λ old.
         ¬ IsDirectory lot.now (inode_of old number)) }
     ensures looked { Looked D.Disk V.View lot.now view.old disk.old view.new disk.new }
-    ensures faults { IfErr result IsKindFault }
-    ensures failed { IsErrOf result FaultDisk → Rose (D.state disk.old).faults (D.state disk.new).faults }
+    ensures faults { IfErr result IsDirFault }
+    ensures failed { Caused D.state FaultDisk result disk.old disk.new }
 {
     let inode = get_inode::<D, V, F>(view, disk, lot, number)?;
     if inode.kind != 2 || inode.size >= 64 * lot.len() as u32 {
@@ -65,7 +65,7 @@ pub fn read_block<D: Disk, V: View<D>, F: Form>(
         leads lot.now old inode.now n ≡ false) }
     ensures looked { Looked D.Disk V.View lot.now view.old disk.old view.new disk.new }
     ensures faults { IfErr result IsLookFault }
-    ensures failed { IsErrOf result FaultDisk → Rose (D.state disk.old).faults (D.state disk.new).faults }
+    ensures failed { Caused D.state FaultDisk result disk.old disk.new }
 {
     let at = nth::<D, V, F>(view, disk, lot, inode, n)?;
     fetch(view, disk, lot, at, into)?;
@@ -82,15 +82,15 @@ pub fn len<D: Disk, V: View<D>, F: Form>(
     requires sited { is_sited lot.now (D.state disk.old).size ≡ true }
     requires number { number < 64 * length lot.now.groups }
     ensures rows { IfShown V.View lot.now view.old disk.old (λ old.
-        IfOk result (λ n. n ≡ length (rows_of (form_of F.VERSION) old number))) }
+        IfOk result (λ n. n ≡ length (dir_rows_of (form_of F.VERSION) old number))) }
     ensures few { IfOk result (λ n. n < 64 * length lot.now.groups) }
     ensures is { IfShown V.View lot.now view.old disk.old (λ old.
         OnOk result (IsDirectory lot.now (inode_of old number))) }
     ensures kind { IsErrOf result (Damaged Kind) → IfShown V.View lot.now view.old disk.old (λ old.
         ¬ IsDirectory lot.now (inode_of old number)) }
     ensures looked { Looked D.Disk V.View lot.now view.old disk.old view.new disk.new }
-    ensures faults { IfErr result IsKindFault }
-    ensures failed { IsErrOf result FaultDisk → Rose (D.state disk.old).faults (D.state disk.new).faults }
+    ensures faults { IfErr result IsDirFault }
+    ensures failed { Caused D.state FaultDisk result disk.old disk.new }
 {
     Ok(dir_inode::<D, V, F>(view, disk, lot, number)?.size)
 }
@@ -109,7 +109,7 @@ pub fn entry<D: Disk, V: View<D>, F: Form>(
     requires sited { is_sited lot.now (D.state disk.old).size ≡ true }
     requires number { number < 64 * length lot.now.groups }
     ensures row { IfShown V.View lot.now view.old disk.old (λ old.
-        IfOk result (λ inode. slice_get (rows_of (form_of F.VERSION) old number) k ≡ Some (into.new, inode))) }
+        IfOk result (λ inode. slice_get (dir_rows_of (form_of F.VERSION) old number) k ≡ Some (into.new, inode))) }
     ensures fits { OnOk result (length into.new ≤ F.NAME) }
     ensures kept { OnErr result (into.new ≡ into.old) }
     ensures is { IfShown V.View lot.now view.old disk.old (λ old.
@@ -119,10 +119,10 @@ pub fn entry<D: Disk, V: View<D>, F: Form>(
     ensures pointer { IsErrOf result (Damaged Pointer) → IfShown V.View lot.now view.old disk.old (λ old.
         leads lot.now old (inode_of old number) (k / per_block (form_of F.VERSION)) ≡ false) }
     ensures name { IsErrOf result (Damaged BadName) → IfShown V.View lot.now view.old disk.old (λ old.
-        IfSome (slice_get (rows_of (form_of F.VERSION) old number) k) (λ row. is_name row.0 ≡ false)) }
+        IfSome (slice_get (dir_rows_of (form_of F.VERSION) old number) k) (λ row. is_name row.0 ≡ false)) }
     ensures looked { Looked D.Disk V.View lot.now view.old disk.old view.new disk.new }
     ensures faults { IfErr result IsEntryFault }
-    ensures failed { IsErrOf result FaultDisk → Rose (D.state disk.old).faults (D.state disk.new).faults }
+    ensures failed { Caused D.state FaultDisk result disk.old disk.new }
 {
     let inode = dir_inode::<D, V, F>(view, disk, lot, number)?;
     if k >= inode.size {
@@ -183,7 +183,7 @@ fn seek_block<D: Disk, V: View<D>, F: Form>(
         leads lot.now old inode.now n ≡ false) }
     ensures looked { Looked D.Disk V.View lot.now view.old disk.old view.new disk.new }
     ensures faults { IfErr result IsLookFault }
-    ensures failed { IsErrOf result FaultDisk → Rose (D.state disk.old).faults (D.state disk.new).faults }
+    ensures failed { Caused D.state FaultDisk result disk.old disk.new }
 {
     let mut block = [0; 1024];
     read_block::<D, V, F>(view, disk, lot, inode, n, &mut block)?;
@@ -214,7 +214,7 @@ pub fn seek<D: Disk, V: View<D>, F: Form>(
         (n : ℕ) × (n * entries_in F.ENTRY < inode.now.size) × (leads lot.now old inode.now n ≡ false)) }
     ensures looked { Looked D.Disk V.View lot.now view.old disk.old view.new disk.new }
     ensures faults { IfErr result IsLookFault }
-    ensures failed { IsErrOf result FaultDisk → Rose (D.state disk.old).faults (D.state disk.new).faults }
+    ensures failed { Caused D.state FaultDisk result disk.old disk.new }
 {
     for n in 0..inode.size.div_ceil(rows_per_block::<F>()) {
         match seek_block::<D, V, F>(view, disk, lot, inode, n, name)? {
@@ -238,7 +238,7 @@ pub fn find<D: Disk, V: View<D>, F: Form>(
     requires sited { is_sited lot.now (D.state disk.old).size ≡ true }
     requires number { number < 64 * length lot.now.groups }
     ensures found { IfShown V.View lot.now view.old disk.old (λ old.
-        IfOk result (λ o. o ≡ look_up name.now (rows_of (form_of F.VERSION) old number))) }
+        IfOk result (λ o. o ≡ look_up name.now (dir_rows_of (form_of F.VERSION) old number))) }
     ensures is { IfShown V.View lot.now view.old disk.old (λ old.
         OnOk result (IsDirectory lot.now (inode_of old number))) }
     ensures kind { IsErrOf result (Damaged Kind) → IfShown V.View lot.now view.old disk.old (λ old.
@@ -248,7 +248,7 @@ pub fn find<D: Disk, V: View<D>, F: Form>(
         × (leads lot.now old (inode_of old number) n ≡ false)) }
     ensures looked { Looked D.Disk V.View lot.now view.old disk.old view.new disk.new }
     ensures faults { IfErr result IsFindFault }
-    ensures failed { IsErrOf result FaultDisk → Rose (D.state disk.old).faults (D.state disk.new).faults }
+    ensures failed { Caused D.state FaultDisk result disk.old disk.new }
 {
     let inode = dir_inode::<D, V, F>(view, disk, lot, number)?;
     match seek::<D, V, F>(view, disk, lot, &inode, name.bytes())? {

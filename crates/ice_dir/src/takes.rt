@@ -1,7 +1,7 @@
 //! Entries that are taken.
 ghost use Rattle.std.specs.Prelude.{◌≡◌, ◌≢◌, ◌≤◌, ◌<◌, ◌*◌, ◌+◌, ◌-◌, ◌/◌, ℕ, true, false, [], IsSome, IsNone, OnOk, OnErr, IfOk, IfErr, IsErrOf, length};
 ghost use Rattle.std.specs.List.{swap_remove, position_or_len};
-ghost use Rattle.ice_base.specs.Disk.{Rose};
+ghost use Rattle.ice_base.specs.Disk.{Caused};
 ghost use Rattle.ice_base.specs.Lots.{is_sited, sub_address};
 ghost use Rattle.ice_base.specs.Used.{is_data, counted};
 ghost use Rattle.ice_base.specs.Views.{Looked, Spent, AsShown, IfShown};
@@ -13,9 +13,9 @@ ghost use Rattle.ice_map.specs.Inodes.{inode_of};
 ghost use Rattle.ice_map.specs.Maps.{nth_block, uses, FreeOrTwice, Misleads};
 ghost use Rattle.ice_map.specs.Own.{MadeOf, WellMade, Confuses};
 ghost use Rattle.ice_map.specs.Moves.{uses_of};
-ghost use Rattle.ice_dir.specs.Changes.{CountLow, blocks_sized, DirSet, RowPut, TextTaken, EntryGone, dir_blocks};
-ghost use Rattle.ice_dir.specs.Faults.{IsTakeFault};
-ghost use Rattle.ice_dir.specs.Rows.{entries_in, entry_bytes, rows_of, named, look_up, without, IsDirectory};
+ghost use Rattle.ice_dir.specs.Changes.{CountLow, blocks_sized, DirSet, RowPut, TextTaken, EntryGone, entry_blocks};
+ghost use Rattle.ice_dir.specs.Faults.{IsRemovalFault};
+ghost use Rattle.ice_dir.specs.Rows.{entries_in, entry_bytes, dir_rows_of, named, look_up, rows_without, IsDirectory};
 ghost use Rattle.tree_spec.specs.Costs.{form_of};
 
 use crate::looks::{dir_inode, read_block, seek};
@@ -50,7 +50,7 @@ fn move_last<D: Disk, K: Keep<D>, F: Form>(
     ensures within { AsShown K.View lot.now keep.old disk.old keep.new disk.new (λ old new.
         OnOk result ((b : ℕ) → b ≢ nth_block old dir.now (k / entries_in F.ENTRY) → new b ≡ old b)) }
     ensures faults { IfErr result IsLookFault }
-    ensures failed { IsErrOf result FaultDisk → Rose (D.state disk.old).faults (D.state disk.new).faults }
+    ensures failed { Caused D.state FaultDisk result disk.old disk.new }
 {
     let per_block = rows_per_block::<F>();
     let last = dir.size - 1;
@@ -80,7 +80,7 @@ fn remove_row<D: Disk, K: Keep<D>, P: Pool<D, K>, F: Form>(
     requires below { k < dir.size }
     ensures removed { AsShown K.View lot.now keep.old disk.old keep.new disk.new (λ old new.
         inode_of old number ≡ dir → WellMade lot.now (form_of F.VERSION) old number
-        → OnOk result (DirSet lot.now (form_of F.VERSION) old new number (swap_remove (rows_of (form_of F.VERSION) old number) k ([], 0)))) }
+        → OnOk result (DirSet lot.now (form_of F.VERSION) old new number (swap_remove (dir_rows_of (form_of F.VERSION) old number) k ([], 0)))) }
     ensures texts { AsShown K.View lot.now keep.old disk.old keep.new disk.new (λ old new.
         inode_of old number ≡ dir → WellMade lot.now (form_of F.VERSION) old number
         → OnOk result (TextTaken (form_of F.VERSION) old new number k)) }
@@ -97,7 +97,7 @@ fn remove_row<D: Disk, K: Keep<D>, P: Pool<D, K>, F: Form>(
     ensures misled { IsErrOf result (Damaged Pointer) → IfShown K.View lot.now keep.old disk.old (λ old.
         Confuses lot.now old dir (blocks_sized F.ENTRY dir.size)) }
     ensures faults { IfErr result IsCutFault }
-    ensures failed { IsErrOf result FaultDisk → Rose (D.state disk.old).faults (D.state disk.new).faults }
+    ensures failed { Caused D.state FaultDisk result disk.old disk.new }
 {
     let _groups = lot.len();
     move_last::<D, K, F>(keep, disk, lot, &dir, k)?;
@@ -127,15 +127,15 @@ pub fn take<D: Disk, K: Keep<D>, P: Pool<D, K>, F: Form>(
     requires number { number < 64 * length lot.now.groups }
     requires room { 8 ≤ K.room keep.old }
     ensures found { IfShown K.View lot.now keep.old disk.old (λ old.
-        IfOk result (λ o. o ≡ look_up name.now (rows_of (form_of F.VERSION) old number))) }
+        IfOk result (λ o. o ≡ look_up name.now (dir_rows_of (form_of F.VERSION) old number))) }
     ensures taken { AsShown K.View lot.now keep.old disk.old keep.new disk.new (λ old new.
         WellMade lot.now (form_of F.VERSION) old number
         → IfOk result (λ o. IsSome o
-        → DirSet lot.now (form_of F.VERSION) old new number (without name.now (rows_of (form_of F.VERSION) old number)))) }
+        → DirSet lot.now (form_of F.VERSION) old new number (rows_without name.now (dir_rows_of (form_of F.VERSION) old number)))) }
     ensures texts { AsShown K.View lot.now keep.old disk.old keep.new disk.new (λ old new.
         WellMade lot.now (form_of F.VERSION) old number
         → IfOk result (λ o. IsSome o
-        → TextTaken (form_of F.VERSION) old new number (position_or_len (named name.now) (rows_of (form_of F.VERSION) old number)))) }
+        → TextTaken (form_of F.VERSION) old new number (position_or_len (named name.now) (dir_rows_of (form_of F.VERSION) old number)))) }
     ensures left { AsShown K.View lot.now keep.old disk.old keep.new disk.new (λ old new.
         IfOk result (λ o. IsSome o → EntryGone lot.now (form_of F.VERSION) old new number)) }
     ensures absent { IfOk result (λ o. IsNone o
@@ -148,18 +148,18 @@ pub fn take<D: Disk, K: Keep<D>, P: Pool<D, K>, F: Form>(
     ensures kind { IsErrOf result (Damaged Kind) → IfShown K.View lot.now keep.old disk.old (λ old.
         ¬ IsDirectory lot.now (inode_of old number)) }
     ensures unused { IsErrOf result (Damaged Bitmap) → IfShown K.View lot.now keep.old disk.old (λ old.
-        FreeOrTwice old (uses old (inode_of old number) (dir_blocks (form_of F.VERSION) (inode_of old number).size))) }
+        FreeOrTwice old (uses old (inode_of old number) (entry_blocks (form_of F.VERSION) (inode_of old number).size))) }
     ensures kept { (rule : Rule) → IsErrOf result (Damaged rule)
         → AsShown K.View lot.now keep.old disk.old keep.new disk.new (λ old new.
         inode_of new number ≡ inode_of old number) }
     ensures misled { IsErrOf result (Damaged Pointer) → IfShown K.View lot.now keep.old disk.old (λ old.
-        Confuses lot.now old (inode_of old number) (dir_blocks (form_of F.VERSION) (inode_of old number).size)) }
+        Confuses lot.now old (inode_of old number) (entry_blocks (form_of F.VERSION) (inode_of old number).size)) }
     ensures is_dir { (rule : Rule) → IsErrOf result (Damaged rule) → rule ≢ Kind
         → IfShown K.View lot.now keep.old disk.old (λ old. IsDirectory lot.now (inode_of old number)) }
     ensures unchanged { IsErrOf result (Damaged Kind)
         → Looked D.Disk K.View lot.now keep.old disk.old keep.new disk.new }
-    ensures faults { IfErr result IsTakeFault }
-    ensures failed { IsErrOf result FaultDisk → Rose (D.state disk.old).faults (D.state disk.new).faults }
+    ensures faults { IfErr result IsRemovalFault }
+    ensures failed { Caused D.state FaultDisk result disk.old disk.new }
 {
     let dir = dir_inode::<D, K, F>(keep, disk, lot, number)?;
     match seek::<D, K, F>(keep, disk, lot, &dir, name.bytes())? {

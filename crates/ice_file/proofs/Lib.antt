@@ -1,5 +1,5 @@
 pub mod ByteLaws
-pub mod PieceLaws
+mod PieceLaws
 pub mod WriteLaws
-pub mod SetLaws
-pub mod FileLaws
+mod SetLaws
+mod FileLaws

@@ -1,12 +1,12 @@
 //! The inode of a file.
 ghost use Rattle.std.specs.Prelude.{◌≡◌, ◌≤◌, ◌<◌, ◌*◌, true, OnOk, IfOk, IfErr, IsErrOf, length};
-ghost use Rattle.ice_base.specs.Disk.{Rose};
+ghost use Rattle.ice_base.specs.Disk.{Caused};
 ghost use Rattle.ice_base.specs.Lots.{is_sited};
 ghost use Rattle.ice_base.specs.Views.{Looked, IfShown};
 ghost use Rattle.ice_base.specs.declared.fault.OpFault.TheVariants.{Disk as FaultDisk, Damaged};
 ghost use Rattle.ice_base.specs.declared.fault.Rule.TheVariants.{Kind};
 ghost use Rattle.ice_map.specs.Inodes.{inode_of};
-ghost use Rattle.ice_file.specs.Files.{ReachesTo, IsKindFault};
+ghost use Rattle.ice_file.specs.Files.{ReachesTo, IsFileFault};
 ghost use Rattle.tree_spec.specs.Costs.{form_of};
 
 use ice_base::{Disk, Form, Lot, OpFault, Rule, View};
@@ -29,8 +29,8 @@ pub fn file_inode<D: Disk, V: View<D>, F: Form>(
     ensures kind { IsErrOf result (Damaged Kind) → IfShown V.View lot.now view.old disk.old (λ old.
         ¬ ReachesTo (form_of F.VERSION) at (inode_of old number)) }
     ensures looked { Looked D.Disk V.View lot.now view.old disk.old view.new disk.new }
-    ensures faults { IfErr result IsKindFault }
-    ensures failed { IsErrOf result FaultDisk → Rose (D.state disk.old).faults (D.state disk.new).faults }
+    ensures faults { IfErr result IsFileFault }
+    ensures failed { Caused D.state FaultDisk result disk.old disk.new }
 {
     let inode = get_inode::<D, V, F>(view, disk, lot, number)?;
     if inode.kind != 1 || inode.size > longest_file::<F>() || inode.size < at {

@@ -1,6 +1,6 @@
 //! Bytes that are put into one block of a file.
 ghost use Rattle.std.specs.Prelude.{is_ok, ◌≡◌, ◌≢◌, ◌≤◌, ◌<◌, ◌+◌, ◌-◌, ◌*◌, ◌^◌, ◌⊎◌, max, ℕ, true, false, [], ◌∷◌, OnOk, IfOk, IfErr, IsErrOf, length, slice_index};
-ghost use Rattle.ice_base.specs.Disk.{Rose};
+ghost use Rattle.ice_base.specs.Disk.{Caused};
 ghost use Rattle.ice_base.specs.Faults.{IsDiskFault};
 ghost use Rattle.ice_base.specs.Lots.{is_sited};
 ghost use Rattle.ice_base.specs.Used.{is_data, counted, free_count, Reserved};
@@ -11,7 +11,7 @@ ghost use Rattle.ice_map.specs.Faults.{IsGrowFault};
 ghost use Rattle.ice_map.specs.Maps.{longest, needs, nth_block};
 ghost use Rattle.ice_map.specs.Growth.{Grew, InodesStay, Strays};
 ghost use Rattle.ice_map.specs.Own.{MadeOf};
-ghost use Rattle.ice_map.specs.Moves.{Reached, due};
+ghost use Rattle.ice_map.specs.Moves.{HadBlock, due};
 ghost use Rattle.ice_file.specs.Writes.{PutPiece};
 
 use ice_base::{Disk, Form, Keep, Lot, OpFault, Pool, View, fetch, store};
@@ -51,7 +51,7 @@ fn fill<D: Disk, K: Keep<D>>(
     ensures puts { Puts K.View lot.now (is_ok result) (at ∷ []) keep.old disk.old keep.new disk.new }
     ensures spent { Spent D.Disk K.View lot.now 1 keep.old disk.old keep.new disk.new }
     ensures faults { IfErr result IsDiskFault }
-    ensures failed { IsErrOf result FaultDisk → Rose (D.state disk.old).faults (D.state disk.new).faults }
+    ensures failed { Caused D.state FaultDisk result disk.old disk.new }
 {
     let mut block = [0; 1024];
     if !fresh && bytes.len() < 1024 {
@@ -100,7 +100,7 @@ pub fn put_piece<D: Disk, K: Keep<D>, P: Pool<D, K>, F: Form>(
     ensures within { AsShown K.View lot.now keep.old disk.old keep.new disk.new (λ old new.
         k < count → OnOk result ((b : ℕ) → b ≢ nth_block old inode.old k → new b ≡ old b)) }
     ensures faults { IfErr result IsGrowFault }
-    ensures failed { IsErrOf result FaultDisk → Rose (D.state disk.old).faults (D.state disk.new).faults }
+    ensures failed { Caused D.state FaultDisk result disk.old disk.new }
 {
     let at = reach::<D, K, P, F>(keep, pool, disk, lot, inode, count, k)?;
     fill(keep, disk, lot, at, start, bytes, k == count)?;

@@ -11,7 +11,7 @@ use Rattle.ice_file.specs.Files.{ReachesTo, IsReadFault}
 use Rattle.ice_map.specs.Own.{map_length, blocks_for, Confuses, entry_size}
 use Rattle.ice_map.specs.Moves.{uses_of}
 use Rattle.ice_map.proofs.OwnLaws.{length-uses}
-use Rattle.ice_dir.specs.Changes.{dir_blocks}
+use Rattle.ice_dir.specs.Changes.{entry_blocks}
 use Rattle.ice_reads.specs.Tables.{Map}
 use Rattle.ice_look.specs.Broken.{FewCounted, FreeBlock, BadPointer, TwiceUsed, BadBitmap, IsBrokenBy}
 use Rattle.ice_look.specs.Places.{IsNode, IsReached}
@@ -21,7 +21,7 @@ use Rattle.tree_spec.specs.Costs.{Form, form_one}
 use Rattle.ice_base.specs.declared.fault.Rule.TheVariants.{Kind, Pointer}
 
 -- how many blocks the map of a directory has
-pub map-dir : (form : Form) (inode : Inode) → inode.kind ≡ 2 → map_length form inode ≡ dir_blocks form inode.size
+pub map-dir : (form : Form) (inode : Inode) → inode.kind ≡ 2 → map_length form inode ≡ entry_blocks form inode.size
 map-dir form inode kind = ap (λ k. blocks_for (cond (k == 2) (entry_size form * inode.size) inode.size)) kind
 
 -- how many blocks that of a file has

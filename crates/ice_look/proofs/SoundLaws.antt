@@ -26,7 +26,7 @@ use Rattle.ice_map.specs.Inodes.{inode_of}
 use Rattle.ice_map.specs.Maps.{times}
 use Rattle.ice_map.proofs.ListLaws.{times-append, has-times}
 use Rattle.ice_map.specs.Own.{mark, map_length, own}
-use Rattle.ice_dir.specs.Rows.{Row, rows_of}
+use Rattle.ice_dir.specs.Rows.{DirRow, dir_rows_of}
 use Rattle.tree_spec.specs.Trees.{Tree, File, Dir, Entries, Nil, Entry, rows, by_bytes, walk, child, and_on, found_or_not, Found, total_in, at}
 use Rattle.tree_spec.specs.Costs.{Form, form_one, nodes}
 use Rattle.tree_spec.specs.Names.{is_name}
@@ -93,7 +93,7 @@ module _ (lot : LotView) (o : Table) where
           count-each (rows_in form_one (o i)) (h + 1) es r.2,
         )
 
-    count-each : (rs : List Row) (h : ℕ) (es : Entries) → ReadsEach form_one lot o rs h es → total_in (λ _. 1) (λ _. 1) es ≡ length (rows es) + times (entries_use form_one o (entries_of o) rs es) 0
+    count-each : (rs : List DirRow) (h : ℕ) (es : Entries) → ReadsEach form_one lot o rs h es → total_in (λ _. 1) (λ _. 1) es ≡ length (rows es) + times (entries_use form_one o (entries_of o) rs es) 0
     count-each rs h Nil r = refl
     count-each rs h (Entry c t es) r =
         omega (
@@ -103,7 +103,7 @@ module _ (lot : LotView) (o : Table) where
           times-append (tree_uses form_one o (entries_of o) (inode_named c rs) t) (entries_use form_one o (entries_of o) rs es) 0,
         )
 
-find-lookup : (q : List ℕ) (rs : List Row) → find by_bytes q rs ≡ lookup (eq_by_cmp by_bytes q) rs
+find-lookup : (q : List ℕ) (rs : List DirRow) → find by_bytes q rs ≡ lookup (eq_by_cmp by_bytes q) rs
 find-lookup q [] = refl
 find-lookup q (e ∷ rs) = ap (λ r. cond (eq_by_cmp by_bytes q e.0) (Some e.1) r) (find-lookup q rs)
 
@@ -182,15 +182,15 @@ module _ (mode : ℕ) (lot : LotView) (m : Map) (t : Tree) (k : ℕ) (r : MapRec
   inode-part (Dir es) i h x = x.0
 
   -- what a row of a directory names
-  row-child : (u : Tree) (i h : ℕ) (name : List ℕ) (j : ℕ) → Reads form_one lot o i h u → (o i).inode.kind ≡ 2 → Contains (rows_of form_one m i) (name, j)
+  row-child : (u : Tree) (i h : ℕ) (name : List ℕ) (j : ℕ) → Reads form_one lot o i h u → (o i).inode.kind ≡ 2 → Contains (dir_rows_of form_one m i) (name, j)
       → (s : Tree) × (child name u ≡ Found s) × Reads form_one lot o j (h + 1) s × (inode_named name (rows_in form_one (o i)) ≡ j)
   row-child (File bytes) i h name j x two c = absurd (no_file (o i).inode.kind x.1.is_file two)
   row-child (Dir es) i h name j x two c =
       child-found form_one lot o i h name es j x (
-      look_up-find name (rows_of form_one m i) ∙ find-lookup name (rows_of form_one m i) ∙ lookup-from_Contains (eq_by_cmp_equiv nat_list_cmp_total) name j (rows_of form_one m i) x.1.differ c
+      look_up-find name (dir_rows_of form_one m i) ∙ find-lookup name (dir_rows_of form_one m i) ∙ lookup-from_Contains (eq_by_cmp_equiv nat_list_cmp_total) name j (dir_rows_of form_one m i) x.1.differ c
       )
 
-  stands-row : (dir : ℕ) (name : List ℕ) (j : ℕ) → Stands dir → (inode_of m dir).kind ≡ 2 → Contains (rows_of form_one m dir) (name, j) → Stands j
+  stands-row : (dir : ℕ) (name : List ℕ) (j : ℕ) → Stands dir → (inode_of m dir).kind ≡ 2 → Contains (dir_rows_of form_one m dir) (name, j) → Stands j
   stands-row dir name j s two c =
       let y = row-child s.part dir (0 + length s.names) name j (stands-reads dir s) two c in
       record {
@@ -310,7 +310,7 @@ module _ (mode : ℕ) (lot : LotView) (m : Map) (t : Tree) (k : ℕ) (r : MapRec
     where
       fits : (u : Tree) (h : ℕ) → Reads form_one lot o x.number h u → ⊥
       fits (File bytes) h y = no_file (inode_of m x.number).kind y.1.is_file x.dir.kind
-      fits (Dir es) h y = no_true (sym x.bad ∙ All-contains (λ (row : Row). is_name row.0 ≡ true) (rows_of form_one m x.number) x.row (λ j d low. (y.1.fit j d low).is) x.has)
+      fits (Dir es) h y = no_true (sym x.bad ∙ All-contains (λ (row : DirRow). is_name row.0 ≡ true) (dir_rows_of form_one m x.number) x.row (λ j d low. (y.1.fit j d low).is) x.has)
 
   -- ---- counts and bitmaps
 
@@ -361,16 +361,16 @@ module _ (mode : ℕ) (lot : LotView) (m : Map) (t : Tree) (k : ℕ) (r : MapRec
 
   -- ---- what directories lead to
 
-  sum-le : (p q : Row → ℕ) (rs : List Row) → All (λ (row : Row). p row ≤ q row) rs → sum_by p rs ≤ sum_by q rs
+  sum-le : (p q : DirRow → ℕ) (rs : List DirRow) → All (λ (row : DirRow). p row ≤ q row) rs → sum_by p rs ≤ sum_by q rs
   sum-le p q [] h = omega arith
-  sum-le p q (e ∷ rs) h = omega (arith, sum_by-cons p e rs, sum_by-cons q e rs, h 0 ([], 0) (omega arith), sum-le p q rs (All-tail (λ (row : Row). p row ≤ q row) e rs h))
+  sum-le p q (e ∷ rs) h = omega (arith, sum_by-cons p e rs, sum_by-cons q e rs, h 0 ([], 0) (omega arith), sum-le p q rs (All-tail (λ (row : DirRow). p row ≤ q row) e rs h))
 
   within-nodes : (levels i h : ℕ) (u : Tree) → Reads form_one lot o i h u → count_within form_one m levels i ≤ nodes u
   within-nodes zero i h u x = nodes-some u
   within-nodes (suc levels) i h (File bytes) x = omega (arith, within-file form_one m (suc levels) i x.1.is_file)
   within-nodes (suc levels) i h (Dir es) x =
-      let each : All (λ (row : Row). by_row form_one m levels row ≤ many es row) (rows_in form_one (o i)) = (λ n d low.
-      let row : Row = get_or (rows_in form_one (o i)) n d in
+      let each : All (λ (row : DirRow). by_row form_one m levels row ≤ many es row) (rows_in form_one (o i)) = (λ n d low.
+      let row : DirRow = get_or (rows_in form_one (o i)) n d in
       let c = row-under form_one lot o i h es x n row.0 row.1 (slice_get-get_or (rows_in form_one (o i)) n d low) in
       omega (arith, within-nodes levels row.1 (h + 1) c.there c.reads, ap many_of c.entry)) in
       omega (

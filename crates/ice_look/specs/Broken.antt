@@ -12,7 +12,7 @@ use Rattle.ice_layout.specs.Subs.{sub_rule}
 use Rattle.ice_map.specs.Inodes.{inode_of}
 use Rattle.ice_map.specs.Maps.{times, uses, Misleads, UsesUnmarked}
 use Rattle.ice_map.specs.Own.{map_length}
-use Rattle.ice_dir.specs.Rows.{Row, rows_of, IsDirectory}
+use Rattle.ice_dir.specs.Rows.{DirRow, dir_rows_of, IsDirectory}
 use Rattle.tree_spec.specs.Names.{is_name}
 use Rattle.ice_look.specs.Places.{IsNode, IsReached}
 use Rattle.ice_look.specs.declared.place.Place.{Place}
@@ -22,7 +22,7 @@ use Rattle.ice_look.specs.declared.place.Place.TheVariants.{Dir}
 -- to how many files and directories at most so many names lead from an inode, itself among them
 abbrev pub count_within : Form → (ℕ → List ℕ) → ℕ → ℕ → ℕ
 count_within form m zero number = 1
-count_within form m (suc levels) number = cond ((inode_of m number).kind == 2) (1 + sum_by (λ (row : Row). count_within form m levels row.1) (rows_of form m number)) 1
+count_within form m (suc levels) number = cond ((inode_of m number).kind == 2) (1 + sum_by (λ (row : DirRow). count_within form m levels row.1) (dir_rows_of form m number)) 1
 
 -- the same from a place
 abbrev pub count_within_place : Form → (ℕ → List ℕ) → ℕ → Place → ℕ
@@ -64,10 +64,10 @@ pub record TwiceUsed (form : Form) (lot : LotView) (m : ℕ → List ℕ) : Type
 -- some directory has a row that names the root, or no inode of the lot
 pub record BadEntry (form : Form) (lot : LotView) (m : ℕ → List ℕ) : Type 0 where
   pub number : ℕ
-  pub row : Row
+  pub row : DirRow
   pub reached : IsReached form lot m number
   pub dir : IsDirectory lot (inode_of m number)
-  pub has : Contains (rows_of form m number) row
+  pub has : Contains (dir_rows_of form m number) row
   pub bad : (row.1 ≡ 0) ⊎ (64 * length lot.groups ≤ row.1)
 
 -- two directories have together as many entries as the lot has inodes, one more than there are to name: one is named twice, or the root, or none of the lot
@@ -91,10 +91,10 @@ pub record LeadsToTooMany (form : Form) (lot : LotView) (m : ℕ → List ℕ) :
 -- some directory has a row whose name is none
 pub record BadName (form : Form) (lot : LotView) (m : ℕ → List ℕ) : Type 0 where
   pub number : ℕ
-  pub row : Row
+  pub row : DirRow
   pub reached : IsReached form lot m number
   pub dir : IsDirectory lot (inode_of m number)
-  pub has : Contains (rows_of form m number) row
+  pub has : Contains (dir_rows_of form m number) row
   pub bad : is_name row.0 ≡ false
 
 -- ---- counts and bitmaps

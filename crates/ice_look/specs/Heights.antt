@@ -11,7 +11,7 @@ use Rattle.ice_reads.specs.Tables.{Table, rows_in}
 use Rattle.ice_reads.specs.Reads.{Reads}
 use Rattle.ice_look.specs.declared.place.Place.{Place}
 use Rattle.ice_look.specs.Places.{place_by, PlaceOf, PlaceIs, PlaceReached}
-use Rattle.ice_dir.specs.Rows.{rows_of}
+use Rattle.ice_dir.specs.Rows.{dir_rows_of}
 
 -- the place of the tree that row k of a directory names, which inode i stands for, reached by h names
 pub record IsChild (f : Form) (lot : LotView) (o : Table) (i h k : ℕ) (es : Entries) (place : Place) : Type 0 where
@@ -27,7 +27,7 @@ pub record IsChild (f : Form) (lot : LotView) (o : Table) (i h k : ℕ) (es : En
 pub record IsEntry (form : Form) (lot : LotView) (m : ℕ → List ℕ) (dir k : ℕ) (place : Place) : Type 0 where
   pub name : List ℕ
   pub inode : ℕ
-  pub row : slice_get (rows_of form m dir) k ≡ Some (name, inode)
+  pub row : slice_get (dir_rows_of form m dir) k ≡ Some (name, inode)
   pub is : PlaceIs m place
   pub reached : PlaceReached form lot m place
   pub at : PlaceOf inode place

@@ -4,7 +4,7 @@ use Rattle.std.specs.List.{list_any}
 use Rattle.ice_base.specs.declared.fault.OpFault.{OpFault}
 use Rattle.ice_base.specs.declared.fault.OpFault.TheVariants as op
 use Rattle.tree_spec.specs.Why.{Why}
-use Rattle.tree_spec.specs.Replies.{Response, Refused, Because, Fault, Memory, Plain, refused_of, number_of}
+use Rattle.tree_spec.specs.Replies.{Response, Refused, Because, Fault, Memory, Plain, refused_of, refusal_number}
 use Rattle.tree_spec.specs.declared.reply.Refusal.{Refusal}
 use Rattle.tree_spec.specs.declared.reply.Refusal.TheVariants as code
 use Rattle.ice_rules.specs.Rules.{rule_number}
@@ -45,7 +45,7 @@ ShownBy (Some r) result = meant_plain result ≡ Err (Because r)
 abbrev pub IsOneOf : List ℕ → List ℕ → Refusal → Type 0
 IsOneOf refusals rules (code.Damaged rule) = list_any (nat_eq rule) rules ≡ true
 IsOneOf refusals rules code.Fault = ⊤
-IsOneOf refusals rules r = list_any (nat_eq (number_of r)) refusals ≡ true
+IsOneOf refusals rules r = list_any (nat_eq (refusal_number r)) refusals ≡ true
 
 abbrev pub read_refusals : List ℕ
 read_refusals = 1 ∷ 2 ∷ 3 ∷ 4 ∷ 5 ∷ 10 ∷ []

@@ -6,7 +6,7 @@ use Rattle.ice_base.specs.declared.fault.OpFault.TheVariants.{Disk, Damaged}
 use Rattle.ice_base.specs.declared.fault.Rule.TheVariants.{Kind, Pointer, InodeTwice}
 use Rattle.ice_map.specs.declared.codec.Inode.{Inode}
 use Rattle.ice_map.specs.Inodes.{inode_of}
-use Rattle.ice_dir.specs.Rows.{rows_of, look_up, IsDirectory}
+use Rattle.ice_dir.specs.Rows.{dir_rows_of, look_up, IsDirectory}
 use Rattle.tree_spec.specs.Trees.{Tree, Walk, Found, NotFound, NotDir, walk, rows}
 use Rattle.tree_spec.specs.Trees as tree
 use Rattle.tree_spec.specs.Costs.{Form, form_one}
@@ -33,7 +33,7 @@ IsNode lot inode = ((inode.kind ≡ 1) × (inode.size ≤ form_one.longest_file)
 -- an inode to which the directories of a lot lead, whose entries have so many bytes: the root, or one that a row of such a directory names
 pub data Reached (form : Form) (lot : LotView) (m : ℕ → List ℕ) : ℕ → Type 0 where
   Root : Reached form lot m 0
-  Named : (dir number : ℕ) (name : List ℕ) → Reached form lot m dir → IsDirectory lot (inode_of m dir) → Contains (rows_of form m dir) (name, number) → Reached form lot m number
+  Named : (dir number : ℕ) (name : List ℕ) → Reached form lot m dir → IsDirectory lot (inode_of m dir) → Contains (dir_rows_of form m dir) (name, number) → Reached form lot m number
 
 -- an inode of the lot to which the directories lead
 pub record IsReached (form : Form) (lot : LotView) (m : ℕ → List ℕ) (number : ℕ) : Type 0 where
@@ -70,8 +70,8 @@ PlaceReached form lot m Blocked = ⊤
 
 -- what stands at a place is what a directory at the other place names so
 abbrev pub PlaceNamed : Form → (ℕ → List ℕ) → Place → List ℕ → Place → Type 0
-PlaceNamed form m (Dir dir entries) name (File number size) = look_up name (rows_of form m dir) ≡ Some number
-PlaceNamed form m (Dir dir entries) name (Dir number size) = look_up name (rows_of form m dir) ≡ Some number
+PlaceNamed form m (Dir dir entries) name (File number size) = look_up name (dir_rows_of form m dir) ≡ Some number
+PlaceNamed form m (Dir dir entries) name (Dir number size) = look_up name (dir_rows_of form m dir) ≡ Some number
 PlaceNamed form m _ name (File number size) = ⊥
 PlaceNamed form m _ name (Dir number size) = ⊥
 PlaceNamed form m _ name _ = ⊤

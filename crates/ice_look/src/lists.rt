@@ -1,11 +1,11 @@
 //! Listings of directories.
-ghost use Rattle.std.specs.Prelude.{◌≡◌, ◌≤◌, ◌<◌, ◌+◌, ◌*◌, ◌++◌, ℕ, true, [], ◌∷◌, Some, OnOk, OnErr, IfErr, IsErrOf, length, drop, map, slice_get, IsPermutation, IsSorted};
-ghost use Rattle.ice_base.specs.Disk.{Rose};
+ghost use Rattle.std.specs.Prelude.{◌≡◌, ◌≤◌, ◌<◌, ◌+◌, ◌*◌, ◌++◌, ℕ, true, [], ◌∷◌, Some, OnOk, OnErr, IfErr, length, drop, map, slice_get, IsPermutation, IsSorted};
+ghost use Rattle.ice_base.specs.Disk.{Caused};
 ghost use Rattle.ice_base.specs.Lots.{is_sited};
 ghost use Rattle.ice_base.specs.Views.{Looked, IfShown};
 ghost use Rattle.ice_base.specs.declared.fault.OpFault.TheVariants.{Disk as FaultDisk};
 ghost use Rattle.ice_map.specs.Inodes.{inode_of};
-ghost use Rattle.ice_dir.specs.Rows.{Row, IsDirectory, HasEntry};
+ghost use Rattle.ice_dir.specs.Rows.{DirRow, IsDirectory, HasEntry};
 ghost use Rattle.tree_spec.specs.Answers.{answer};
 ghost use Rattle.tree_spec.specs.Costs.{form_of};
 ghost use Rattle.tree_spec.specs.Held.{by_name, most_entries};
@@ -45,7 +45,7 @@ fn add_entry<D: Disk, V: View<D>, F: Form>(
     requires number { number < 64 * length lot.now.groups }
     requires fits { length room.old.entries < most_entries }
     // Where the inode stands for a tree, it finds what the tree has; the disk alone may fail.
-    ensures added { (h : ℕ) (es : Entries) (row : Row)
+    ensures added { (h : ℕ) (es : Entries) (row : DirRow)
         → IfShown V.View lot.now view.old disk.old (λ old.
         ReadsIn F.VERSION lot.now old number h (Dir es)
         → slice_get (rows_in (form_of F.VERSION) (own (form_of F.VERSION) old number))
@@ -68,7 +68,7 @@ fn add_entry<D: Disk, V: View<D>, F: Form>(
     ensures looked { Looked D.Disk V.View lot.now view.old disk.old view.new disk.new }
     // Which refusals there are, and when a fault comes.
     ensures faults { IfErr result IsListFault }
-    ensures failed { IsErrOf result FaultDisk → Rose (D.state disk.old).faults (D.state disk.new).faults }
+    ensures failed { Caused D.state FaultDisk result disk.old disk.new }
 {
     let mut name = blank_name();
     let next = entry::<D, V, F>(view, disk, lot, number, k, &mut name)?;
@@ -114,7 +114,7 @@ fn add_entries<D: Disk, V: View<D>, F: Form>(
     ensures looked { Looked D.Disk V.View lot.now view.old disk.old view.new disk.new }
     // Which refusals there are, and when a fault comes.
     ensures faults { IfErr result IsListFault }
-    ensures failed { IsErrOf result FaultDisk → Rose (D.state disk.old).faults (D.state disk.new).faults }
+    ensures failed { Caused D.state FaultDisk result disk.old disk.new }
 {
     for k in 0..count {
         add_entry::<D, V, F>(view, disk, lot, number, k, room)?;
@@ -172,7 +172,7 @@ pub fn list<D: Disk, V: View<D>, F: Form>(
     ensures looked { Looked D.Disk V.View lot.now view.old disk.old view.new disk.new }
     // Which refusals there are, and when a fault comes.
     ensures set { IfErr result (IsOneOf look_refusals list_rules) }
-    ensures failed { IsErrOf result Fault → Rose (D.state disk.old).faults (D.state disk.new).faults }
+    ensures failed { Caused D.state Fault result disk.old disk.new }
 {
     if let Err(refusal) = check_path::<F>(path, depth) {
         return Err(refusal);

@@ -1,9 +1,9 @@
 //! Commands that change nothing.
-ghost use Rattle.std.specs.Prelude.{◌≡◌, ◌≤◌, ◌<◌, ◌*◌, ℕ, List, true, [], ◌∷◌, IfOk, IfErr, IsErrOf, length, drop};
-ghost use Rattle.ice_base.specs.Disk.{Rose};
+ghost use Rattle.std.specs.Prelude.{◌≡◌, ◌≤◌, ◌<◌, ◌*◌, ℕ, List, true, [], ◌∷◌, IfOk, IfErr, length, drop};
+ghost use Rattle.ice_base.specs.Disk.{Caused};
 ghost use Rattle.ice_base.specs.Lots.{is_sited};
 ghost use Rattle.ice_base.specs.Views.{Looked, IfShown};
-ghost use Rattle.tree_spec.specs.Held.{Held, most_bytes};
+ghost use Rattle.tree_spec.specs.Held.{RoomContent, most_bytes};
 ghost use Rattle.tree_spec.specs.Answers.{answer};
 ghost use Rattle.tree_spec.specs.Costs.{form_of, form_one};
 ghost use Rattle.tree_spec.specs.Operations.{Read, Stat};
@@ -62,7 +62,7 @@ pub fn file_at<D: Disk, V: View<D>, F: Form>(
     ensures looked { Looked D.Disk V.View lot.now view.old disk.old view.new disk.new }
     // Which refusals there are, and when a fault comes.
     ensures set { IfErr result (IsOneOf read_refusals look_rules) }
-    ensures failed { IsErrOf result Fault → Rose (D.state disk.old).faults (D.state disk.new).faults }
+    ensures failed { Caused D.state Fault result disk.old disk.new }
 {
     match walk::<D, V, F>(view, disk, lot, path, depth, path.len()) {
         Ok(Place::File { number, size }) => Ok(FileAt { number, size }),
@@ -108,7 +108,7 @@ pub(crate) fn dir_at<D: Disk, V: View<D>, F: Form>(
     ensures looked { Looked D.Disk V.View lot.now view.old disk.old view.new disk.new }
     // Which refusals there are, and when a fault comes.
     ensures set { IfErr result (IsOneOf look_refusals look_rules) }
-    ensures failed { IsErrOf result Fault → Rose (D.state disk.old).faults (D.state disk.new).faults }
+    ensures failed { Caused D.state Fault result disk.old disk.new }
 {
     match walk::<D, V, F>(view, disk, lot, path, depth, path.len()) {
         Ok(Place::Dir { number, size }) => Ok(DirAt {
@@ -159,7 +159,7 @@ pub fn read<D: Disk, V: View<D>, F: Form>(
     ensures looked { Looked D.Disk V.View lot.now view.old disk.old view.new disk.new }
     // Which refusals there are, and when a fault comes.
     ensures set { IfErr result (IsOneOf read_refusals look_rules) }
-    ensures failed { IsErrOf result Fault → Rose (D.state disk.old).faults (D.state disk.new).faults }
+    ensures failed { Caused D.state Fault result disk.old disk.new }
 {
     if let Err(refusal) = check_path::<F>(path, depth) {
         return Err(refusal);
@@ -191,10 +191,10 @@ pub fn stat<D: Disk, V: View<D>, F: Form>(
     requires some { 1 ≤ length lot.now.groups }
     requires depth { depth ≤ length path.now }
     // Over a lot that recovers a tree, the answer is the model's.
-    ensures answers { (room : Held) → AnswersAs V.View F.VERSION lot.now view.old disk.old
+    ensures answers { (room : RoomContent) → AnswersAs V.View F.VERSION lot.now view.old disk.old
         (Stat (drop depth path.now)) (meant result room) }
     // What it answers of any lot, damaged or not.
-    ensures tallies { (room : Held) → Tallies result room }
+    ensures tallies { (room : RoomContent) → Tallies result room }
     // Damage that it names is there.
     ensures damaged { NamesBroken V.View (form_of F.VERSION) lot.now view.old disk.old result }
     // Names alone refuse a path before any call of the disk.
@@ -205,7 +205,7 @@ pub fn stat<D: Disk, V: View<D>, F: Form>(
     ensures looked { Looked D.Disk V.View lot.now view.old disk.old view.new disk.new }
     // Which refusals there are, and when a fault comes.
     ensures set { IfErr result (IsOneOf look_refusals look_rules) }
-    ensures failed { IsErrOf result Fault → Rose (D.state disk.old).faults (D.state disk.new).faults }
+    ensures failed { Caused D.state Fault result disk.old disk.new }
 {
     if let Err(refusal) = check_path::<F>(path, depth) {
         return Err(refusal);

@@ -1,6 +1,6 @@
 //! A block of a map that is to be written.
 ghost use Rattle.std.specs.Prelude.{◌≡◌, ◌≤◌, ◌<◌, ◌+◌, ◌*◌, ◌^◌, max, true, false, OnOk, IfOk, IfErr, IsErrOf};
-ghost use Rattle.ice_base.specs.Disk.{Rose};
+ghost use Rattle.ice_base.specs.Disk.{Caused};
 ghost use Rattle.ice_base.specs.Lots.{is_sited};
 ghost use Rattle.ice_base.specs.Used.{is_data, counted, free_count, Reserved};
 ghost use Rattle.ice_base.specs.Views.{Looked, Spent, AsShown, IfShown};
@@ -9,7 +9,7 @@ ghost use Rattle.ice_base.specs.declared.fault.Rule.TheVariants.{Counts, Pointer
 ghost use Rattle.ice_map.specs.Faults.{IsGrowFault};
 ghost use Rattle.ice_map.specs.Growth.{Grew, InodesStay, Strays};
 ghost use Rattle.ice_map.specs.Maps.{longest, needs, nth_block};
-ghost use Rattle.ice_map.specs.Moves.{Reached, due};
+ghost use Rattle.ice_map.specs.Moves.{HadBlock, due};
 ghost use Rattle.ice_map.specs.Own.{MadeOf};
 
 use crate::codec::Inode;
@@ -36,7 +36,7 @@ pub fn reach<D: Disk, K: Keep<D>, P: Pool<D, K>, F: Form>(
     // the block, at a data place: that of the map, or a new one
     ensures reached { AsShown K.View lot.now keep.old disk.old keep.new disk.new (λ old new.
         MadeOf lot.now old inode.old count
-        → IfOk result (Reached lot.now old new inode.old inode.new count k)) }
+        → IfOk result (HadBlock lot.now old new inode.old inode.new count k)) }
     ensures data { IfOk result (λ a. is_data lot.now a ≡ true) }
     ensures had { AsShown K.View lot.now keep.old disk.old keep.new disk.new (λ old new.
         k < count → IfOk result (λ a. (a ≡ nth_block old inode.old k) × (new ≡ old))) }
@@ -64,7 +64,7 @@ pub fn reach<D: Disk, K: Keep<D>, P: Pool<D, K>, F: Form>(
     ensures unmoved { IsErrOf result (Damaged Pointer)
         → Looked D.Disk K.View lot.now keep.old disk.old keep.new disk.new }
     ensures faults { IfErr result IsGrowFault }
-    ensures failed { IsErrOf result FaultDisk → Rose (D.state disk.old).faults (D.state disk.new).faults }
+    ensures failed { Caused D.state FaultDisk result disk.old disk.new }
 {
     if k < count {
         let at = nth::<D, K, F>(keep, disk, lot, inode, k)?;

@@ -1,6 +1,6 @@
 //! Takes and gives, alike for blocks and inodes.
 ghost use Rattle.std.specs.Prelude.{is_ok, ◌≡◌, ◌≢◌, ◌≤◌, ◌<◌, ◌+◌, ◌-◌, ◌*◌, ◌/◌, ◌%◌, ◌^◌, true, false, cond, [], ◌∷◌, OnOk, OnErr, IfOk, IfErr, IsErrOf, length};
-ghost use Rattle.ice_base.specs.Disk.{Rose};
+ghost use Rattle.ice_base.specs.Disk.{Rose, Caused};
 ghost use Rattle.ice_base.specs.Fields.{WordSet};
 ghost use Rattle.ice_base.specs.Lots.{is_sited, sub_address};
 ghost use Rattle.ice_base.specs.Spare.{lacks, FitsAny};
@@ -11,7 +11,7 @@ ghost use Rattle.ice_base.specs.Pools.{Took, Gave, PutsFor, PutsInOne};
 ghost use Rattle.ice_base.specs.declared.fault.Rule.{Rule};
 ghost use Rattle.ice_base.specs.declared.fault.OpFault.TheVariants.{Disk as FaultDisk, Damaged};
 ghost use Rattle.ice_base.specs.declared.fault.Rule.TheVariants.{Counts, Bitmap};
-ghost use Rattle.ice_pool.specs.Either.{absent, IsTakeFault, IsAbsentFault, IsCountFault};
+ghost use Rattle.ice_pool.specs.Either.{absent, IsTakeFault, IsAbsentFault, IsCountsFault};
 
 use crate::find::find;
 use ice_base::{
@@ -54,8 +54,8 @@ pub fn move_count<D: Disk, V: View<D>>(
     ensures end { IsErrOf result (Damaged Counts) → IfShown V.View lot.now view.old disk.old (λ old.
         counted inodes old ≡ cond up (2 ^ 32 - 1) 0) }
     ensures looked { Looked D.Disk V.View lot.now view.old disk.old view.new disk.new }
-    ensures faults { IfErr result IsCountFault }
-    ensures failed { IsErrOf result FaultDisk → Rose (D.state disk.old).faults (D.state disk.new).faults }
+    ensures faults { IfErr result IsCountsFault }
+    ensures failed { Caused D.state FaultDisk result disk.old disk.new }
 {
     fetch(view, disk, lot, SUB, sub)?;
     let at = if inodes { 28 } else { 24 };
@@ -132,7 +132,7 @@ pub fn take<D: Disk, K: Keep<D>>(
     ensures looked_damaged { (rule : Rule) → IsErrOf result (Damaged rule)
         → Looked D.Disk K.View lot.now keep.old disk.old keep.new disk.new }
     ensures faults { IfErr result (IsTakeFault inodes) }
-    ensures failed { IsErrOf result FaultDisk → Rose (D.state disk.old).faults (D.state disk.new).faults }
+    ensures failed { Caused D.state FaultDisk result disk.old disk.new }
 {
     let mut bitmap = [0; 1024];
     let mut sub = [0; 1024];
@@ -167,7 +167,7 @@ pub fn give<D: Disk, K: Keep<D>>(
     ensures looked_damaged { (rule : Rule) → IsErrOf result (Damaged rule)
         → Looked D.Disk K.View lot.now keep.old disk.old keep.new disk.new }
     ensures faults { IfErr result IsGiveFault }
-    ensures failed { IsErrOf result FaultDisk → Rose (D.state disk.old).faults (D.state disk.new).faults }
+    ensures failed { Caused D.state FaultDisk result disk.old disk.new }
 {
     let mut bitmap = [0; 1024];
     let mut sub = [0; 1024];

@@ -27,7 +27,9 @@ fn pass<H: Host>(
     ensures cause { IfErr result (λ status. StreamCause status (H.state host.old).streams (H.state host.new).streams) }
     ensures count { IfOk result (λ n. taken + n ≤ longest_script) }
     ensures ready { session.new.reader.ended ≡ false }
-    ensures passes { (w : World) (start : H) → Stands w (H.state start) → Fed H.state H.left w start taken host.old session.old.reader → Passes H.state H.left w start taken result host.new session.new.reader }
+    ensures passes { (w : World) (start : H) → Stands w (H.state start)
+        → Fed H.state H.left w start taken host.old session.old.reader
+        → Passes H.state H.left w start taken result host.new session.new.reader }
 {
     let count = match take_piece(host, piece, taken) {
         Ok(count) => count,

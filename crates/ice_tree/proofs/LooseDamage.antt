@@ -16,7 +16,7 @@ use Rattle.ice_map.specs.Own.{blocks_for, map_length}
 use Rattle.ice_map.specs.Moves.{uses_of}
 use Rattle.ice_map.proofs.OwnLaws.{length-uses, uses-single}
 use Rattle.ice_map.proofs.CutLaws.{same-run}
-use Rattle.ice_dir.specs.Changes.{dir_blocks, dir_uses, EntryGone}
+use Rattle.ice_dir.specs.Changes.{entry_blocks, dir_uses, EntryGone}
 use Rattle.ice_dir.specs.Rows.{IsDirectory}
 use Rattle.ice_look.specs.Broken.{IsBrokenBy, IsFaultBy, BadPointer, FreeBlock, TwiceUsed, FewCounted, node_uses}
 use Rattle.ice_tree.specs.Removes.{LooseBroken}
@@ -101,12 +101,12 @@ few-two form lot m one other c d r s x y long long_too apart few = record {
 
 -- an entry of a directory was taken
 module _ (form : Form) (lot : LotView) (m0 m1 : ℕ → List ℕ) (dir : ℕ) (reached : IsReached form lot m0 dir) (is : IsDirectory lot (inode_of m0 dir)) (gone : EntryGone lot form m0 m1 dir) where
-  long : map_length form (inode_of m0 dir) ≡ dir_blocks form (inode_of m0 dir).size
+  long : map_length form (inode_of m0 dir) ≡ entry_blocks form (inode_of m0 dir).size
   long = map-dir form (inode_of m0 dir) is.kind
 
   -- the directory uses a block twice
   pub dir-twice : HasTwice (dir_uses form m0 dir) → TwiceUsed form lot m0
-  dir-twice t = twice-used form lot m0 dir (dir_blocks form (inode_of m0 dir).size) reached (inr is) long t
+  dir-twice t = twice-used form lot m0 dir (entry_blocks form (inode_of m0 dir).size) reached (inr is) long t
 
   -- what is damaged of a file that stands loose now, or of an empty directory
   module _ (number : ℕ) (there : IsReached form lot m0 number) where
@@ -127,13 +127,13 @@ module _ (form : Form) (lot : LotView) (m0 m1 : ℕ → List ℕ) (dir : ℕ) (r
       length-is = map-file form (inode_of m0 number) file
 
       both : (b : ℕ) → has (dir_uses form m0 dir) b ≡ true → has (uses m0 (inode_of m0 number) (blocks_for (inode_of m0 number).size)) b ≡ true → TwiceUsed form lot m0
-      both b h g = shared form lot m0 number dir (blocks_for (inode_of m0 number).size) (dir_blocks form (inode_of m0 dir).size) b there reached node (inr is) length-is long (apart kind) g h
+      both b h g = shared form lot m0 number dir (blocks_for (inode_of m0 number).size) (entry_blocks form (inode_of m0 dir).size) b there reached node (inr is) length-is long (apart kind) g h
 
       file-few : counted false m1 < uses_of (blocks_for (inode_of m1 number).size) → FewCounted form lot m0
       file-few few =
           let s = ap (λ (i : Inode). uses_of (blocks_for i.size)) same in
           let c = gone.counts in
-          few-two form lot m0 number dir (blocks_for (inode_of m0 number).size) (dir_blocks form (inode_of m0 dir).size) there reached node (inr is) length-is long (apart kind) (omega arith)
+          few-two form lot m0 number dir (blocks_for (inode_of m0 number).size) (entry_blocks form (inode_of m0 dir).size) there reached node (inr is) length-is long (apart kind) (omega arith)
 
       file-misled : Misleads lot m1 (inode_of m1 number) (blocks_for (inode_of m1 number).size) → BadPointer form lot m0 ⊎ TwiceUsed form lot m0
       file-misled bad =

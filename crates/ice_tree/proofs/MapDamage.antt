@@ -11,7 +11,7 @@ use Rattle.ice_map.proofs.MapLaws.{leads-direct, leads-single, leads-lost}
 use Rattle.ice_map.specs.Own.{blocks_for}
 use Rattle.ice_map.specs.Moves.{uses_of}
 use Rattle.ice_map.proofs.OwnLaws.{nth-moves}
-use Rattle.ice_dir.specs.Changes.{dir_blocks}
+use Rattle.ice_dir.specs.Changes.{entry_blocks}
 use Rattle.ice_dir.proofs.PutLaws.{dir-sixteenth}
 use Rattle.tree_spec.specs.Costs.{form_one, Form}
 use Rattle.ice_reads.specs.Tables.{Map}
@@ -21,12 +21,12 @@ uses-few : (b : Bool) (c : ℕ) → c + cond b 1 0 ≤ c + 1
 uses-few true c = omega arith
 uses-few false c = omega arith
 
-pub dir-few : (form : Form) (n : ℕ) → form ≡ form_one → n ≤ 4096 → uses_of (dir_blocks form n) ≤ 300
+pub dir-few : (form : Form) (n : ℕ) → form ≡ form_one → n ≤ 4096 → uses_of (entry_blocks form n) ≤ 300
 dir-few form n e h =
     let s = dir-sixteenth form n e in
     let a = div-add-mod' (n + 15) 16 in
     let r = mod_below (n + 15) 16 (omega arith) in
-    omega (arith, s, a, r, h, uses-few (nat_lt 12 (dir_blocks form n)) (dir_blocks form n))
+    omega (arith, s, a, r, h, uses-few (nat_lt 12 (entry_blocks form n)) (entry_blocks form n))
 
 pub file-few : (n : ℕ) → n ≤ form_one.longest_file → uses_of (blocks_for n) ≤ 300
 file-few n h =

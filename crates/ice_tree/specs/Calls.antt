@@ -8,7 +8,7 @@ use Rattle.ice_base.specs.declared.view.View as view
 use Rattle.tree_spec.specs.Answers.{answer}
 use Rattle.tree_spec.specs.Costs.{form_of}
 use Rattle.tree_spec.specs.Operations.{Operation}
-use Rattle.tree_spec.specs.Replies.{number_of}
+use Rattle.tree_spec.specs.Replies.{refusal_number}
 use Rattle.tree_spec.specs.Trees.{Tree}
 use Rattle.tree_spec.specs.Why.{Why}
 use Rattle.tree_spec.specs.declared.reply.Refusal.{Refusal}
@@ -26,7 +26,7 @@ UntouchedAll version paths v p e w q f = (r : Why) → paths_refusal (form_of ve
 
 -- a refusal that is neither damage nor a fault comes before anything is changed
 abbrev pub LooksIfRefused : {A V D : Type 0} → disk.Ghosts D → view.Ghosts V D → LotView → V → D → V → D → Result A Refusal → Type 0
-LooksIfRefused d view lot v e w f result = IfErr result (λ r. number_of r ≤ 14 → Looked d view lot v e w f)
+LooksIfRefused d view lot v e w f result = IfErr result (λ r. refusal_number r ≤ 14 → Looked d view lot v e w f)
 
 -- the count of accepted operations stays
 abbrev pub KeepsDone : {A E V D : Type 0} → view.Ghosts V D → LotView → V → D → V → D → Result A E → Type 0

@@ -16,7 +16,7 @@ use Rattle.ice_look.specs.declared.looks.DirAt.{DirAt}
 use Rattle.ice_look.specs.Stages.{or_else, walk_refusal}
 use Rattle.ice_base.specs.Used.{free_count}
 use Rattle.ice_map.specs.Moves.{uses_of}
-use Rattle.ice_dir.specs.Changes.{dir_blocks}
+use Rattle.ice_dir.specs.Changes.{entry_blocks}
 use Rattle.ice_look.specs.Ends.{IsDirAt, DirIs}
 use Rattle.ice_tree.specs.Quotas.{CanCount}
 
@@ -46,5 +46,5 @@ pub record NewFits (form : Form) (lot : LotView) (m : ℕ → List ℕ) (spot : 
   pub spot_is : DirIs form lot m spot
   pub room : spot.entries + 1 < 64 * length lot.groups
   pub node : 1 ≤ free_count true lot m
-  pub blocks : uses_of (dir_blocks form (spot.entries + 1)) ≤ uses_of (dir_blocks form spot.entries) + free_count false lot m
+  pub blocks : uses_of (entry_blocks form (spot.entries + 1)) ≤ uses_of (entry_blocks form spot.entries) + free_count false lot m
   pub done : CanCount m

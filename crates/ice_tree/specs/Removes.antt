@@ -26,7 +26,7 @@ use Rattle.ice_base.specs.declared.fault.Rule.{Rule}
 use Rattle.ice_base.specs.declared.fault.Rule.TheVariants as rule
 use Rattle.ice_map.specs.Maps.{uses, Misleads, UsesUnmarked, HasTwice}
 use Rattle.ice_map.specs.Moves.{uses_of}
-use Rattle.ice_dir.specs.Rows.{rows_of, look_up}
+use Rattle.ice_dir.specs.Rows.{dir_rows_of, look_up}
 
 -- the refusal of a removal by what stands at the path
 abbrev pub removal_refusal : List (List ℕ) → Tree → Option Why
@@ -72,7 +72,7 @@ pub record StandsLoose (f : Form) (mode : ℕ) (lot : LotView) (m : Map) (t : Tr
 -- what is removed: a directory names it so, and a file has its bytes
 pub record RemovalIs (form : Form) (lot : LotView) (m : ℕ → List ℕ) (name : List ℕ) (gone : Removal) : Type 0 where
   pub spot_is : DirIs form lot m gone.spot
-  pub named : look_up name (rows_of form m gone.spot.number) ≡ Some gone.number
+  pub named : look_up name (dir_rows_of form m gone.spot.number) ≡ Some gone.number
   pub reached : IsReached form lot m gone.number
   pub file : 0 < gone.bytes → ReachesTo form_one 0 (inode_of m gone.number)
 

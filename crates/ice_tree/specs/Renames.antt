@@ -1,7 +1,7 @@
 -- Trees that are moved.
 use Rattle.std.specs.Prelude.{◌≡◌, ◌≤◌, ◌<◌, ℕ, ◌*◌, Bool, true, false, List, length, Some, ◌||◌, Option, None, if◌then◌else◌, ◌≢◌, ◌+◌, ◌-◌}
 use Rattle.ice_base.specs.Lots.{LotView}
-use Rattle.ice_dir.specs.Rows.{rows_of, look_up}
+use Rattle.ice_dir.specs.Rows.{dir_rows_of, look_up}
 use Rattle.tree_spec.specs.Trees.{Tree, walk, parent, last_name, parent_walk}
 use Rattle.tree_spec.specs.Costs.{Form}
 use Rattle.ice_reads.specs.Tables.{Table, Map}
@@ -19,7 +19,7 @@ use Rattle.ice_look.specs.Ends.{IsDirAt, DirFits, DirIs}
 use Rattle.ice_look.specs.Stages.{or_else}
 use Rattle.ice_base.specs.Used.{free_count}
 use Rattle.ice_map.specs.Moves.{uses_of}
-use Rattle.ice_dir.specs.Changes.{dir_blocks}
+use Rattle.ice_dir.specs.Changes.{entry_blocks}
 use Rattle.ice_tree.specs.Quotas.{CanCount}
 
 -- whether a file or a directory stands at a place
@@ -74,11 +74,11 @@ pub record MoveIs (form : Form) (lot : LotView) (m : ℕ → List ℕ) (name : L
   pub to_is : DirIs form lot m step.to
   pub number : ℕ
   pub below : number < 64 * length lot.groups
-  pub named : look_up name (rows_of form m step.from.number) ≡ Some number
+  pub named : look_up name (dir_rows_of form m step.from.number) ≡ Some number
 
 -- as many inodes and blocks are there as a rename needs, and one more operation can be counted
 pub record RowFits (form : Form) (lot : LotView) (m : ℕ → List ℕ) (step : Move) : Type 0 where
   pub room : step.from.number ≢ step.to.number → step.from.entries + step.to.entries < 64 * length lot.groups
   pub blocks : step.same ≡ false → step.from.number ≢ step.to.number
-      → uses_of (dir_blocks form (step.to.entries + 1)) + uses_of (dir_blocks form (step.from.entries - 1)) ≤ uses_of (dir_blocks form step.to.entries) + uses_of (dir_blocks form step.from.entries) + free_count false lot m
+      → uses_of (entry_blocks form (step.to.entries + 1)) + uses_of (entry_blocks form (step.from.entries - 1)) ≤ uses_of (entry_blocks form step.to.entries) + uses_of (entry_blocks form step.from.entries) + free_count false lot m
   pub done : CanCount m

@@ -1,6 +1,6 @@
 //! The number of accepted operations in the sub-super block.
 ghost use Rattle.std.specs.Prelude.{◌≡◌, ◌≤◌, ◌<◌, ◌+◌, ◌^◌, true, Some, OnOk, IfOk, IfErr, IsErrOf};
-ghost use Rattle.ice_base.specs.Disk.{Rose};
+ghost use Rattle.ice_base.specs.Disk.{Caused};
 ghost use Rattle.ice_base.specs.Fields.{long_at};
 ghost use Rattle.ice_base.specs.Lots.{is_sited, sub_address};
 ghost use Rattle.ice_base.specs.Views.{Looked, Spent, AsShown, IfShown};
@@ -48,7 +48,7 @@ pub(crate) fn done_of<D: Disk, V: View<D>, F: Form>(
     ensures looked { Looked D.Disk V.View lot.now view.old disk.old view.new disk.new }
     // Which refusals there are, and when a fault comes.
     ensures faults { IfErr result (IsNamedIn sub_rules) }
-    ensures failed { IsErrOf result FaultDisk → Rose (D.state disk.old).faults (D.state disk.new).faults }
+    ensures failed { Caused D.state FaultDisk result disk.old disk.new }
 {
     let mut block = [0; 1024];
     fetch(view, disk, lot, SUB, &mut block)?;
@@ -79,7 +79,7 @@ pub(crate) fn count_up<D: Disk, K: Keep<D>>(
     ensures spent { Spent D.Disk K.View lot.now 1 keep.old disk.old keep.new disk.new }
     // Which refusals there are, and when a fault comes.
     ensures faults { IfErr result IsCountFault }
-    ensures failed { IsErrOf result FaultDisk → Rose (D.state disk.old).faults (D.state disk.new).faults }
+    ensures failed { Caused D.state FaultDisk result disk.old disk.new }
 {
     let mut block = [0; 1024];
     fetch(keep, disk, lot, SUB, &mut block)?;

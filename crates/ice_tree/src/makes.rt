@@ -1,10 +1,10 @@
 //! New files and directories.
-ghost use Rattle.std.specs.Prelude.{◌≡◌, ◌≤◌, ◌<◌, ◌+◌, ◌*◌, ◌⊎◌, ℕ, Bool, List, true, false, [], ◌∷◌, OnOk, IfOk, IfErr, IsErrOf, length, drop};
-ghost use Rattle.ice_base.specs.Disk.{Rose};
+ghost use Rattle.std.specs.Prelude.{◌≡◌, ◌≤◌, ◌<◌, ◌+◌, ◌*◌, ◌⊎◌, ℕ, Bool, List, true, false, [], ◌∷◌, OnOk, IfOk, IfErr, length, drop};
+ghost use Rattle.ice_base.specs.Disk.{Caused};
 ghost use Rattle.ice_base.specs.Lots.{LotView, is_sited, sub_address};
 ghost use Rattle.ice_base.specs.Views.{Looked, Spent, AsShown, IfShown};
 ghost use Rattle.ice_base.specs.declared.fault.OpFault.TheVariants.{Disk as FaultDisk};
-ghost use Rattle.tree_spec.specs.Answers.{answer, next, refusal, is_root};
+ghost use Rattle.tree_spec.specs.Answers.{answer, next_tree, refusal, is_root};
 ghost use Rattle.tree_spec.specs.Costs.{Form, form_of};
 ghost use Rattle.tree_spec.specs.Operations.{Mkdir, Make};
 ghost use Rattle.tree_spec.specs.Trees.{Tree, parent};
@@ -99,7 +99,7 @@ fn check_new<D: Disk, K: Keep<D>, P: Pool<D, K>, F: Form>(
     ensures looked { Looked D.Disk K.View lot.now keep.old disk.old keep.new disk.new }
     // Which refusals there are, and when a fault comes.
     ensures set { IfErr result (IsOneOf make_refusals change_rules) }
-    ensures failed { IsErrOf result Fault → Rose (D.state disk.old).faults (D.state disk.new).faults }
+    ensures failed { Caused D.state Fault result disk.old disk.new }
 {
     if let Err(refusal) = check_path::<F>(path, depth) {
         return Err(refusal);
@@ -162,7 +162,7 @@ fn put_node<D: Disk, K: Keep<D>, P: Pool<D, K>, F: Form>(
         → AsShown K.View lot.now keep.old disk.old keep.new disk.new (λ old new.
         Takes (form_of F.VERSION) mode lot.now old t k p dir spot.now name.now
         → OnOk result (MapRecovers (form_of F.VERSION) mode lot.now new
-        (next (new_operation dir p) t) k)) }
+        (next_tree (new_operation dir p) t) k)) }
     ensures sound { (mode k : ℕ) (t : Tree) (p : List (List ℕ))
         → IfShown K.View lot.now keep.old disk.old (λ old.
         Takes (form_of F.VERSION) mode lot.now old t k p dir spot.now name.now
@@ -175,7 +175,7 @@ fn put_node<D: Disk, K: Keep<D>, P: Pool<D, K>, F: Form>(
     ensures done { KeepsDone K.View lot.now keep.old disk.old keep.new disk.new result }
     // Which refusals there are, and when a fault comes.
     ensures faults { IfErr result (IsNamedIn change_rules) }
-    ensures failed { IsErrOf result FaultDisk → Rose (D.state disk.old).faults (D.state disk.new).faults }
+    ensures failed { Caused D.state FaultDisk result disk.old disk.new }
 {
     let number = pool.take_inode(keep, disk, lot)?;
     if number == spot.number {
@@ -206,7 +206,7 @@ fn put_new<D: Disk, K: Keep<D>, P: Pool<D, K>, F: Form>(
         → AsShown K.View lot.now keep.old disk.old keep.new disk.new (λ old new.
         Takes (form_of F.VERSION) mode lot.now old t k p dir spot.now name.now
         → OnOk result (MapRecovers (form_of F.VERSION) mode lot.now new
-        (next (new_operation dir p) t) (k + 1))) }
+        (next_tree (new_operation dir p) t) (k + 1))) }
     ensures sound { (mode k : ℕ) (t : Tree) (p : List (List ℕ))
         → IfShown K.View lot.now keep.old disk.old (λ old.
         Takes (form_of F.VERSION) mode lot.now old t k p dir spot.now name.now
@@ -219,7 +219,7 @@ fn put_new<D: Disk, K: Keep<D>, P: Pool<D, K>, F: Form>(
     ensures spent { Spent D.Disk K.View lot.now 12 keep.old disk.old keep.new disk.new }
     // Which refusals there are, and when a fault comes.
     ensures faults { IfErr result (IsNamedIn change_rules) }
-    ensures failed { IsErrOf result FaultDisk → Rose (D.state disk.old).faults (D.state disk.new).faults }
+    ensures failed { Caused D.state FaultDisk result disk.old disk.new }
 {
     put_node::<D, K, P, F>(keep, pool, disk, lot, spot, name, dir)?;
     count_up(keep, disk, lot)?;
@@ -258,7 +258,7 @@ fn make_node<D: Disk, K: Keep<D>, P: Pool<D, K>, F: Form>(
     ensures spent { Spent D.Disk K.View lot.now 96 keep.old disk.old keep.new disk.new }
     // Which refusals there are, and when a fault comes.
     ensures set { IfErr result (IsOneOf make_refusals change_rules) }
-    ensures failed { IsErrOf result Fault → Rose (D.state disk.old).faults (D.state disk.new).faults }
+    ensures failed { Caused D.state Fault result disk.old disk.new }
 {
     let spot = match check_new::<D, K, P, F>(keep, pool, disk, lot, path, depth) {
         Ok(spot) => spot,
@@ -302,7 +302,7 @@ pub fn mkdir<D: Disk, K: Keep<D>, P: Pool<D, K>, F: Form>(
     ensures spent { Spent D.Disk K.View lot.now 96 keep.old disk.old keep.new disk.new }
     // Which refusals there are, and when a fault comes.
     ensures set { IfErr result (IsOneOf make_refusals change_rules) }
-    ensures failed { IsErrOf result Fault → Rose (D.state disk.old).faults (D.state disk.new).faults }
+    ensures failed { Caused D.state Fault result disk.old disk.new }
 {
     make_node::<D, K, P, F>(keep, pool, disk, lot, path, depth, true)
 }
@@ -338,7 +338,7 @@ pub fn make<D: Disk, K: Keep<D>, P: Pool<D, K>, F: Form>(
     ensures spent { Spent D.Disk K.View lot.now 96 keep.old disk.old keep.new disk.new }
     // Which refusals there are, and when a fault comes.
     ensures set { IfErr result (IsOneOf make_refusals change_rules) }
-    ensures failed { IsErrOf result Fault → Rose (D.state disk.old).faults (D.state disk.new).faults }
+    ensures failed { Caused D.state Fault result disk.old disk.new }
 {
     make_node::<D, K, P, F>(keep, pool, disk, lot, path, depth, false)
 }

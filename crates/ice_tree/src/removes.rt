@@ -1,13 +1,13 @@
 //! Files and empty directories that are taken away.
 ghost use Rattle.std.specs.Prelude.{◌≡◌, ◌≢◌, ◌≤◌, ◌<◌, ◌+◌, ◌*◌, ℕ, List, true, false, [], ◌∷◌, Some, None, OnOk, IfOk, IfErr, IsErrOf, MatchResult, length, drop};
-ghost use Rattle.ice_base.specs.Disk.{Rose};
+ghost use Rattle.ice_base.specs.Disk.{Caused};
 ghost use Rattle.ice_base.specs.Lots.{LotView, is_sited, sub_address};
 ghost use Rattle.ice_base.specs.Used.{used_inode, counted};
 ghost use Rattle.ice_base.specs.Views.{Looked, Spent, AsShown, IfShown};
 ghost use Rattle.ice_base.specs.declared.fault.OpFault.TheVariants.{Disk as FaultDisk};
 ghost use Rattle.ice_map.specs.Inodes.{inode_of};
 ghost use Rattle.ice_file.specs.Files.{ReachesTo};
-ghost use Rattle.tree_spec.specs.Answers.{answer, next, is_root};
+ghost use Rattle.tree_spec.specs.Answers.{answer, next_tree, is_root};
 ghost use Rattle.tree_spec.specs.Costs.{Form, form_one, form_of};
 ghost use Rattle.tree_spec.specs.Operations.{Remove};
 ghost use Rattle.tree_spec.specs.Trees.{Tree, last_name};
@@ -124,7 +124,7 @@ fn find_removal<D: Disk, V: View<D>, F: Form>(
     ensures looked { Looked D.Disk V.View lot.now view.old disk.old view.new disk.new }
     // Which refusals there are, and when a fault comes.
     ensures set { IfErr result (IsOneOf remove_refusals change_rules) }
-    ensures failed { IsErrOf result Fault → Rose (D.state disk.old).faults (D.state disk.new).faults }
+    ensures failed { Caused D.state Fault result disk.old disk.new }
 {
     if path.len() == depth {
         return Err(Refusal::IsRoot);
@@ -153,7 +153,7 @@ fn check_removal<D: Disk, K: Keep<D>, P: Pool<D, K>, F: Form>(
         MapRecovers (form_of F.VERSION) mode lot.now old t k
         → IsRemoval (form_of F.VERSION) (own (form_of F.VERSION) old) p t gone.now
         → removal_refusal p t ≡ None → RefusedBy
-        (quota_refusal (length lot.now.groups) (form_of F.VERSION) k (next (Remove p) t)) result) }
+        (quota_refusal (length lot.now.groups) (form_of F.VERSION) k (next_tree (Remove p) t)) result) }
     // What it answers of any lot, damaged or not.
     ensures room { IfShown K.View lot.now keep.old disk.old (λ old. OnOk result (CanCount old)) }
     // Damage that it names is there.
@@ -162,7 +162,7 @@ fn check_removal<D: Disk, K: Keep<D>, P: Pool<D, K>, F: Form>(
     ensures looked { Looked D.Disk K.View lot.now keep.old disk.old keep.new disk.new }
     // Which refusals there are, and when a fault comes.
     ensures set { IfErr result (IsOneOf remove_refusals sub_rules) }
-    ensures failed { IsErrOf result Fault → Rose (D.state disk.old).faults (D.state disk.new).faults }
+    ensures failed { Caused D.state Fault result disk.old disk.new }
 {
     let need = Need {
         nodes: 0,
@@ -192,7 +192,7 @@ fn may_remove<D: Disk, K: Keep<D>, P: Pool<D, K>, F: Form>(
         Accepts (IsRemoval (form_of F.VERSION) (own (form_of F.VERSION) old)
         (drop depth path.now) t) (or_else (removal_refusal (drop depth path.now) t)
         (quota_refusal (length lot.now.groups) (form_of F.VERSION) k
-        (next (Remove (drop depth path.now)) t))) result) }
+        (next_tree (Remove (drop depth path.now)) t))) result) }
     // What it answers of any lot, damaged or not.
     ensures fits { IfOk result (RemovalFits lot.now) }
     ensures below { OnOk result (depth < length path.now) }
@@ -205,7 +205,7 @@ fn may_remove<D: Disk, K: Keep<D>, P: Pool<D, K>, F: Form>(
     ensures looked { Looked D.Disk K.View lot.now keep.old disk.old keep.new disk.new }
     // Which refusals there are, and when a fault comes.
     ensures set { IfErr result (IsOneOf remove_refusals change_rules) }
-    ensures failed { IsErrOf result Fault → Rose (D.state disk.old).faults (D.state disk.new).faults }
+    ensures failed { Caused D.state Fault result disk.old disk.new }
 {
     match find_removal::<D, K, F>(keep, disk, lot, path, depth) {
         Err(refusal) => Err(refusal),
@@ -250,7 +250,7 @@ fn drop_bytes<D: Disk, K: Keep<D>, P: Pool<D, K>, F: Form>(
     ensures done { KeepsDone K.View lot.now keep.old disk.old keep.new disk.new result }
     // Which refusals there are, and when a fault comes.
     ensures faults { IfErr result (IsNamedIn change_rules) }
-    ensures failed { IsErrOf result FaultDisk → Rose (D.state disk.old).faults (D.state disk.new).faults }
+    ensures failed { Caused D.state FaultDisk result disk.old disk.new }
 {
     if bytes == 0 {
         return Ok(());
@@ -304,7 +304,7 @@ fn clear<D: Disk, K: Keep<D>, P: Pool<D, K>, F: Form>(
     ensures done { KeepsDone K.View lot.now keep.old disk.old keep.new disk.new result }
     // Which refusals there are, and when a fault comes.
     ensures faults { IfErr result (IsNamedIn change_rules) }
-    ensures failed { IsErrOf result FaultDisk → Rose (D.state disk.old).faults (D.state disk.new).faults }
+    ensures failed { Caused D.state FaultDisk result disk.old disk.new }
 {
     drop_bytes::<D, K, P, F>(keep, pool, disk, lot, number, bytes)?;
     put_inode::<D, K, P, F>(keep, pool, disk, lot, number, &free_node())?;
@@ -328,7 +328,7 @@ fn take_away<D: Disk, K: Keep<D>, P: Pool<D, K>, F: Form>(
     ensures taken { (mode k : ℕ) (t : Tree) (p : List (List ℕ))
         → AsShown K.View lot.now keep.old disk.old keep.new disk.new (λ old new.
         Loses (form_of F.VERSION) mode lot.now old t k p gone.now name.now
-        → OnOk result (MapRecovers (form_of F.VERSION) mode lot.now new (next (Remove p) t) k)) }
+        → OnOk result (MapRecovers (form_of F.VERSION) mode lot.now new (next_tree (Remove p) t) k)) }
     ensures sound { (mode k : ℕ) (t : Tree) (p : List (List ℕ))
         → IfShown K.View lot.now keep.old disk.old (λ old.
         Loses (form_of F.VERSION) mode lot.now old t k p gone.now name.now → FailsByDisk result) }
@@ -344,7 +344,7 @@ fn take_away<D: Disk, K: Keep<D>, P: Pool<D, K>, F: Form>(
     ensures done { KeepsDone K.View lot.now keep.old disk.old keep.new disk.new result }
     // Which refusals there are, and when a fault comes.
     ensures faults { IfErr result (IsNamedIn change_rules) }
-    ensures failed { IsErrOf result FaultDisk → Rose (D.state disk.old).faults (D.state disk.new).faults }
+    ensures failed { Caused D.state FaultDisk result disk.old disk.new }
 {
     match take::<D, K, P, F>(keep, pool, disk, lot, gone.spot.number, name)? {
         None => Err(OpFault::Damaged(Rule::Kind)),
@@ -369,7 +369,7 @@ fn put_away<D: Disk, K: Keep<D>, P: Pool<D, K>, F: Form>(
     ensures taken { (mode k : ℕ) (t : Tree) (p : List (List ℕ))
         → AsShown K.View lot.now keep.old disk.old keep.new disk.new (λ old new.
         Loses (form_of F.VERSION) mode lot.now old t k p gone.now name.now
-        → OnOk result (MapRecovers (form_of F.VERSION) mode lot.now new (next (Remove p) t)
+        → OnOk result (MapRecovers (form_of F.VERSION) mode lot.now new (next_tree (Remove p) t)
         (k + 1))) }
     ensures sound { (mode k : ℕ) (t : Tree) (p : List (List ℕ))
         → IfShown K.View lot.now keep.old disk.old (λ old.
@@ -386,7 +386,7 @@ fn put_away<D: Disk, K: Keep<D>, P: Pool<D, K>, F: Form>(
     ensures spent { Spent D.Disk K.View lot.now 84 keep.old disk.old keep.new disk.new }
     // Which refusals there are, and when a fault comes.
     ensures faults { IfErr result (IsNamedIn change_rules) }
-    ensures failed { IsErrOf result FaultDisk → Rose (D.state disk.old).faults (D.state disk.new).faults }
+    ensures failed { Caused D.state FaultDisk result disk.old disk.new }
 {
     take_away::<D, K, P, F>(keep, pool, disk, lot, gone, name)?;
     count_up(keep, disk, lot)?;
@@ -428,7 +428,7 @@ pub fn remove<D: Disk, K: Keep<D>, P: Pool<D, K>, F: Form>(
     ensures spent { Spent D.Disk K.View lot.now 96 keep.old disk.old keep.new disk.new }
     // Which refusals there are, and when a fault comes.
     ensures set { IfErr result (IsOneOf remove_refusals change_rules) }
-    ensures failed { IsErrOf result Fault → Rose (D.state disk.old).faults (D.state disk.new).faults }
+    ensures failed { Caused D.state Fault result disk.old disk.new }
 {
     if let Err(refusal) = check_path::<F>(path, depth) {
         return Err(refusal);

@@ -1,11 +1,11 @@
 //! Files and directories that move.
 ghost use Rattle.std.specs.Prelude.{◌≡◌, ◌≢◌, ◌≤◌, ◌<◌, ◌+◌, ◌-◌, ◌*◌, ◌||◌, ℕ, List, true, false, [], ◌∷◌, Some, None, OnOk, IfOk, IfErr, IsErrOf, MatchResult, MatchOption, length, drop, get_or};
-ghost use Rattle.ice_base.specs.Disk.{Rose};
+ghost use Rattle.ice_base.specs.Disk.{Caused};
 ghost use Rattle.ice_base.specs.Lots.{LotView, is_sited, sub_address};
 ghost use Rattle.ice_base.specs.Views.{Looked, Spent, AsShown, IfShown};
 ghost use Rattle.ice_base.specs.declared.fault.OpFault.TheVariants.{Disk as FaultDisk};
 ghost use Rattle.ice_base.specs.declared.fault.Rule.{Rule};
-ghost use Rattle.tree_spec.specs.Answers.{answer, refusal, next, is_root, is_found, is_not_found, is_not_dir, deepest};
+ghost use Rattle.tree_spec.specs.Answers.{answer, refusal, next_tree, is_root, is_found, is_not_found, is_not_dir, deepest};
 ghost use Rattle.tree_spec.specs.Costs.{Form, form_of, map_cost, dir_blocks};
 ghost use Rattle.tree_spec.specs.Operations.{Rename};
 ghost use Rattle.tree_spec.specs.Routes.{is_prefix, is_same_name, is_same_path};
@@ -160,7 +160,7 @@ fn check_height<D: Disk, V: View<D>, F: Form>(
     ensures looked { Looked D.Disk V.View lot.now view.old disk.old view.new disk.new }
     // Which refusals there are, and when a fault comes.
     ensures set { IfErr result (IsOneOf rename_refusals list_rules) }
-    ensures failed { IsErrOf result Fault → Rose (D.state disk.old).faults (D.state disk.new).faults }
+    ensures failed { Caused D.state Fault result disk.old disk.new }
 {
     if there <= here {
         return Ok(());
@@ -295,7 +295,7 @@ fn find_move<D: Disk, V: View<D>, F: Form>(
     ensures looked { Looked D.Disk V.View lot.now view.old disk.old view.new disk.new }
     // Which refusals there are, and when a fault comes.
     ensures set { IfErr result (IsOneOf rename_refusals list_rules) }
-    ensures failed { IsErrOf result Fault → Rose (D.state disk.old).faults (D.state disk.new).faults }
+    ensures failed { Caused D.state Fault result disk.old disk.new }
 {
     let from = match find_ends::<D, V, F>(view, disk, lot, path, depth) {
         Err(fault) => return Err(refusal_of(fault)),
@@ -338,7 +338,7 @@ fn need_of<F: Form>(step: &Move) -> Need
         → MapRecovers (form_of F.VERSION) mode lot m t k
         → paths_refusal (form_of F.VERSION) (p ∷ q ∷ []) ≡ None → move_refusal p q t ≡ None
         → IsMove (form_of F.VERSION) (own (form_of F.VERSION) m) p q t step.now
-        → Needs (form_of F.VERSION) t (next (Rename p q) t) result }
+        → Needs (form_of F.VERSION) t (next_tree (Rename p q) t) result }
     // What it answers of any lot, damaged or not.
     ensures nodeless { result.nodes ≡ 0 }
     ensures apart { step.now.same ≡ false → step.now.from.number ≢ step.now.to.number
@@ -416,7 +416,7 @@ fn may_move<D: Disk, K: Keep<D>, P: Pool<D, K>, F: Form>(
     ensures looked { Looked D.Disk K.View lot.now keep.old disk.old keep.new disk.new }
     // Which refusals there are, and when a fault comes.
     ensures set { IfErr result (IsOneOf rename_refusals rename_rules) }
-    ensures failed { IsErrOf result Fault → Rose (D.state disk.old).faults (D.state disk.new).faults }
+    ensures failed { Caused D.state Fault result disk.old disk.new }
 {
     match find_move::<D, K, F>(keep, disk, lot, path, to, depth) {
         Err(refusal) => Err(refusal),
@@ -454,7 +454,7 @@ fn move_row<D: Disk, K: Keep<D>, P: Pool<D, K>, F: Form>(
         → AsShown K.View lot.now keep.old disk.old keep.new disk.new (λ old later.
         Renames (form_of F.VERSION) mode lot.now old t k p q step.now name.now new.now
         → step.now.same ≡ false
-        → OnOk result (MapRecovers (form_of F.VERSION) mode lot.now later (next (Rename p q) t) k)) }
+        → OnOk result (MapRecovers (form_of F.VERSION) mode lot.now later (next_tree (Rename p q) t) k)) }
     ensures sound { (mode k : ℕ) (t : Tree) (p q : List (List ℕ))
         → IfShown K.View lot.now keep.old disk.old (λ old.
         Renames (form_of F.VERSION) mode lot.now old t k p q step.now name.now new.now
@@ -469,7 +469,7 @@ fn move_row<D: Disk, K: Keep<D>, P: Pool<D, K>, F: Form>(
     ensures done { KeepsDone K.View lot.now keep.old disk.old keep.new disk.new result }
     // Which refusals there are, and when a fault comes.
     ensures faults { IfErr result (IsNamedIn change_rules) }
-    ensures failed { IsErrOf result FaultDisk → Rose (D.state disk.old).faults (D.state disk.new).faults }
+    ensures failed { Caused D.state FaultDisk result disk.old disk.new }
 {
     let _bytes = new.bytes();
     match take::<D, K, P, F>(keep, pool, disk, lot, step.from.number, name)? {
@@ -503,7 +503,7 @@ fn put_moved<D: Disk, K: Keep<D>, P: Pool<D, K>, F: Form>(
     ensures moved { (mode k : ℕ) (t : Tree) (p q : List (List ℕ))
         → AsShown K.View lot.now keep.old disk.old keep.new disk.new (λ old later.
         Renames (form_of F.VERSION) mode lot.now old t k p q step.now name.now new.now
-        → OnOk result (MapRecovers (form_of F.VERSION) mode lot.now later (next (Rename p q) t) (k + 1))) }
+        → OnOk result (MapRecovers (form_of F.VERSION) mode lot.now later (next_tree (Rename p q) t) (k + 1))) }
     ensures sound { (mode k : ℕ) (t : Tree) (p q : List (List ℕ))
         → IfShown K.View lot.now keep.old disk.old (λ old.
         Renames (form_of F.VERSION) mode lot.now old t k p q step.now name.now new.now
@@ -517,7 +517,7 @@ fn put_moved<D: Disk, K: Keep<D>, P: Pool<D, K>, F: Form>(
     ensures spent { Spent D.Disk K.View lot.now 17 keep.old disk.old keep.new disk.new }
     // Which refusals there are, and when a fault comes.
     ensures faults { IfErr result (IsNamedIn change_rules) }
-    ensures failed { IsErrOf result FaultDisk → Rose (D.state disk.old).faults (D.state disk.new).faults }
+    ensures failed { Caused D.state FaultDisk result disk.old disk.new }
 {
     if step.same {
         count_up(keep, disk, lot)?;
@@ -561,7 +561,7 @@ pub fn rename<D: Disk, K: Keep<D>, P: Pool<D, K>, F: Form>(
     ensures spent { Spent D.Disk K.View lot.now 96 keep.old disk.old keep.new disk.new }
     // Which refusals there are, and when a fault comes.
     ensures set { IfErr result (IsOneOf rename_refusals rename_rules) }
-    ensures failed { IsErrOf result Fault → Rose (D.state disk.old).faults (D.state disk.new).faults }
+    ensures failed { Caused D.state Fault result disk.old disk.new }
 {
     if let Err(refusal) = check_paths::<F>(path, to, depth) {
         return Err(refusal);

@@ -1,12 +1,12 @@
 //! Changes of the bytes of files.
-ghost use Rattle.std.specs.Prelude.{◌≡◌, ◌≤◌, ◌<◌, ◌+◌, ◌*◌, ℕ, List, true, [], ◌∷◌, None, OnOk, IfOk, IfErr, IsErrOf, length, drop};
-ghost use Rattle.ice_base.specs.Disk.{Rose};
+ghost use Rattle.std.specs.Prelude.{◌≡◌, ◌≤◌, ◌<◌, ◌+◌, ◌*◌, ℕ, List, true, [], ◌∷◌, None, OnOk, IfOk, IfErr, length, drop};
+ghost use Rattle.ice_base.specs.Disk.{Caused};
 ghost use Rattle.ice_base.specs.Lots.{is_sited, sub_address};
 ghost use Rattle.ice_base.specs.Views.{Looked, Spent, AsShown, IfShown};
 ghost use Rattle.ice_base.specs.declared.fault.OpFault.TheVariants.{Disk as FaultDisk};
 ghost use Rattle.ice_map.specs.Inodes.{inode_of};
 ghost use Rattle.tree_spec.specs.Held.{most_bytes};
-ghost use Rattle.tree_spec.specs.Answers.{answer, next, refusal};
+ghost use Rattle.tree_spec.specs.Answers.{answer, next_tree, refusal};
 ghost use Rattle.tree_spec.specs.Costs.{form_of, map_cost, file_blocks, form_one};
 ghost use Rattle.tree_spec.specs.Operations.{Write, Trunc};
 ghost use Rattle.tree_spec.specs.Trees.{Tree};
@@ -86,7 +86,7 @@ fn reach_file<D: Disk, V: View<D>, F: Form>(
     ensures looked { Looked D.Disk V.View lot.now view.old disk.old view.new disk.new }
     // Which refusals there are, and when a fault comes.
     ensures set { IfErr result (IsOneOf read_refusals look_rules) }
-    ensures failed { IsErrOf result Fault → Rose (D.state disk.old).faults (D.state disk.new).faults }
+    ensures failed { Caused D.state Fault result disk.old disk.new }
 {
     if let Err(refusal) = check_path::<F>(path, depth) {
         return Err(refusal);
@@ -139,7 +139,7 @@ fn check_write<D: Disk, K: Keep<D>, P: Pool<D, K>, F: Form>(
     ensures looked { Looked D.Disk K.View lot.now keep.old disk.old keep.new disk.new }
     // Which refusals there are, and when a fault comes.
     ensures set { IfErr result (IsOneOf write_refusals change_rules) }
-    ensures failed { IsErrOf result Fault → Rose (D.state disk.old).faults (D.state disk.new).faults }
+    ensures failed { Caused D.state Fault result disk.old disk.new }
 {
     let file = match reach_file::<D, K, F>(keep, disk, lot, path, depth, at) {
         Ok(file) => file,
@@ -192,7 +192,7 @@ fn check_trunc<D: Disk, K: Keep<D>, P: Pool<D, K>, F: Form>(
     ensures looked { Looked D.Disk K.View lot.now keep.old disk.old keep.new disk.new }
     // Which refusals there are, and when a fault comes.
     ensures set { IfErr result (IsOneOf trunc_refusals change_rules) }
-    ensures failed { IsErrOf result Fault → Rose (D.state disk.old).faults (D.state disk.new).faults }
+    ensures failed { Caused D.state Fault result disk.old disk.new }
 {
     let file = match reach_file::<D, K, F>(keep, disk, lot, path, depth, len) {
         Ok(file) => file,
@@ -227,7 +227,7 @@ fn put_bytes<D: Disk, K: Keep<D>, P: Pool<D, K>, F: Form>(
         → AsShown K.View lot.now keep.old disk.old keep.new disk.new (λ old new.
         TakesAt (form_of F.VERSION) mode lot.now old t k p (Write p at bytes.now) number
         → OnOk result (MapRecovers (form_of F.VERSION) mode lot.now new
-        (next (Write p at bytes.now) t) (k + 1))) }
+        (next_tree (Write p at bytes.now) t) (k + 1))) }
     ensures sound { (mode k : ℕ) (t : Tree) (p : List (List ℕ))
         → IfShown K.View lot.now keep.old disk.old (λ old.
         TakesAt (form_of F.VERSION) mode lot.now old t k p (Write p at bytes.now) number
@@ -241,7 +241,7 @@ fn put_bytes<D: Disk, K: Keep<D>, P: Pool<D, K>, F: Form>(
     ensures spent { Spent D.Disk K.View lot.now 49 keep.old disk.old keep.new disk.new }
     // Which refusals there are, and when a fault comes.
     ensures faults { IfErr result (IsNamedIn change_rules) }
-    ensures failed { IsErrOf result FaultDisk → Rose (D.state disk.old).faults (D.state disk.new).faults }
+    ensures failed { Caused D.state FaultDisk result disk.old disk.new }
 {
     write_at::<D, K, P, F>(keep, pool, disk, lot, number, at, bytes)?;
     count_up(keep, disk, lot)?;
@@ -265,7 +265,7 @@ fn put_cut<D: Disk, K: Keep<D>, P: Pool<D, K>, F: Form>(
     ensures set { (mode k : ℕ) (t : Tree) (p : List (List ℕ))
         → AsShown K.View lot.now keep.old disk.old keep.new disk.new (λ old new.
         TakesAt (form_of F.VERSION) mode lot.now old t k p (Trunc p len) number
-        → OnOk result (MapRecovers (form_of F.VERSION) mode lot.now new (next (Trunc p len) t)
+        → OnOk result (MapRecovers (form_of F.VERSION) mode lot.now new (next_tree (Trunc p len) t)
         (k + 1))) }
     ensures sound { (mode k : ℕ) (t : Tree) (p : List (List ℕ))
         → IfShown K.View lot.now keep.old disk.old (λ old.
@@ -280,7 +280,7 @@ fn put_cut<D: Disk, K: Keep<D>, P: Pool<D, K>, F: Form>(
     ensures spent { Spent D.Disk K.View lot.now 73 keep.old disk.old keep.new disk.new }
     // Which refusals there are, and when a fault comes.
     ensures faults { IfErr result (IsNamedIn change_rules) }
-    ensures failed { IsErrOf result FaultDisk → Rose (D.state disk.old).faults (D.state disk.new).faults }
+    ensures failed { Caused D.state FaultDisk result disk.old disk.new }
 {
     cut_to::<D, K, P, F>(keep, pool, disk, lot, number, len)?;
     count_up(keep, disk, lot)?;
@@ -321,7 +321,7 @@ pub fn write<D: Disk, K: Keep<D>, P: Pool<D, K>, F: Form>(
     ensures spent { Spent D.Disk K.View lot.now 96 keep.old disk.old keep.new disk.new }
     // Which refusals there are, and when a fault comes.
     ensures set { IfErr result (IsOneOf write_refusals change_rules) }
-    ensures failed { IsErrOf result Fault → Rose (D.state disk.old).faults (D.state disk.new).faults }
+    ensures failed { Caused D.state Fault result disk.old disk.new }
 {
     let number = match check_write::<D, K, P, F>(keep, pool, disk, lot, path, depth, at, bytes) {
         Ok(number) => number,
@@ -365,7 +365,7 @@ pub fn trunc<D: Disk, K: Keep<D>, P: Pool<D, K>, F: Form>(
     ensures spent { Spent D.Disk K.View lot.now 96 keep.old disk.old keep.new disk.new }
     // Which refusals there are, and when a fault comes.
     ensures set { IfErr result (IsOneOf trunc_refusals change_rules) }
-    ensures failed { IsErrOf result Fault → Rose (D.state disk.old).faults (D.state disk.new).faults }
+    ensures failed { Caused D.state Fault result disk.old disk.new }
 {
     let number = match check_trunc::<D, K, P, F>(keep, pool, disk, lot, path, depth, len) {
         Ok(number) => number,

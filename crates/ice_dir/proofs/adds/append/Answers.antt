@@ -4,7 +4,7 @@ use Rattle.ice_base.specs.Fields.{SameBeside}
 use Rattle.ice_base.specs.Lots.{sub_address}
 use Rattle.ice_map.proofs.MarkLaws.{data_not_sub}
 use Rattle.ice_map.specs.Own.{MadeOf}
-use Rattle.ice_map.specs.Moves.{Reached, content_of}
+use Rattle.ice_map.specs.Moves.{HadBlock, content_of}
 use Rattle.ice_dir.specs.Changes.{blocks_sized}
 use Rattle.ice_dir.specs.Rows.{entries_in, place_of, row_bytes, IsText}
 use Rattle.ice_dir.proofs.PutLaws.{row-put, one-more}
@@ -23,8 +23,8 @@ returns-clause-put g c = λ s made.
     let per = c.rows_per_block.ensures.value in
     let place = c.row_place-place.ensures.value in
     let had = c.in_ok-at.ensures.reached s (subst (λ n. MadeOf lot m0 dir n) (sym count) made) in
-    let reached = subst (λ n. Reached lot m0 m1 dir c.open_block.new.inode n (dir.size / entries_in entry) c.in_ok-at.at) count
-    (subst (λ p. Reached lot m0 m1 dir c.open_block.new.inode c.blocks_for_rows-count.result (dir.size / p) c.in_ok-at.at) per had) in
+    let reached = subst (λ n. HadBlock lot m0 m1 dir c.open_block.new.inode n (dir.size / entries_in entry) c.in_ok-at.at) count
+    (subst (λ p. HadBlock lot m0 m1 dir c.open_block.new.inode c.blocks_for_rows-count.result (dir.size / p) c.in_ok-at.at) per had) in
     let text = subst (λ p. IsText (c.args.name.now, c.args.inode) (row_bytes entry c.write_row.new.block p)) place c.write_row.ensures.text in (
       row_bytes entry c.write_row.new.block (place_of entry dir.size),
       text,

@@ -1,5 +1,5 @@
 use Rattle.std.proofs.Common.{rules, ℕ, ◌∙◌, List, sym, ap, subst, ⊎_elim, arith}
-use Rattle.ice_map.specs.Moves.{Reached}
+use Rattle.ice_map.specs.Moves.{HadBlock}
 use Rattle.ice_map.proofs.DamageLaws.{misled-single}
 use Rattle.ice_dir.proofs.adds.open_block.Goals as goal
 
@@ -13,4 +13,4 @@ pub returns-then-k-count-clause-reached : goal.returns-then-k-count-clause-reach
 returns-then-k-count-clause-reached g c = λ s made.
     let lot = c.args.lot.now in
     let m : ℕ → List ℕ = g.K.View.map c.args.keep.now c.args.disk.now lot in
-    subst (λ (n : ℕ → List ℕ). Reached lot m n c.args.inode.now c.reach.new.inode c.args.count c.args.k c.in_ok-at.at) (sym c.fetch.ensures.looked.map) (c.in_ok-at.ensures.reached s made)
+    subst (λ (n : ℕ → List ℕ). HadBlock lot m n c.args.inode.now c.reach.new.inode c.args.count c.args.k c.in_ok-at.at) (sym c.fetch.ensures.looked.map) (c.in_ok-at.ensures.reached s made)

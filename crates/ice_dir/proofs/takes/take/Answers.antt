@@ -8,7 +8,7 @@ use Rattle.ice_map.specs.Inodes.{inode_of}
 use Rattle.ice_map.specs.Maps.{uses, FreeOrTwice}
 use Rattle.ice_map.specs.Own.{WellMade, Confuses}
 use Rattle.ice_dir.specs.Changes.{blocks_sized, DirSet, TextTaken}
-use Rattle.ice_dir.specs.Rows.{row_sized, rows_of}
+use Rattle.ice_dir.specs.Rows.{row_sized, dir_rows_of}
 use Rattle.ice_dir.proofs.DirLaws.{look-found, look-none, rows-read}
 use Rattle.ice_dir.proofs.FaultLaws.{misled-block}
 use Rattle.ice_dir.proofs.TakeLaws.{row-named}
@@ -48,9 +48,9 @@ returns-in_ok-remove_row-in-Some-clause-taken g c = λ s made some.
     let found = rw c.in-Some.is at (c.in_ok-seek.ensures.found t) in
     let at = row-named f g.F.Form.ENTRY m0 (g.K.View.map c.dir_inode.new.view c.dir_inode.new.disk lot) c.args.number c.in_ok-dir.dir c.args.name.now c.in-Some.k (ap form_of g.F.Form.is_one.0) (sized g.F.Form.VERSION g.F.Form.ENTRY g.F.Form.is_one.0 g.F.Form.is_one.1) (c.in_ok-dir.ensures.value s) c.in_ok-dir.ensures.is.kind c.dir_inode.ensures.looked.map
     (rw c.bytes.ensures.value at found.0) in
-    let removed = subst (λ (m : ℕ → List ℕ). inode_of m c.args.number ≡ c.in_ok-dir.dir → WellMade lot f m c.args.number → DirSet lot f m m3 c.args.number (swap_remove (rows_of f m c.args.number) c.in-Some.k ([], 0))) same
+    let removed = subst (λ (m : ℕ → List ℕ). inode_of m c.args.number ≡ c.in_ok-dir.dir → WellMade lot f m c.args.number → DirSet lot f m m3 c.args.number (swap_remove (dir_rows_of f m c.args.number) c.in-Some.k ([], 0))) same
     (c.in_ok-remove_row-in-Some.ensures.removed (c.seek.ensures.looked.shows t)) (sym (c.in_ok-dir.ensures.value s)) made in
-    subst (λ i. DirSet lot f m0 m3 c.args.number (swap_remove (rows_of f m0 c.args.number) i ([], 0))) (sym at) removed
+    subst (λ i. DirSet lot f m0 m3 c.args.number (swap_remove (dir_rows_of f m0 c.args.number) i ([], 0))) (sym at) removed
 
 pub returns-in_ok-remove_row-in-Some-clause-texts : goal.returns-in_ok-remove_row-in-Some-clause-texts
 returns-in_ok-remove_row-in-Some-clause-texts g c = λ s made some.

@@ -4,7 +4,7 @@ use Rattle.tree_spec.specs.Costs.{form_of}
 use Rattle.ice_map.specs.Own.{own}
 use Rattle.ice_reads.specs.Reads.{Reads}
 use Rattle.ice_look.specs.Broken.{BadEntry, IsBrokenBy}
-use Rattle.ice_dir.specs.Rows.{look_up, rows_of}
+use Rattle.ice_dir.specs.Rows.{look_up, dir_rows_of}
 use Rattle.ice_look.specs.declared.place.Place.TheVariants.{Dir}
 use Rattle.ice_look.specs.Places.{Reached, PlaceOf, PlaceFits, PlaceIs, PlaceReached, PlaceNamed}
 use Rattle.ice_look.proofs.BrokenLaws.{named-broken, named-reached, find-broken, place-named}
@@ -67,7 +67,7 @@ returns-in-Some-clause-reached g c = λ s reached.
 pub returns-in-Some-clause-named : goal.returns-in-Some-clause-named
 returns-in-Some-clause-named g c = λ s.
     let m : ℕ → List ℕ = g.V.View.map c.args.view.now c.args.disk.now c.args.lot.now in
-    let there : look_up c.args.name.now (rows_of (form_of g.F.Form.VERSION) m c.in-Dir.number) ≡ Some c.in-Some.next = sym (c.in_ok-find-in-Dir.ensures.found s) ∙ c.in-Some.is in
+    let there : look_up c.args.name.now (dir_rows_of (form_of g.F.Form.VERSION) m c.in-Dir.number) ≡ Some c.in-Some.next = sym (c.in_ok-find-in-Dir.ensures.found s) ∙ c.in-Some.is in
     subst (λ p. IfOk c.enter_named.result (PlaceNamed (form_of g.F.Form.VERSION) m p c.args.name.now)) (sym c.in-Dir.is)
     (IfOk-weaker c.enter_named.result (PlaceOf c.in-Some.next) (PlaceNamed (form_of g.F.Form.VERSION) m (Dir c.in-Dir.number c.in-Dir.size) c.args.name.now) (λ p at. place-named (form_of g.F.Form.VERSION) m c.in-Dir.number c.in-Dir.size c.args.name.now c.in-Some.next there p at) c.enter_named.ensures.at)
 
