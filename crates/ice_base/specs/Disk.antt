@@ -1,5 +1,5 @@
 -- What a disk holds, what a crash may leave of it, and what one call changes.
-use Rattle.std.specs.Prelude.{◌≡◌, ◌+◌, ◌-◌, ◌≤◌, ◌<◌, ◌^◌, min, ℕ, Bool, true, false, if◌then◌else◌, List, [], length, slice_index_or, Result, OnErr}
+use Rattle.std.specs.Prelude.{◌≡◌, ◌+◌, ◌-◌, ◌≤◌, ◌<◌, ◌^◌, min, ℕ, Bool, true, false, if◌then◌else◌, List, [], length, slice_index_or, Result, OnErr, IsErrOf}
 
 -- an image: the list of the blocks
 abbrev pub Image : Type 0
@@ -65,6 +65,10 @@ Below n k = k < n
 -- an Err comes only where the count of disk faults rose
 pub record HasCause {T E : Type 0} (old new : DiskState) (result : Result T E) : Type 0 where
   pub failed : OnErr result (Rose old.faults new.faults)
+
+-- this fault is answered only where the count of disk faults rose
+abbrev pub Caused : {T E D : Type 0} → (D → DiskState) → E → Result T E → D → D → Type 0
+Caused state fault result d e = IsErrOf result fault → Rose (state d).faults (state e).faults
 
 -- what a write counts and makes loose, good or bad
 pub record WriteCounts (at : ℕ) (good : Bool) (old new : DiskState) : Type 0 where

@@ -1,6 +1,6 @@
 //! A view that also takes changes.
 ghost use Rattle.std.specs.Prelude.{is_ok, ◌≡◌, ◌≤◌, ℕ, true, false, [], ◌∷◌, OnOk, IsErrOf};
-ghost use Rattle.ice_base.specs.Disk.{Rose};
+ghost use Rattle.ice_base.specs.Disk.{Caused};
 ghost use Rattle.ice_base.specs.Lots.{is_address, is_sited};
 ghost use Rattle.ice_base.specs.Still.{PutsHome};
 ghost use Rattle.ice_base.specs.Views.{Looked, Spent, Puts};
@@ -26,8 +26,7 @@ pub trait Keep<D: Disk>: View<D> {
         ensures untouched { IsErrOf result Range
             → Looked D.Disk Self.View lot.now self.old disk.old self.new disk.new }
         ensures placed { IsErrOf result FaultDisk → is_address lot.now at ≡ true }
-        ensures failed { IsErrOf result FaultDisk
-            → Rose (D.state disk.old).faults (D.state disk.new).faults };
+        ensures failed { Caused D.state FaultDisk result disk.old disk.new };
 
     /// How many further addresses it can hold.
     fn spare(&self) -> u32

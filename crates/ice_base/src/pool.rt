@@ -1,6 +1,6 @@
 //! The free blocks and inodes of a lot.
 ghost use Rattle.std.specs.Prelude.{is_ok, ◌≡◌, ◌≤◌, ◌<◌, ◌-◌, ◌*◌, ◌^◌, true, false, [], ◌∷◌, OnOk, OnErr, IfOk, IfErr, IsErrOf, length};
-ghost use Rattle.ice_base.specs.Disk.{Rose};
+ghost use Rattle.ice_base.specs.Disk.{Caused};
 ghost use Rattle.ice_base.specs.Lots.{is_sited, sub_address};
 ghost use Rattle.ice_base.specs.Spare.{lacks, FitsAny};
 ghost use Rattle.ice_base.specs.Views.{Looked, Spent, AsShown, IfShown};
@@ -39,8 +39,7 @@ pub trait Pool<D: Disk, K: Keep<D>> {
         ensures looked_damaged { (rule : Rule) → IsErrOf result (Damaged rule)
             → Looked D.Disk K.View lot.now keep.old disk.old keep.new disk.new }
         ensures faults { IfErr result IsTakeBlockFault }
-        ensures failed { IsErrOf result FaultDisk
-            → Rose (D.state disk.old).faults (D.state disk.new).faults };
+        ensures failed { Caused D.state FaultDisk result disk.old disk.new };
 
     /// Gives a data block back. Damaged: it is not marked used, or the count of used blocks is 0.
     fn give_block(&mut self, keep: &mut K, disk: &mut D, lot: &Lot, at: u32) -> Result<(), OpFault>
@@ -58,8 +57,7 @@ pub trait Pool<D: Disk, K: Keep<D>> {
         ensures looked_damaged { (rule : Rule) → IsErrOf result (Damaged rule)
             → Looked D.Disk K.View lot.now keep.old disk.old keep.new disk.new }
         ensures faults { IfErr result IsGiveFault }
-        ensures failed { IsErrOf result FaultDisk
-            → Rose (D.state disk.old).faults (D.state disk.new).faults };
+        ensures failed { Caused D.state FaultDisk result disk.old disk.new };
 
     /// Takes the least free inode. NoNodes, exactly: none is free. Damaged: the count of used inodes can't grow.
     fn take_inode(&mut self, keep: &mut K, disk: &mut D, lot: &Lot) -> Result<u32, OpFault>
@@ -82,8 +80,7 @@ pub trait Pool<D: Disk, K: Keep<D>> {
         ensures looked_damaged { (rule : Rule) → IsErrOf result (Damaged rule)
             → Looked D.Disk K.View lot.now keep.old disk.old keep.new disk.new }
         ensures faults { IfErr result IsTakeInodeFault }
-        ensures failed { IsErrOf result FaultDisk
-            → Rose (D.state disk.old).faults (D.state disk.new).faults };
+        ensures failed { Caused D.state FaultDisk result disk.old disk.new };
 
     /// Gives an inode back. Damaged: it is not marked used, or the count of used inodes is 0.
     fn give_inode(
@@ -107,8 +104,7 @@ pub trait Pool<D: Disk, K: Keep<D>> {
         ensures looked_damaged { (rule : Rule) → IsErrOf result (Damaged rule)
             → Looked D.Disk K.View lot.now keep.old disk.old keep.new disk.new }
         ensures faults { IfErr result IsGiveFault }
-        ensures failed { IsErrOf result FaultDisk
-            → Rose (D.state disk.old).faults (D.state disk.new).faults };
+        ensures failed { Caused D.state FaultDisk result disk.old disk.new };
 
     /// Counts the blocks that are not marked used.
     fn free_blocks(&mut self, keep: &mut K, disk: &mut D, lot: &Lot) -> Result<u32, OpFault>
@@ -117,8 +113,7 @@ pub trait Pool<D: Disk, K: Keep<D>> {
             IfOk result (λ n. n ≡ free_count false lot.now old)) }
         ensures looked { Looked D.Disk K.View lot.now keep.old disk.old keep.new disk.new }
         ensures faults { IfErr result IsDiskFault }
-        ensures failed { IsErrOf result FaultDisk
-            → Rose (D.state disk.old).faults (D.state disk.new).faults };
+        ensures failed { Caused D.state FaultDisk result disk.old disk.new };
 
     /// Counts the inodes that are not marked used.
     fn free_inodes(&mut self, keep: &mut K, disk: &mut D, lot: &Lot) -> Result<u32, OpFault>
@@ -127,6 +122,5 @@ pub trait Pool<D: Disk, K: Keep<D>> {
             IfOk result (λ n. n ≡ free_count true lot.now old)) }
         ensures looked { Looked D.Disk K.View lot.now keep.old disk.old keep.new disk.new }
         ensures faults { IfErr result IsDiskFault }
-        ensures failed { IsErrOf result FaultDisk
-            → Rose (D.state disk.old).faults (D.state disk.new).faults };
+        ensures failed { Caused D.state FaultDisk result disk.old disk.new };
 }

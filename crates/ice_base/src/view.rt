@@ -1,6 +1,6 @@
 //! A lot's blocks as something shows them, and as something takes changes of them.
 ghost use Rattle.std.specs.Prelude.{◌≡◌, Bool, true, false, List, [], ℕ, OnOk, IsErrOf};
-ghost use Rattle.ice_base.specs.Disk.{Rose};
+ghost use Rattle.ice_base.specs.Disk.{Caused};
 ghost use Rattle.ice_base.specs.Looks.{LookedBy};
 ghost use Rattle.ice_base.specs.Lots.{LotView, is_address, is_sited};
 ghost use Rattle.ice_base.specs.Still.{Still};
@@ -35,8 +35,7 @@ pub trait View<D: Disk> {
         ensures good { OnOk result (is_address lot.now at ≡ true) }
         ensures range { IsErrOf result Range → is_address lot.now at ≡ false }
         ensures placed { IsErrOf result FaultDisk → is_address lot.now at ≡ true }
-        ensures failed { IsErrOf result FaultDisk
-            → Rose (D.state disk.old).faults (D.state disk.new).faults };
+        ensures failed { Caused D.state FaultDisk result disk.old disk.new };
 
     /// No block stands at an address that isn't the lot's.
     ghost outside: { (v : Self) (d : D) (lot : LotView) (a : ℕ) → is_address lot a ≡ false → map v d lot a ≡ [] };

@@ -1,6 +1,6 @@
 //! The bits of the blocks that an inode uses.
-ghost use Rattle.std.specs.Prelude.{◌≡◌, ◌≤◌, ◌<◌, ℕ, true, false, IfErr, IsErrOf, length};
-ghost use Rattle.ice_base.specs.Disk.{Rose};
+ghost use Rattle.std.specs.Prelude.{◌≡◌, ◌≤◌, ◌<◌, ℕ, true, false, IfErr, length};
+ghost use Rattle.ice_base.specs.Disk.{Caused};
 ghost use Rattle.ice_base.specs.Lots.{is_sited};
 ghost use Rattle.ice_base.specs.Spare.{has};
 ghost use Rattle.ice_base.specs.Used.{used_block, is_data};
@@ -30,7 +30,7 @@ fn check_bit<D: Disk, V: View<D>>(
     ensures clear { (m : Map) → Shows V.View lot.now view.old disk.old m → IfErr result (IfBitmap (used_block m at ≡ false)) }
     ensures looked { Looked D.Disk V.View lot.now view.old disk.old view.new disk.new }
     ensures faults { IfErr result IsCheckFault }
-    ensures failed { IsErrOf result FaultDisk → Rose (D.state disk.old).faults (D.state disk.new).faults }
+    ensures failed { Caused D.state FaultDisk result disk.old disk.new }
 {
     let mut block = [0; 1024];
     read_block(view, disk, lot, 256 * (at / 256), &mut block)?;
@@ -52,7 +52,7 @@ fn check_indirect<D: Disk, V: View<D>>(
     ensures clear { (m : Map) → Shows V.View lot.now view.old disk.old m → IfErr result (IfBitmap (SomeUnused m (indirect_of inode.now count))) }
     ensures looked { Looked D.Disk V.View lot.now view.old disk.old view.new disk.new }
     ensures faults { IfErr result IsCheckFault }
-    ensures failed { IsErrOf result FaultDisk → Rose (D.state disk.old).faults (D.state disk.new).faults }
+    ensures failed { Caused D.state FaultDisk result disk.old disk.new }
 {
     if count <= 12 {
         return Ok(());
@@ -75,7 +75,7 @@ fn check_each<D: Disk, V: View<D>>(
         → IfErr result (IfBitmap (SomeUnused m (blocks_of (λ _. pointers.now) inode.now count))) }
     ensures looked { Looked D.Disk V.View lot.now view.old disk.old view.new disk.new }
     ensures faults { IfErr result IsCheckFault }
-    ensures failed { IsErrOf result FaultDisk → Rose (D.state disk.old).faults (D.state disk.new).faults }
+    ensures failed { Caused D.state FaultDisk result disk.old disk.new }
 {
     for n in 0..count {
         let at = pointer(inode, pointers, n);
@@ -103,7 +103,7 @@ pub fn check_bits<D: Disk, V: View<D>>(
         → IfErr result (IfBitmap (SomeUnused m (uses (λ _. pointers.now) inode.now count))) }
     ensures looked { Looked D.Disk V.View lot.now view.old disk.old view.new disk.new }
     ensures faults { IfErr result IsCheckFault }
-    ensures failed { IsErrOf result FaultDisk → Rose (D.state disk.old).faults (D.state disk.new).faults }
+    ensures failed { Caused D.state FaultDisk result disk.old disk.new }
 {
     match check_indirect(view, disk, lot, inode, count) {
         Ok(()) => check_each(view, disk, lot, inode, pointers, count),

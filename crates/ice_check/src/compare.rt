@@ -1,7 +1,7 @@
 //! The bitmaps and the counts of a lot, compared with the marks of a walk.
-ghost use Rattle.std.specs.Prelude.{◌≡◌, ◌≢◌, ◌≤◌, ◌<◌, ◌+◌, ◌*◌, ℕ, true, false, OnOk, IfErr, IsErrOf, length};
+ghost use Rattle.std.specs.Prelude.{◌≡◌, ◌≢◌, ◌≤◌, ◌<◌, ◌+◌, ◌*◌, ℕ, true, false, OnOk, IfErr, length};
 ghost use Rattle.ice_base.specs.Bits.{bit_of, count_below};
-ghost use Rattle.ice_base.specs.Disk.{Rose};
+ghost use Rattle.ice_base.specs.Disk.{Caused};
 ghost use Rattle.ice_base.specs.Lots.{is_sited};
 ghost use Rattle.ice_base.specs.Used.{bit_index, bits_of};
 ghost use Rattle.ice_base.specs.Views.{Looked};
@@ -79,7 +79,7 @@ pub fn compare_bits<D: Disk, V: View<D>>(
         → IfErr result (IfBitmap (BitsDisagree lot.now m inodes.now blocks.now)) }
     ensures faults { IfErr result IsCheckFault }
     ensures looked { Looked D.Disk V.View lot.now view.old disk.old view.new disk.new }
-    ensures failed { IsErrOf result FaultDisk → Rose (D.state disk.old).faults (D.state disk.new).faults }
+    ensures failed { Caused D.state FaultDisk result disk.old disk.new }
 {
     let mut block = [0; 1024];
     for group in 0..lot.len() as u32 {

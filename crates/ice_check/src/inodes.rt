@@ -1,6 +1,6 @@
 //! A look at an inode: its kind, its size and the pointers of its map.
-ghost use Rattle.std.specs.Prelude.{◌≡◌, ◌≤◌, ◌<◌, ◌*◌, ℕ, true, false, List, slice_index, ◌≢◌, OnOk, OnErr, IfOk, IfErr, IsErrOf, length};
-ghost use Rattle.ice_base.specs.Disk.{Rose};
+ghost use Rattle.std.specs.Prelude.{◌≡◌, ◌≤◌, ◌<◌, ◌*◌, ℕ, true, false, List, slice_index, ◌≢◌, OnOk, OnErr, IfOk, IfErr, length};
+ghost use Rattle.ice_base.specs.Disk.{Rose, Caused};
 ghost use Rattle.ice_base.specs.Lots.{is_sited};
 ghost use Rattle.ice_base.specs.Used.{used_inode, is_data};
 ghost use Rattle.ice_base.specs.Views.{Looked};
@@ -155,7 +155,7 @@ pub fn look<D: Disk, V: View<D>>(
         → used_inode m number ≡ true → IfErr result (Broke lot.now m) }
     ensures looked { Looked D.Disk V.View lot.now view.old disk.old view.new disk.new }
     ensures faults { IfErr result IsCheckFault }
-    ensures failed { IsErrOf result FaultDisk → Rose (D.state disk.old).faults (D.state disk.new).faults }
+    ensures failed { Caused D.state FaultDisk result disk.old disk.new }
 {
     let inode = read_inode(view, disk, lot, number)?;
     if !kind_fits(lot, number, &inode) {

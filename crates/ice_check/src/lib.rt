@@ -1,8 +1,8 @@
 //! The checker: whether the blocks of a lot read as a tree, and if not, a rule that they break.
 #![tactic(auto)]
 
-ghost use Rattle.std.specs.Prelude.{◌≡◌, ℕ, true, IfOk, IfErr, IsErrOf};
-ghost use Rattle.ice_base.specs.Disk.{Rose};
+ghost use Rattle.std.specs.Prelude.{◌≡◌, ℕ, true, IfOk, IfErr};
+ghost use Rattle.ice_base.specs.Disk.{Caused};
 ghost use Rattle.ice_base.specs.Lots.{is_sited};
 ghost use Rattle.ice_base.specs.Views.{Looked, IfShown};
 ghost use Rattle.tree_spec.specs.Costs.{Form, form_of};
@@ -46,7 +46,7 @@ pub fn check<D: Disk, V: View<D>>(
     // Whatever the view shows, nothing of it changes, the refused header is never named, and a fault of the disk has its cause.
     ensures looked { Looked D.Disk V.View lot.now view.old disk.old view.new disk.new }
     ensures faults { IfErr result IsCheckFault }
-    ensures failed { IsErrOf result FaultDisk → Rose (D.state disk.old).faults (D.state disk.new).faults }
+    ensures failed { Caused D.state FaultDisk result disk.old disk.new }
 {
     let sub = read_sub_super(view, disk, lot)?;
     check_blank::<D, V, 4096, 16384>(view, disk, lot, &sub)?;

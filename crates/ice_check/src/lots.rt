@@ -1,6 +1,6 @@
 //! The check of a lot as its journal leaves it.
-ghost use Rattle.std.specs.Prelude.{◌≡◌, ℕ, true, None, Some, IfOk, IfErr, IsErr, IsErrOf};
-ghost use Rattle.ice_base.specs.Disk.{Rose};
+ghost use Rattle.std.specs.Prelude.{◌≡◌, ℕ, true, None, Some, IfOk, IfErr, IsErr};
+ghost use Rattle.ice_base.specs.Disk.{Caused};
 ghost use Rattle.ice_base.specs.Lots.{is_sited};
 ghost use Rattle.ice_base.specs.Still.{Still};
 ghost use Rattle.tree_spec.specs.Costs.{Form, form_of};
@@ -32,7 +32,7 @@ pub fn check_lot<D: Disk>(disk: &mut D, lot: &Lot) -> Result<Summary, CheckFault
         → IfErr result (LotNamed lot.now (effective_of lot.now (D.state disk.old).now)) }
     // The disk is as it was, and a fault of the disk has its cause.
     ensures still { Still D.state D.left disk.old disk.new }
-    ensures failed { IsErrOf result FaultDisk → Rose (D.state disk.old).faults (D.state disk.new).faults }
+    ensures failed { Caused D.state FaultDisk result disk.old disk.new }
 {
     match Effective::read(disk, lot) {
         Ok(mut view) => check(&mut view, disk, lot),

@@ -1,6 +1,6 @@
 //! The entries of a directory, and the names in them.
-ghost use Rattle.std.specs.Prelude.{◌≡◌, ◌≤◌, ◌<◌, ◌*◌, ℕ, true, List, Some, OnOk, OnErr, IfOk, IfErr, IsErrOf, length};
-ghost use Rattle.ice_base.specs.Disk.{Rose};
+ghost use Rattle.std.specs.Prelude.{◌≡◌, ◌≤◌, ◌<◌, ◌*◌, ℕ, true, List, Some, OnOk, OnErr, IfOk, IfErr, length};
+ghost use Rattle.ice_base.specs.Disk.{Caused};
 ghost use Rattle.ice_base.specs.Lots.{is_sited};
 ghost use Rattle.ice_base.specs.Views.{Looked};
 ghost use Rattle.tree_spec.specs.Costs.{form_one};
@@ -53,7 +53,7 @@ pub fn read_entry<D: Disk, V: View<D>>(
         → k < length (rows_in form_one (own_in form_one m number)) → IfErr result (Broke lot.now m) }
     ensures looked { Looked D.Disk V.View lot.now view.old disk.old view.new disk.new }
     ensures faults { IfErr result IsCheckFault }
-    ensures failed { IsErrOf result FaultDisk → Rose (D.state disk.old).faults (D.state disk.new).faults }
+    ensures failed { Caused D.state FaultDisk result disk.old disk.new }
 {
     match entry::<D, V, FormOne>(view, disk, lot, number, k, name) {
         Ok(next) => {
@@ -83,7 +83,7 @@ fn read_names<D: Disk, V: View<D>>(
         → count ≡ length (rows_in form_one (own_in form_one m number)) → IfErr result (Broke lot.now m) }
     ensures looked { Looked D.Disk V.View lot.now view.old disk.old view.new disk.new }
     ensures faults { IfErr result IsCheckFault }
-    ensures failed { IsErrOf result FaultDisk → Rose (D.state disk.old).faults (D.state disk.new).faults }
+    ensures failed { Caused D.state FaultDisk result disk.old disk.new }
 {
     let mut name = blank_name();
     for k in 0..count {
@@ -112,7 +112,7 @@ pub fn check_names<D: Disk, V: View<D>>(
         → count ≡ length (rows_in form_one (own_in form_one m number)) → IfErr result (Broke lot.now m) }
     ensures looked { Looked D.Disk V.View lot.now view.old disk.old view.new disk.new }
     ensures faults { IfErr result IsCheckFault }
-    ensures failed { IsErrOf result FaultDisk → Rose (D.state disk.old).faults (D.state disk.new).faults }
+    ensures failed { Caused D.state FaultDisk result disk.old disk.new }
 {
     read_names(view, disk, lot, number, count, names)?;
     if !names_differ(&mut names[..count as usize]) {

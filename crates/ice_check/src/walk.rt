@@ -1,6 +1,6 @@
 //! The walk over the inodes of a lot: what it comes to gets marks.
-ghost use Rattle.std.specs.Prelude.{◌≡◌, ℕ, ◌+◌, ◌*◌, ◌<◌, ◌≤◌, Bool, true, false, List, [], ◌∷◌, ◌++◌, length, IfOk, IfErr, IfNone, IfSome, OnOk, IsErrOf};
-ghost use Rattle.ice_base.specs.Disk.{Rose};
+ghost use Rattle.std.specs.Prelude.{◌≡◌, ℕ, ◌+◌, ◌*◌, ◌<◌, ◌≤◌, Bool, true, false, List, [], ◌∷◌, ◌++◌, length, IfOk, IfErr, IfNone, IfSome, OnOk};
+ghost use Rattle.ice_base.specs.Disk.{Caused};
 ghost use Rattle.ice_base.specs.Lots.{is_sited};
 ghost use Rattle.ice_base.specs.Used.{used_inode};
 ghost use Rattle.ice_base.specs.Views.{Looked};
@@ -47,7 +47,7 @@ fn visit<D: Disk, V: View<D>>(
         → SeenBefore form_one lot.now m w inodes blocks.old → IfErr result (Broke lot.now m) }
     ensures looked { Looked D.Disk V.View lot.now view.old disk.old view.new disk.new }
     ensures faults { IfErr result IsCheckFault }
-    ensures failed { IsErrOf result FaultDisk → Rose (D.state disk.old).faults (D.state disk.new).faults }
+    ensures failed { Caused D.state FaultDisk result disk.old disk.new }
 {
     let mut pointers = [0; 1024];
     let inode = look(view, disk, lot, number, &mut pointers)?;
@@ -87,7 +87,7 @@ fn next_inode<D: Disk, V: View<D>>(
         → k < length (rows_in form_one (own_in form_one m number)) → IfErr result (Broke lot.now m) }
     ensures looked { Looked D.Disk V.View lot.now view.old disk.old view.new disk.new }
     ensures faults { IfErr result IsCheckFault }
-    ensures failed { IsErrOf result FaultDisk → Rose (D.state disk.old).faults (D.state disk.new).faults }
+    ensures failed { Caused D.state FaultDisk result disk.old disk.new }
 {
     let mut name = blank_name();
     let next = read_entry(view, disk, lot, number, k, &mut name)?;
@@ -128,7 +128,7 @@ pub fn check_inode<D: Disk, V: View<D>>(
         → OnOk result (SeenWithin form_one lot.now m w inodes.new blocks.new) }
     ensures looked { Looked D.Disk V.View lot.now view.old disk.old view.new disk.new }
     ensures faults { IfErr result IsCheckFault }
-    ensures failed { IsErrOf result FaultDisk → Rose (D.state disk.old).faults (D.state disk.new).faults }
+    ensures failed { Caused D.state FaultDisk result disk.old disk.new }
 {
     let used = is_used(view, disk, lot, number)?;
     if !used {
@@ -182,7 +182,7 @@ fn check_rows<D: Disk, V: View<D>>(
         → OnOk result (SeenWithin form_one lot.now m w inodes.new blocks.new) }
     ensures looked { Looked D.Disk V.View lot.now view.old disk.old view.new disk.new }
     ensures faults { IfErr result IsCheckFault }
-    ensures failed { IsErrOf result FaultDisk → Rose (D.state disk.old).faults (D.state disk.new).faults }
+    ensures failed { Caused D.state FaultDisk result disk.old disk.new }
 {
     check_names(view, disk, lot, number, count, names)?;
     for k in 0..count {

@@ -1,7 +1,7 @@
 //! The check of a lot's tree from no mark on, and the sub-super block.
-ghost use Rattle.std.specs.Prelude.{◌≡◌, ◌≤◌, ◌<◌, ◌*◌, true, false, OnOk, IfOk, IfErr, IsErrOf, length};
+ghost use Rattle.std.specs.Prelude.{◌≡◌, ◌≤◌, ◌<◌, ◌*◌, true, false, OnOk, IfOk, IfErr, length};
 ghost use Rattle.ice_base.specs.Bits.{count_below};
-ghost use Rattle.ice_base.specs.Disk.{Rose};
+ghost use Rattle.ice_base.specs.Disk.{Caused};
 ghost use Rattle.ice_base.specs.Lots.{is_sited, sub_address};
 ghost use Rattle.ice_base.specs.Used.{counted};
 ghost use Rattle.ice_base.specs.Views.{Looked};
@@ -33,7 +33,7 @@ pub fn read_sub_super<D: Disk, V: View<D>>(
     ensures named { (m : Map) → Shows V.View lot.now view.old disk.old m → IfErr result (Named lot.now m) }
     ensures looked { Looked D.Disk V.View lot.now view.old disk.old view.new disk.new }
     ensures faults { IfErr result IsCheckFault }
-    ensures failed { IsErrOf result FaultDisk → Rose (D.state disk.old).faults (D.state disk.new).faults }
+    ensures failed { Caused D.state FaultDisk result disk.old disk.new }
 {
     let mut block = [0; 1024];
     read_block(view, disk, lot, SUB, &mut block)?;
@@ -80,7 +80,7 @@ pub fn check_tree<D: Disk, V: View<D>>(
         → counted true m ≡ sub.now.nodes → IfErr result (Broke lot.now m) }
     ensures looked { Looked D.Disk V.View lot.now view.old disk.old view.new disk.new }
     ensures faults { IfErr result IsCheckFault }
-    ensures failed { IsErrOf result FaultDisk → Rose (D.state disk.old).faults (D.state disk.new).faults }
+    ensures failed { Caused D.state FaultDisk result disk.old disk.new }
 {
     check_inode(view, disk, lot, 0, 0, inodes, blocks, names)?;
     compare_bits(view, disk, lot, inodes, blocks)?;
@@ -108,7 +108,7 @@ pub fn check_blank<D: Disk, V: View<D>, const INODES: usize, const BLOCKS: usize
         → counted true m ≡ sub.now.nodes → IfErr result (Broke lot.now m) }
     ensures looked { Looked D.Disk V.View lot.now view.old disk.old view.new disk.new }
     ensures faults { IfErr result IsCheckFault }
-    ensures failed { IsErrOf result FaultDisk → Rose (D.state disk.old).faults (D.state disk.new).faults }
+    ensures failed { Caused D.state FaultDisk result disk.old disk.new }
 {
     let mut inodes = unmarked::<INODES>();
     let mut blocks = unmarked::<BLOCKS>();

@@ -1,6 +1,6 @@
 //! Entries that are added.
 ghost use Rattle.std.specs.Prelude.{◌≡◌, ◌≢◌, ◌≤◌, ◌<◌, ◌*◌, ◌+◌, ◌/◌, ◌^◌, ◌++◌, ℕ, List, true, false, [], ◌∷◌, OnOk, OnErr, IfOk, IfErr, IsErrOf, length};
-ghost use Rattle.ice_base.specs.Disk.{Rose};
+ghost use Rattle.ice_base.specs.Disk.{Caused};
 ghost use Rattle.ice_base.specs.Fields.{SameBeside};
 ghost use Rattle.ice_base.specs.Lots.{is_sited, sub_address};
 ghost use Rattle.ice_base.specs.Used.{is_data, count_place, counted, free_count, Reserved};
@@ -63,7 +63,7 @@ fn open_block<D: Disk, K: Keep<D>, P: Pool<D, K>, F: Form>(
     ensures sub { AsShown K.View lot.now keep.old disk.old keep.new disk.new (λ old new.
         OnOk result (SameBeside (count_place false) 4 (old sub_address) (new sub_address))) }
     ensures faults { IfErr result IsGrowFault }
-    ensures failed { IsErrOf result FaultDisk → Rose (D.state disk.old).faults (D.state disk.new).faults }
+    ensures failed { Caused D.state FaultDisk result disk.old disk.new }
 {
     if k < count {
         let at = read_block::<D, K, F>(keep, disk, lot, inode, k, into)?;
@@ -110,7 +110,7 @@ fn append<D: Disk, K: Keep<D>, P: Pool<D, K>, F: Form>(
     ensures sub { AsShown K.View lot.now keep.old disk.old keep.new disk.new (λ old new.
         OnOk result (SameBeside (count_place false) 4 (old sub_address) (new sub_address))) }
     ensures faults { IfErr result IsGrowFault }
-    ensures failed { IsErrOf result FaultDisk → Rose (D.state disk.old).faults (D.state disk.new).faults }
+    ensures failed { Caused D.state FaultDisk result disk.old disk.new }
 {
     let mut block = [0; 1024];
     let count = blocks_for_rows::<F>(dir.size);
@@ -169,7 +169,7 @@ pub fn add<D: Disk, K: Keep<D>, P: Pool<D, K>, F: Form>(
     ensures unchanged { IsErrOf result (Damaged Kind)
         → Looked D.Disk K.View lot.now keep.old disk.old keep.new disk.new }
     ensures faults { IfErr result IsAddFault }
-    ensures failed { IsErrOf result FaultDisk → Rose (D.state disk.old).faults (D.state disk.new).faults }
+    ensures failed { Caused D.state FaultDisk result disk.old disk.new }
 {
     let mut dir = dir_inode::<D, K, F>(keep, disk, lot, number)?;
     if dir.size + 1 >= 64 * lot.len() as u32 {

@@ -1,6 +1,6 @@
 //! What directories hold.
 ghost use Rattle.std.specs.Prelude.{◌≡◌, ◌≤◌, ◌<◌, ◌*◌, ◌+◌, ◌-◌, ◌/◌, ℕ, true, false, min, OnOk, OnErr, IfOk, IfErr, IfNone, IfSome, IsErrOf, Some, MatchOption, length, slice_get};
-ghost use Rattle.ice_base.specs.Disk.{Rose};
+ghost use Rattle.ice_base.specs.Disk.{Caused};
 ghost use Rattle.ice_base.specs.Lots.{is_sited};
 ghost use Rattle.ice_base.specs.Used.{is_data};
 ghost use Rattle.ice_base.specs.Views.{Looked, IfShown};
@@ -34,7 +34,7 @@ pub fn dir_inode<D: Disk, V: View<D>, F: Form>(
         ¬ IsDirectory lot.now (inode_of old number)) }
     ensures looked { Looked D.Disk V.View lot.now view.old disk.old view.new disk.new }
     ensures faults { IfErr result IsKindFault }
-    ensures failed { IsErrOf result FaultDisk → Rose (D.state disk.old).faults (D.state disk.new).faults }
+    ensures failed { Caused D.state FaultDisk result disk.old disk.new }
 {
     let inode = get_inode::<D, V, F>(view, disk, lot, number)?;
     if inode.kind != 2 || inode.size >= 64 * lot.len() as u32 {
@@ -64,7 +64,7 @@ pub fn read_block<D: Disk, V: View<D>, F: Form>(
         leads lot.now old inode.now n ≡ false) }
     ensures looked { Looked D.Disk V.View lot.now view.old disk.old view.new disk.new }
     ensures faults { IfErr result IsLookFault }
-    ensures failed { IsErrOf result FaultDisk → Rose (D.state disk.old).faults (D.state disk.new).faults }
+    ensures failed { Caused D.state FaultDisk result disk.old disk.new }
 {
     let at = nth::<D, V, F>(view, disk, lot, inode, n)?;
     fetch(view, disk, lot, at, into)?;
@@ -89,7 +89,7 @@ pub fn len<D: Disk, V: View<D>, F: Form>(
         ¬ IsDirectory lot.now (inode_of old number)) }
     ensures looked { Looked D.Disk V.View lot.now view.old disk.old view.new disk.new }
     ensures faults { IfErr result IsKindFault }
-    ensures failed { IsErrOf result FaultDisk → Rose (D.state disk.old).faults (D.state disk.new).faults }
+    ensures failed { Caused D.state FaultDisk result disk.old disk.new }
 {
     Ok(dir_inode::<D, V, F>(view, disk, lot, number)?.size)
 }
@@ -121,7 +121,7 @@ pub fn entry<D: Disk, V: View<D>, F: Form>(
         IfSome (slice_get (rows_of F.ENTRY old number) k) (λ row. is_name row.0 ≡ false)) }
     ensures looked { Looked D.Disk V.View lot.now view.old disk.old view.new disk.new }
     ensures faults { IfErr result IsEntryFault }
-    ensures failed { IsErrOf result FaultDisk → Rose (D.state disk.old).faults (D.state disk.new).faults }
+    ensures failed { Caused D.state FaultDisk result disk.old disk.new }
 {
     let inode = dir_inode::<D, V, F>(view, disk, lot, number)?;
     if k >= inode.size {
@@ -178,7 +178,7 @@ fn seek_block<D: Disk, V: View<D>, F: Form>(
         leads lot.now old inode.now n ≡ false) }
     ensures looked { Looked D.Disk V.View lot.now view.old disk.old view.new disk.new }
     ensures faults { IfErr result IsLookFault }
-    ensures failed { IsErrOf result FaultDisk → Rose (D.state disk.old).faults (D.state disk.new).faults }
+    ensures failed { Caused D.state FaultDisk result disk.old disk.new }
 {
     let mut block = [0; 1024];
     read_block::<D, V, F>(view, disk, lot, inode, n, &mut block)?;
@@ -207,7 +207,7 @@ pub fn seek<D: Disk, V: View<D>, F: Form>(
         (n : ℕ) × (n * per_block F.ENTRY < inode.now.size) × (leads lot.now old inode.now n ≡ false)) }
     ensures looked { Looked D.Disk V.View lot.now view.old disk.old view.new disk.new }
     ensures faults { IfErr result IsLookFault }
-    ensures failed { IsErrOf result FaultDisk → Rose (D.state disk.old).faults (D.state disk.new).faults }
+    ensures failed { Caused D.state FaultDisk result disk.old disk.new }
 {
     for n in 0..inode.size.div_ceil(rows_per_block::<F>()) {
         match seek_block::<D, V, F>(view, disk, lot, inode, n, name)? {
@@ -240,7 +240,7 @@ pub fn find<D: Disk, V: View<D>, F: Form>(
         × (leads lot.now old (inode_of old number) n ≡ false)) }
     ensures looked { Looked D.Disk V.View lot.now view.old disk.old view.new disk.new }
     ensures faults { IfErr result IsFindFault }
-    ensures failed { IsErrOf result FaultDisk → Rose (D.state disk.old).faults (D.state disk.new).faults }
+    ensures failed { Caused D.state FaultDisk result disk.old disk.new }
 {
     let inode = dir_inode::<D, V, F>(view, disk, lot, number)?;
     match seek::<D, V, F>(view, disk, lot, &inode, name.bytes())? {

@@ -1,7 +1,7 @@
 //! Entries that are taken.
 ghost use Rattle.std.specs.Prelude.{◌≡◌, ◌≢◌, ◌≤◌, ◌<◌, ◌*◌, ◌+◌, ◌-◌, ◌/◌, ℕ, true, false, [], IsSome, IsNone, OnOk, OnErr, IfOk, IfErr, IsErrOf, length};
 ghost use Rattle.std.specs.List.{swap_remove, position_or_len};
-ghost use Rattle.ice_base.specs.Disk.{Rose};
+ghost use Rattle.ice_base.specs.Disk.{Caused};
 ghost use Rattle.ice_base.specs.Lots.{is_sited, sub_address};
 ghost use Rattle.ice_base.specs.Used.{is_data, counted};
 ghost use Rattle.ice_base.specs.Views.{Looked, Spent, AsShown, IfShown};
@@ -48,7 +48,7 @@ fn move_last<D: Disk, K: Keep<D>, F: Form>(
     ensures within { AsShown K.View lot.now keep.old disk.old keep.new disk.new (λ old new.
         OnOk result ((b : ℕ) → b ≢ nth_block old dir.now (k / per_block F.ENTRY) → new b ≡ old b)) }
     ensures faults { IfErr result IsLookFault }
-    ensures failed { IsErrOf result FaultDisk → Rose (D.state disk.old).faults (D.state disk.new).faults }
+    ensures failed { Caused D.state FaultDisk result disk.old disk.new }
 {
     let per_block = rows_per_block::<F>();
     let last = dir.size - 1;
@@ -95,7 +95,7 @@ fn remove_row<D: Disk, K: Keep<D>, P: Pool<D, K>, F: Form>(
     ensures misled { IsErrOf result (Damaged Pointer) → IfShown K.View lot.now keep.old disk.old (λ old.
         Confuses lot.now old dir (dir_blocks F.ENTRY dir.size)) }
     ensures faults { IfErr result IsCutFault }
-    ensures failed { IsErrOf result FaultDisk → Rose (D.state disk.old).faults (D.state disk.new).faults }
+    ensures failed { Caused D.state FaultDisk result disk.old disk.new }
 {
     let _groups = lot.len();
     move_last::<D, K, F>(keep, disk, lot, &dir, k)?;
@@ -156,7 +156,7 @@ pub fn take<D: Disk, K: Keep<D>, P: Pool<D, K>, F: Form>(
     ensures unchanged { IsErrOf result (Damaged Kind)
         → Looked D.Disk K.View lot.now keep.old disk.old keep.new disk.new }
     ensures faults { IfErr result IsTakeFault }
-    ensures failed { IsErrOf result FaultDisk → Rose (D.state disk.old).faults (D.state disk.new).faults }
+    ensures failed { Caused D.state FaultDisk result disk.old disk.new }
 {
     let dir = dir_inode::<D, K, F>(keep, disk, lot, number)?;
     match seek::<D, K, F>(keep, disk, lot, &dir, name.bytes())? {

@@ -1,6 +1,6 @@
 //! Bytes that are put into one block of a file.
 ghost use Rattle.std.specs.Prelude.{is_ok, ◌≡◌, ◌≢◌, ◌≤◌, ◌<◌, ◌+◌, ◌-◌, ◌*◌, ◌^◌, ◌⊎◌, max, ℕ, true, false, [], ◌∷◌, OnOk, IfOk, IfErr, IsErrOf, length, slice_index};
-ghost use Rattle.ice_base.specs.Disk.{Rose};
+ghost use Rattle.ice_base.specs.Disk.{Caused};
 ghost use Rattle.ice_base.specs.Faults.{IsDiskFault};
 ghost use Rattle.ice_base.specs.Lots.{is_sited};
 ghost use Rattle.ice_base.specs.Used.{is_data, counted, free_count, Reserved};
@@ -51,7 +51,7 @@ fn reach<D: Disk, K: Keep<D>, P: Pool<D, K>, F: Form>(
     ensures had { AsShown K.View lot.now keep.old disk.old keep.new disk.new (λ old new.
         k < count → IfOk result (λ a. (a ≡ nth_block old inode.old k) × (new ≡ old))) }
     ensures faults { IfErr result IsGrowFault }
-    ensures failed { IsErrOf result FaultDisk → Rose (D.state disk.old).faults (D.state disk.new).faults }
+    ensures failed { Caused D.state FaultDisk result disk.old disk.new }
 {
     if k < count {
         let at = nth::<D, K, F>(keep, disk, lot, inode, k)?;
@@ -95,7 +95,7 @@ fn fill<D: Disk, K: Keep<D>>(
     ensures puts { Puts K.View lot.now (is_ok result) (at ∷ []) keep.old disk.old keep.new disk.new }
     ensures spent { Spent D.Disk K.View lot.now 1 keep.old disk.old keep.new disk.new }
     ensures faults { IfErr result IsDiskFault }
-    ensures failed { IsErrOf result FaultDisk → Rose (D.state disk.old).faults (D.state disk.new).faults }
+    ensures failed { Caused D.state FaultDisk result disk.old disk.new }
 {
     let mut block = [0; 1024];
     if !fresh && bytes.len() < 1024 {
@@ -143,7 +143,7 @@ pub fn put_piece<D: Disk, K: Keep<D>, P: Pool<D, K>, F: Form>(
     ensures within { AsShown K.View lot.now keep.old disk.old keep.new disk.new (λ old new.
         k < count → OnOk result ((b : ℕ) → b ≢ nth_block old inode.old k → new b ≡ old b)) }
     ensures faults { IfErr result IsGrowFault }
-    ensures failed { IsErrOf result FaultDisk → Rose (D.state disk.old).faults (D.state disk.new).faults }
+    ensures failed { Caused D.state FaultDisk result disk.old disk.new }
 {
     let at = reach::<D, K, P, F>(keep, pool, disk, lot, inode, count, k)?;
     fill(keep, disk, lot, at, start, bytes, k == count)?;

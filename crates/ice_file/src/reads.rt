@@ -1,6 +1,6 @@
 //! Reads of files.
 ghost use Rattle.std.specs.Prelude.{◌≡◌, ◌≤◌, ◌<◌, ◌+◌, ◌-◌, ◌*◌, ◌++◌, ℕ, true, false, [], OnOk, IfOk, IfErr, IsErrOf, length, take, drop, min};
-ghost use Rattle.ice_base.specs.Disk.{Rose};
+ghost use Rattle.ice_base.specs.Disk.{Caused};
 ghost use Rattle.ice_base.specs.Lots.{is_sited};
 ghost use Rattle.ice_base.specs.Views.{Looked, IfShown};
 ghost use Rattle.ice_base.specs.declared.fault.OpFault.TheVariants.{Disk as FaultDisk, Damaged};
@@ -42,7 +42,7 @@ fn read_piece<D: Disk, V: View<D>, F: Form>(
         (k : ℕ) × (1024 * k < end) × (leads lot.now old inode.now k ≡ false)) }
     ensures looked { Looked D.Disk V.View lot.now view.old disk.old view.new disk.new }
     ensures faults { IfErr result IsLookFault }
-    ensures failed { IsErrOf result FaultDisk → Rose (D.state disk.old).faults (D.state disk.new).faults }
+    ensures failed { Caused D.state FaultDisk result disk.old disk.new }
 {
     let at = nth::<D, V, F>(view, disk, lot, inode, from / 1024)?;
     let mut block = [0; 1024];
@@ -84,7 +84,7 @@ pub fn read_at<D: Disk, V: View<D>, F: Form>(
         ¬ WellMade lot.now F.ENTRY old number) }
     ensures looked { Looked D.Disk V.View lot.now view.old disk.old view.new disk.new }
     ensures faults { IfErr result IsReadFault }
-    ensures failed { IsErrOf result FaultDisk → Rose (D.state disk.old).faults (D.state disk.new).faults }
+    ensures failed { Caused D.state FaultDisk result disk.old disk.new }
 {
     let inode = file_inode::<D, V, F>(view, disk, lot, number, at)?;
     let end = inode.size.min(at + len);

@@ -1,6 +1,6 @@
 //! Writes to files.
 ghost use Rattle.std.specs.Prelude.{◌≡◌, ◌≤◌, ◌<◌, ◌+◌, ◌-◌, ◌*◌, ◌^◌, ◌++◌, max, ℕ, true, false, [], OnOk, IfOk, IfErr, IsErrOf, length, take, drop};
-ghost use Rattle.ice_base.specs.Disk.{Rose};
+ghost use Rattle.ice_base.specs.Disk.{Caused};
 ghost use Rattle.ice_base.specs.Fields.{SameBeside};
 ghost use Rattle.ice_base.specs.Lots.{is_sited, sub_address};
 ghost use Rattle.ice_base.specs.Used.{count_place, counted, free_count, Reserved};
@@ -51,7 +51,7 @@ fn write_blocks<D: Disk, K: Keep<D>, P: Pool<D, K>, F: Form>(
     ensures misled { IsErrOf result (Damaged Pointer) → IfShown K.View lot.now keep.old disk.old (λ old.
         Confuses lot.now old inode.old (blocks_for inode.old.size)) }
     ensures faults { IfErr result IsGrowFault }
-    ensures failed { IsErrOf result FaultDisk → Rose (D.state disk.old).faults (D.state disk.new).faults }
+    ensures failed { Caused D.state FaultDisk result disk.old disk.new }
 {
     let size = inode.size;
     let end = at + bytes.len() as u32;
@@ -118,7 +118,7 @@ pub fn write_at<D: Disk, K: Keep<D>, P: Pool<D, K>, F: Form>(
     ensures sub { AsShown K.View lot.now keep.old disk.old keep.new disk.new (λ old new.
         OnOk result (SameBeside (count_place false) 4 (old sub_address) (new sub_address))) }
     ensures faults { IfErr result IsWriteFault }
-    ensures failed { IsErrOf result FaultDisk → Rose (D.state disk.old).faults (D.state disk.new).faults }
+    ensures failed { Caused D.state FaultDisk result disk.old disk.new }
 {
     let mut inode = file_inode::<D, K, F>(keep, disk, lot, number, at)?;
     write_blocks::<D, K, P, F>(keep, pool, disk, lot, &mut inode, at, bytes)?;

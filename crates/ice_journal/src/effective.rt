@@ -1,6 +1,6 @@
 //! What the gate and the header of a lot's journal say.
 ghost use Rattle.std.specs.Prelude.{◌≡◌, ◌≢◌, ◌<◌, ◌≤◌, ℕ, [], true, None, Some, OnOk, IfOk, IsErrOf, length, slice_index, MatchOption};
-ghost use Rattle.ice_base.specs.Disk.{HasCause, Rose, block};
+ghost use Rattle.ice_base.specs.Disk.{HasCause, block, Caused};
 ghost use Rattle.ice_base.specs.Lots.{is_address, is_sited, place, gate_place};
 ghost use Rattle.ice_base.specs.Still.{Still};
 ghost use Rattle.ice_layout.specs.Headers.{is_open, targets_said, IsProperHeader};
@@ -93,8 +93,7 @@ impl Effective {
         // Faults come from the disk alone.
         ensures calm { ¬ IsErrOf result FaultDisk
             → (D.state disk.new).faults ≡ (D.state disk.old).faults }
-        ensures failed { IsErrOf result FaultDisk
-            → Rose (D.state disk.old).faults (D.state disk.new).faults }
+        ensures failed { Caused D.state FaultDisk result disk.old disk.new }
     {
         let area = area_of(lot);
         let mut bytes = [0; 1024];

@@ -1,6 +1,6 @@
 //! Fewer blocks for an inode's map.
 ghost use Rattle.std.specs.Prelude.{is_ok, ◌≡◌, ◌≢◌, ◌≤◌, ◌<◌, ◌+◌, ◌*◌, ◌-◌, ◌++◌, ℕ, true, false, List, [], ◌∷◌, OnOk, OnErr, IfOk, IfErr, IsErrOf, length, take, replicate};
-ghost use Rattle.ice_base.specs.Disk.{Rose};
+ghost use Rattle.ice_base.specs.Disk.{Caused};
 ghost use Rattle.ice_base.specs.Lots.{is_sited, sub_address};
 ghost use Rattle.ice_base.specs.Spare.{has, bitmaps};
 ghost use Rattle.ice_base.specs.Used.{used_block, is_data, counted};
@@ -57,7 +57,7 @@ fn give_between<D: Disk, K: Keep<D>, P: Pool<D, K>>(
     ensures pointer { IsErrOf result (Damaged Pointer) → (k : ℕ) × (rest ≤ k) × (k < count)
         × (is_data lot.now (nth_block (λ _. block.now) inode.now k) ≡ false) }
     ensures faults { IfErr result IsCutFault }
-    ensures failed { IsErrOf result FaultDisk → Rose (D.state disk.old).faults (D.state disk.new).faults }
+    ensures failed { Caused D.state FaultDisk result disk.old disk.new }
 {
     for k in rest..count {
         let at = match checked(lot, entry(inode, block, k)) {
@@ -88,7 +88,7 @@ fn read_indirect<D: Disk, V: View<D>>(
     ensures pointer { IsErrOf result (Damaged Pointer) → is_data lot.now inode.now.single ≡ false }
     ensures looked { Looked D.Disk V.View lot.now view.old disk.old view.new disk.new }
     ensures faults { IfErr result IsLookFault }
-    ensures failed { IsErrOf result FaultDisk → Rose (D.state disk.old).faults (D.state disk.new).faults }
+    ensures failed { Caused D.state FaultDisk result disk.old disk.new }
 {
     let single = checked(lot, inode.single)?;
     fetch(view, disk, lot, single, into)
@@ -128,7 +128,7 @@ fn give_indirect<D: Disk, K: Keep<D>, P: Pool<D, K>>(
         OnOk result ((b : ℕ) → has (cut_off old inode.now count rest) b ≡ true
         → is_data lot.now b ≡ true)) }
     ensures faults { IfErr result IsCutFault }
-    ensures failed { IsErrOf result FaultDisk → Rose (D.state disk.old).faults (D.state disk.new).faults }
+    ensures failed { Caused D.state FaultDisk result disk.old disk.new }
 {
     let mut block = [0; 1024];
     match read_indirect(keep, disk, lot, inode, &mut block) {
@@ -205,7 +205,7 @@ fn give_rest<D: Disk, K: Keep<D>, P: Pool<D, K>>(
         OnOk result ((b : ℕ) → has (cut_off old inode.now count rest) b ≡ true
         → is_data lot.now b ≡ true)) }
     ensures faults { IfErr result IsCutFault }
-    ensures failed { IsErrOf result FaultDisk → Rose (D.state disk.old).faults (D.state disk.new).faults }
+    ensures failed { Caused D.state FaultDisk result disk.old disk.new }
 {
     if rest == count {
         return Ok(());
@@ -255,7 +255,7 @@ pub fn cut<D: Disk, K: Keep<D>, P: Pool<D, K>, F: Form>(
         OnOk result ((b : ℕ) → has (cut_off old inode.old count rest) b ≡ true
         → is_data lot.now b ≡ true)) }
     ensures faults { IfErr result IsCutFault }
-    ensures failed { IsErrOf result FaultDisk → Rose (D.state disk.old).faults (D.state disk.new).faults }
+    ensures failed { Caused D.state FaultDisk result disk.old disk.new }
 {
     match give_rest(keep, pool, disk, lot, inode, count, rest) {
         Ok(()) => {

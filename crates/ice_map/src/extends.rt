@@ -1,7 +1,7 @@
 //! One block more for an inode's map.
 ghost use Rattle.std.specs.Prelude.{◌≡◌, ◌≢◌, ◌≤◌, ◌<◌, ◌+◌, ◌*◌, ◌-◌, ◌^◌, ◌==◌, cond, ℕ, true, false, List, [], ◌∷◌, OnOk, OnErr, IfOk, IfErr, IsErrOf, length, slice_set, replicate};
 ghost use Rattle.ice_base.specs.Bits.{IsLeast};
-ghost use Rattle.ice_base.specs.Disk.{Rose};
+ghost use Rattle.ice_base.specs.Disk.{Caused};
 ghost use Rattle.ice_base.specs.Faults.{IsTakeBlockFault, IsGiveFault};
 ghost use Rattle.ice_base.specs.Fields.{WordSet};
 ghost use Rattle.ice_base.specs.Lots.{is_sited, sub_address};
@@ -64,7 +64,7 @@ fn extend_direct<D: Disk, K: Keep<D>, P: Pool<D, K>>(
     ensures unmoved { IsErrOf result (Damaged Pointer)
         → Looked D.Disk K.View lot.now keep.old disk.old keep.new disk.new }
     ensures faults { IfErr result IsGrowFault }
-    ensures failed { IsErrOf result FaultDisk → Rose (D.state disk.old).faults (D.state disk.new).faults }
+    ensures failed { Caused D.state FaultDisk result disk.old disk.new }
 {
     let taken = pool.take_block(keep, disk, lot)?;
     set_direct(&mut inode.direct, count, taken);
@@ -95,7 +95,7 @@ fn take_counted<D: Disk, K: Keep<D>, P: Pool<D, K>>(
     ensures unreserved { IsErrOf result (Damaged Bitmap) → IfShown K.View lot.now keep.old disk.old (λ old.
         1 ≤ free_count false lot.now old → ¬ Reserved lot.now old) }
     ensures faults { IfErr result IsGiveFault }
-    ensures failed { IsErrOf result FaultDisk → Rose (D.state disk.old).faults (D.state disk.new).faults }
+    ensures failed { Caused D.state FaultDisk result disk.old disk.new }
 {
     match pool.take_block(keep, disk, lot) {
         Ok(taken) => Ok(taken),
@@ -131,7 +131,7 @@ fn take_two<D: Disk, K: Keep<D>, P: Pool<D, K>>(
     ensures unreserved { IsErrOf result (Damaged Bitmap) → IfShown K.View lot.now keep.old disk.old (λ old.
         2 ≤ free_count false lot.now old → ¬ Reserved lot.now old) }
     ensures faults { IfErr result IsGiveFault }
-    ensures failed { IsErrOf result FaultDisk → Rose (D.state disk.old).faults (D.state disk.new).faults }
+    ensures failed { Caused D.state FaultDisk result disk.old disk.new }
 {
     let first = take_counted(keep, pool, disk, lot)?;
     let second = take_counted(keep, pool, disk, lot)?;
@@ -177,7 +177,7 @@ fn extend_first<D: Disk, K: Keep<D>, P: Pool<D, K>>(
     ensures unmoved { IsErrOf result (Damaged Pointer)
         → Looked D.Disk K.View lot.now keep.old disk.old keep.new disk.new }
     ensures faults { IfErr result IsGrowFault }
-    ensures failed { IsErrOf result FaultDisk → Rose (D.state disk.old).faults (D.state disk.new).faults }
+    ensures failed { Caused D.state FaultDisk result disk.old disk.new }
 {
     if pool.free_blocks(keep, disk, lot)? < 2 {
         return Err(OpFault::NoSpace);
@@ -230,7 +230,7 @@ fn extend_single<D: Disk, K: Keep<D>, P: Pool<D, K>>(
     ensures unmoved { IsErrOf result (Damaged Pointer)
         → Looked D.Disk K.View lot.now keep.old disk.old keep.new disk.new }
     ensures faults { IfErr result IsGrowFault }
-    ensures failed { IsErrOf result FaultDisk → Rose (D.state disk.old).faults (D.state disk.new).faults }
+    ensures failed { Caused D.state FaultDisk result disk.old disk.new }
 {
     let single = checked(lot, inode.single)?;
     let mut block = [0; 1024];
@@ -283,7 +283,7 @@ pub fn extend<D: Disk, K: Keep<D>, P: Pool<D, K>, F: Form>(
     ensures unmoved { IsErrOf result (Damaged Pointer)
         → Looked D.Disk K.View lot.now keep.old disk.old keep.new disk.new }
     ensures faults { IfErr result IsGrowFault }
-    ensures failed { IsErrOf result FaultDisk → Rose (D.state disk.old).faults (D.state disk.new).faults }
+    ensures failed { Caused D.state FaultDisk result disk.old disk.new }
 {
     if count < 12 {
         return extend_direct(keep, pool, disk, lot, inode, count);

@@ -1,6 +1,6 @@
 //! The blocks of an inode's map.
 ghost use Rattle.std.specs.Prelude.{◌≡◌, ◌≢◌, ◌≤◌, ◌<◌, true, false, OnOk, OnErr, IfOk, IfErr, IsErrOf};
-ghost use Rattle.ice_base.specs.Disk.{Rose};
+ghost use Rattle.ice_base.specs.Disk.{Caused};
 ghost use Rattle.ice_base.specs.Lots.{is_sited};
 ghost use Rattle.ice_base.specs.Used.{is_data};
 ghost use Rattle.ice_base.specs.Views.{Looked, IfShown};
@@ -53,7 +53,7 @@ pub fn nth<D: Disk, V: View<D>, F: Form>(
         leads lot.now old inode.now n ≡ false) }
     ensures looked { Looked D.Disk V.View lot.now view.old disk.old view.new disk.new }
     ensures faults { IfErr result IsLookFault }
-    ensures failed { IsErrOf result FaultDisk → Rose (D.state disk.old).faults (D.state disk.new).faults }
+    ensures failed { Caused D.state FaultDisk result disk.old disk.new }
 {
     if n < 12 {
         return checked(lot, inode.direct[n as usize]);

@@ -1,6 +1,6 @@
 //! Takes and gives, alike for blocks and inodes.
 ghost use Rattle.std.specs.Prelude.{is_ok, ◌≡◌, ◌≢◌, ◌≤◌, ◌<◌, ◌+◌, ◌-◌, ◌*◌, ◌/◌, ◌%◌, ◌^◌, true, false, cond, [], ◌∷◌, OnOk, OnErr, IfOk, IfErr, IsErrOf, length};
-ghost use Rattle.ice_base.specs.Disk.{Rose};
+ghost use Rattle.ice_base.specs.Disk.{Rose, Caused};
 ghost use Rattle.ice_base.specs.Fields.{WordSet};
 ghost use Rattle.ice_base.specs.Lots.{is_sited, sub_address};
 ghost use Rattle.ice_base.specs.Spare.{lacks, FitsAny};
@@ -55,7 +55,7 @@ pub fn move_count<D: Disk, V: View<D>>(
         counted inodes old ≡ cond up (2 ^ 32 - 1) 0) }
     ensures looked { Looked D.Disk V.View lot.now view.old disk.old view.new disk.new }
     ensures faults { IfErr result IsCountFault }
-    ensures failed { IsErrOf result FaultDisk → Rose (D.state disk.old).faults (D.state disk.new).faults }
+    ensures failed { Caused D.state FaultDisk result disk.old disk.new }
 {
     fetch(view, disk, lot, SUB, sub)?;
     let at = if inodes { 28 } else { 24 };
@@ -132,7 +132,7 @@ pub fn take<D: Disk, K: Keep<D>>(
     ensures looked_damaged { (rule : Rule) → IsErrOf result (Damaged rule)
         → Looked D.Disk K.View lot.now keep.old disk.old keep.new disk.new }
     ensures faults { IfErr result (IsTakeFault inodes) }
-    ensures failed { IsErrOf result FaultDisk → Rose (D.state disk.old).faults (D.state disk.new).faults }
+    ensures failed { Caused D.state FaultDisk result disk.old disk.new }
 {
     let mut bitmap = [0; 1024];
     let mut sub = [0; 1024];
@@ -167,7 +167,7 @@ pub fn give<D: Disk, K: Keep<D>>(
     ensures looked_damaged { (rule : Rule) → IsErrOf result (Damaged rule)
         → Looked D.Disk K.View lot.now keep.old disk.old keep.new disk.new }
     ensures faults { IfErr result IsGiveFault }
-    ensures failed { IsErrOf result FaultDisk → Rose (D.state disk.old).faults (D.state disk.new).faults }
+    ensures failed { Caused D.state FaultDisk result disk.old disk.new }
 {
     let mut bitmap = [0; 1024];
     let mut sub = [0; 1024];

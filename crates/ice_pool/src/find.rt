@@ -1,6 +1,6 @@
 //! Looks at bitmaps.
 ghost use Rattle.std.specs.Prelude.{◌≡◌, ◌≤◌, ◌<◌, ◌+◌, ◌*◌, ◌/◌, ◌%◌, true, false, IfOk, IfErr, IsErrOf, OnErr, length};
-ghost use Rattle.ice_base.specs.Disk.{Rose};
+ghost use Rattle.ice_base.specs.Disk.{Caused};
 ghost use Rattle.ice_base.specs.Lots.{is_sited};
 ghost use Rattle.ice_base.specs.Views.{Looked, IfShown};
 ghost use Rattle.ice_base.specs.Bits.{IsLeast};
@@ -63,7 +63,7 @@ pub fn find<D: Disk, V: View<D>>(
     ensures no_counts { ¬ IsErrOf result (Damaged Counts) }
     ensures looked { Looked D.Disk V.View lot.now view.old disk.old view.new disk.new }
     ensures faults { IfErr result (IsTakeFault inodes) }
-    ensures failed { IsErrOf result FaultDisk → Rose (D.state disk.old).faults (D.state disk.new).faults }
+    ensures failed { Caused D.state FaultDisk result disk.old disk.new }
 {
     for ordinal in 0..lot.len() as u32 {
         fetch(view, disk, lot, 256 * ordinal, block)?;
@@ -90,7 +90,7 @@ pub fn free<D: Disk, V: View<D>>(
         IfOk result (λ n. n ≡ free_count inodes lot.now old)) }
     ensures looked { Looked D.Disk V.View lot.now view.old disk.old view.new disk.new }
     ensures faults { IfErr result IsDiskFault }
-    ensures failed { IsErrOf result FaultDisk → Rose (D.state disk.old).faults (D.state disk.new).faults }
+    ensures failed { Caused D.state FaultDisk result disk.old disk.new }
 {
     let mut block = [0; 1024];
     let mut free: u32 = 0;

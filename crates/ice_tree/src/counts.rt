@@ -1,6 +1,6 @@
 //! The number of accepted operations in the sub-super block.
 ghost use Rattle.std.specs.Prelude.{◌≡◌, ◌≤◌, ◌<◌, ◌+◌, ◌^◌, ℕ, true, Some, OnOk, IfOk, IfErr, IsErrOf};
-ghost use Rattle.ice_base.specs.Disk.{Rose};
+ghost use Rattle.ice_base.specs.Disk.{Caused};
 ghost use Rattle.ice_base.specs.Fields.{long_at};
 ghost use Rattle.ice_base.specs.Lots.{is_sited, sub_address};
 ghost use Rattle.ice_base.specs.Views.{Looked, Spent, AsShown, IfShown};
@@ -44,7 +44,7 @@ pub(crate) fn done_of<D: Disk, V: View<D>, F: Form>(
         sub_rule lot.now.slot (old sub_address) ≡ Some r) }
     ensures looked { Looked D.Disk V.View lot.now view.old disk.old view.new disk.new }
     ensures faults { IfErr result (IsNamedIn sub_rules) }
-    ensures failed { IsErrOf result FaultDisk → Rose (D.state disk.old).faults (D.state disk.new).faults }
+    ensures failed { Caused D.state FaultDisk result disk.old disk.new }
 {
     let mut block = [0; 1024];
     fetch(view, disk, lot, SUB, &mut block)?;
@@ -70,7 +70,7 @@ pub(crate) fn count_up<D: Disk, K: Keep<D>>(
         2 ^ 63 ≤ long_at (old sub_address) 16 + 1) }
     ensures spent { Spent D.Disk K.View lot.now 1 keep.old disk.old keep.new disk.new }
     ensures faults { IfErr result IsCountFault }
-    ensures failed { IsErrOf result FaultDisk → Rose (D.state disk.old).faults (D.state disk.new).faults }
+    ensures failed { Caused D.state FaultDisk result disk.old disk.new }
 {
     let mut block = [0; 1024];
     fetch(keep, disk, lot, SUB, &mut block)?;

@@ -1,6 +1,6 @@
 //! How high trees are.
-ghost use Rattle.std.specs.Prelude.{◌≡◌, ◌≤◌, ◌<◌, ◌+◌, ◌*◌, ◌⊎◌, ℕ, true, false, nat_lt, IfOk, IfErr, IsErrOf, length};
-ghost use Rattle.ice_base.specs.Disk.{Rose};
+ghost use Rattle.std.specs.Prelude.{◌≡◌, ◌≤◌, ◌<◌, ◌+◌, ◌*◌, ◌⊎◌, ℕ, true, false, nat_lt, IfOk, IfErr, length};
+ghost use Rattle.ice_base.specs.Disk.{Caused};
 ghost use Rattle.ice_base.specs.Lots.{is_sited};
 ghost use Rattle.ice_base.specs.Views.{Looked, IfShown};
 ghost use Rattle.ice_base.specs.declared.fault.OpFault.TheVariants.{Disk as FaultDisk, Damaged};
@@ -47,7 +47,7 @@ fn entry_place<D: Disk, V: View<D>, F: Form>(
         → IfErr result (IsBrokenBy F.ENTRY lot.now old)) }
     ensures looked { Looked D.Disk V.View lot.now view.old disk.old view.new disk.new }
     ensures faults { IfErr result IsHeightFault }
-    ensures failed { IsErrOf result FaultDisk → Rose (D.state disk.old).faults (D.state disk.new).faults }
+    ensures failed { Caused D.state FaultDisk result disk.old disk.new }
 {
     let mut name = blank_name();
     let inode = entry::<D, V, F>(view, disk, lot, number, k, &mut name)?;
@@ -93,7 +93,7 @@ fn has_higher<D: Disk, V: View<D>, F: Form>(
         ⊎ ((e ≡ Damaged InodeTwice) × (budget.old + 1 < spread F.ENTRY old (levels + 1) number)))) }
     ensures looked { Looked D.Disk V.View lot.now view.old disk.old view.new disk.new }
     ensures faults { IfErr result IsHeightFault }
-    ensures failed { IsErrOf result FaultDisk → Rose (D.state disk.old).faults (D.state disk.new).faults }
+    ensures failed { Caused D.state FaultDisk result disk.old disk.new }
 {
     for k in 0..size {
         let place = entry_place::<D, V, F>(view, disk, lot, number, k)?;
@@ -141,7 +141,7 @@ pub(crate) fn is_higher<D: Disk, V: View<D>, F: Form>(
         ⊎ ((e ≡ Damaged InodeTwice) × (budget.old < spread_at F.ENTRY old levels place)))) }
     ensures looked { Looked D.Disk V.View lot.now view.old disk.old view.new disk.new }
     ensures faults { IfErr result IsHeightFault }
-    ensures failed { IsErrOf result FaultDisk → Rose (D.state disk.old).faults (D.state disk.new).faults }
+    ensures failed { Caused D.state FaultDisk result disk.old disk.new }
 {
     if *budget == 0 {
         return Err(OpFault::Damaged(Rule::InodeTwice));

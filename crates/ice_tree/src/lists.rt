@@ -1,6 +1,6 @@
 //! Listings of directories.
 ghost use Rattle.std.specs.Prelude.{◌≡◌, ◌≤◌, ◌<◌, ◌+◌, ◌*◌, ◌++◌, ℕ, true, [], ◌∷◌, Some, OnOk, OnErr, IfErr, IsErrOf, length, drop, map, slice_get, IsPermutation, IsSorted};
-ghost use Rattle.ice_base.specs.Disk.{Rose};
+ghost use Rattle.ice_base.specs.Disk.{Caused};
 ghost use Rattle.ice_base.specs.Lots.{is_sited};
 ghost use Rattle.ice_base.specs.Views.{Looked, IfShown};
 ghost use Rattle.ice_base.specs.declared.fault.OpFault.TheVariants.{Disk as FaultDisk};
@@ -65,7 +65,7 @@ fn add_entry<D: Disk, V: View<D>, F: Form>(
         → IfErr result (IsBrokenBy F.ENTRY lot.now old)) }
     ensures looked { Looked D.Disk V.View lot.now view.old disk.old view.new disk.new }
     ensures faults { IfErr result IsListFault }
-    ensures failed { IsErrOf result FaultDisk → Rose (D.state disk.old).faults (D.state disk.new).faults }
+    ensures failed { Caused D.state FaultDisk result disk.old disk.new }
 {
     let mut name = blank_name();
     let next = entry::<D, V, F>(view, disk, lot, number, k, &mut name)?;
@@ -105,7 +105,7 @@ fn add_entries<D: Disk, V: View<D>, F: Form>(
         → count ≤ (inode_of old number).size → IfErr result (IsBrokenBy F.ENTRY lot.now old)) }
     ensures looked { Looked D.Disk V.View lot.now view.old disk.old view.new disk.new }
     ensures faults { IfErr result IsListFault }
-    ensures failed { IsErrOf result FaultDisk → Rose (D.state disk.old).faults (D.state disk.new).faults }
+    ensures failed { Caused D.state FaultDisk result disk.old disk.new }
 {
     for k in 0..count {
         add_entry::<D, V, F>(view, disk, lot, number, k, room)?;
@@ -155,7 +155,7 @@ pub fn list<D: Disk, V: View<D>, F: Form>(
         (r : Rule) × (n ≡ rule_number r) × IsBroken F.ENTRY lot.now old r) }
     ensures looked { Looked D.Disk V.View lot.now view.old disk.old view.new disk.new }
     ensures set { IfErr result (IsOneOf look_refusals list_rules) }
-    ensures failed { IsErrOf result Fault → Rose (D.state disk.old).faults (D.state disk.new).faults }
+    ensures failed { Caused D.state Fault result disk.old disk.new }
 {
     if let Err(refusal) = check_path::<F>(path, depth) {
         return Err(refusal);

@@ -1,6 +1,6 @@
 //! Commands that change nothing.
 ghost use Rattle.std.specs.Prelude.{◌≡◌, ◌≤◌, ◌<◌, ◌*◌, ℕ, List, true, false, [], ◌∷◌, Some, IfOk, IfErr, IsErrOf, MatchResult, length, drop};
-ghost use Rattle.ice_base.specs.Disk.{Rose};
+ghost use Rattle.ice_base.specs.Disk.{Caused};
 ghost use Rattle.ice_base.specs.Lots.{is_sited};
 ghost use Rattle.ice_base.specs.Views.{Looked, IfShown};
 ghost use Rattle.ice_base.specs.declared.fault.Rule.{Rule};
@@ -63,7 +63,7 @@ pub(crate) fn file_at<D: Disk, V: View<D>, F: Form>(
         (r : Rule) × (n ≡ rule_number r) × IsBroken F.ENTRY lot.now old r) }
     ensures looked { Looked D.Disk V.View lot.now view.old disk.old view.new disk.new }
     ensures set { IfErr result (IsOneOf read_refusals look_rules) }
-    ensures failed { IsErrOf result Fault → Rose (D.state disk.old).faults (D.state disk.new).faults }
+    ensures failed { Caused D.state Fault result disk.old disk.new }
 {
     match walk::<D, V, F>(view, disk, lot, path, depth, path.len()) {
         Ok(Place::File { number, size }) => Ok(FileAt { number, size }),
@@ -106,7 +106,7 @@ pub(crate) fn dir_at<D: Disk, V: View<D>, F: Form>(
         (r : Rule) × (n ≡ rule_number r) × IsBroken F.ENTRY lot.now old r) }
     ensures looked { Looked D.Disk V.View lot.now view.old disk.old view.new disk.new }
     ensures set { IfErr result (IsOneOf look_refusals look_rules) }
-    ensures failed { IsErrOf result Fault → Rose (D.state disk.old).faults (D.state disk.new).faults }
+    ensures failed { Caused D.state Fault result disk.old disk.new }
 {
     match walk::<D, V, F>(view, disk, lot, path, depth, path.len()) {
         Ok(Place::Dir { number, size }) => Ok(DirAt { number, size }),
@@ -149,7 +149,7 @@ pub fn read<D: Disk, V: View<D>, F: Form>(
         (r : Rule) × (n ≡ rule_number r) × IsBroken F.ENTRY lot.now old r) }
     ensures looked { Looked D.Disk V.View lot.now view.old disk.old view.new disk.new }
     ensures set { IfErr result (IsOneOf read_refusals look_rules) }
-    ensures failed { IsErrOf result Fault → Rose (D.state disk.old).faults (D.state disk.new).faults }
+    ensures failed { Caused D.state Fault result disk.old disk.new }
 {
     if let Err(refusal) = check_path::<F>(path, depth) {
         return Err(refusal);
@@ -190,7 +190,7 @@ pub fn stat<D: Disk, V: View<D>, F: Form>(
         (r : Rule) × (n ≡ rule_number r) × IsBroken F.ENTRY lot.now old r) }
     ensures looked { Looked D.Disk V.View lot.now view.old disk.old view.new disk.new }
     ensures set { IfErr result (IsOneOf look_refusals look_rules) }
-    ensures failed { IsErrOf result Fault → Rose (D.state disk.old).faults (D.state disk.new).faults }
+    ensures failed { Caused D.state Fault result disk.old disk.new }
 {
     if let Err(refusal) = check_path::<F>(path, depth) {
         return Err(refusal);

@@ -1,6 +1,6 @@
 //! New files and directories.
 ghost use Rattle.std.specs.Prelude.{◌≡◌, ◌≤◌, ◌<◌, ◌+◌, ◌*◌, ◌⊎◌, ℕ, Bool, List, true, false, [], ◌∷◌, None, Some, OnOk, IfOk, IfErr, IsErrOf, MatchResult, length, drop};
-ghost use Rattle.ice_base.specs.Disk.{Rose};
+ghost use Rattle.ice_base.specs.Disk.{Caused};
 ghost use Rattle.ice_base.specs.Fields.{long_at};
 ghost use Rattle.ice_base.specs.Lots.{LotView, is_sited, sub_address};
 ghost use Rattle.ice_base.specs.Views.{Looked, Spent, AsShown, IfShown};
@@ -93,7 +93,7 @@ fn check_new<D: Disk, K: Keep<D>, P: Pool<D, K>, F: Form>(
     ensures damaged { (n : ℕ) → IsErrOf result (Damaged n) → IfShown K.View lot.now keep.old disk.old (λ old.
         (r : Rule) × (n ≡ rule_number r) × IsBroken F.ENTRY lot.now old r) }
     ensures set { IfErr result (IsOneOf make_refusals change_rules) }
-    ensures failed { IsErrOf result Fault → Rose (D.state disk.old).faults (D.state disk.new).faults }
+    ensures failed { Caused D.state Fault result disk.old disk.new }
 {
     if let Err(refusal) = check_path::<F>(path, depth) {
         return Err(refusal);
@@ -164,7 +164,7 @@ fn put_node<D: Disk, K: Keep<D>, P: Pool<D, K>, F: Form>(
     ensures done { AsShown K.View lot.now keep.old disk.old keep.new disk.new (λ old new.
         OnOk result (long_at (new sub_address) 16 ≡ long_at (old sub_address) 16)) }
     ensures faults { IfErr result (IsNamedIn change_rules) }
-    ensures failed { IsErrOf result FaultDisk → Rose (D.state disk.old).faults (D.state disk.new).faults }
+    ensures failed { Caused D.state FaultDisk result disk.old disk.new }
 {
     let number = pool.take_inode(keep, disk, lot)?;
     if number == spot.number {
@@ -202,7 +202,7 @@ fn put_new<D: Disk, K: Keep<D>, P: Pool<D, K>, F: Form>(
     ensures broken { IfShown K.View lot.now keep.old disk.old (λ old.
         NewFits F.ENTRY lot.now old spot.now → IfErr result (IsBrokenBy F.ENTRY lot.now old)) }
     ensures faults { IfErr result (IsNamedIn change_rules) }
-    ensures failed { IsErrOf result FaultDisk → Rose (D.state disk.old).faults (D.state disk.new).faults }
+    ensures failed { Caused D.state FaultDisk result disk.old disk.new }
 {
     put_node::<D, K, P, F>(keep, pool, disk, lot, spot, name, dir)?;
     count_up(keep, disk, lot)?;
@@ -240,7 +240,7 @@ fn make_node<D: Disk, K: Keep<D>, P: Pool<D, K>, F: Form>(
     ensures damaged { (n : ℕ) → IsErrOf result (Damaged n) → IfShown K.View lot.now keep.old disk.old (λ old.
         (r : Rule) × (n ≡ rule_number r) × IsBroken F.ENTRY lot.now old r) }
     ensures set { IfErr result (IsOneOf make_refusals change_rules) }
-    ensures failed { IsErrOf result Fault → Rose (D.state disk.old).faults (D.state disk.new).faults }
+    ensures failed { Caused D.state Fault result disk.old disk.new }
 {
     let spot = match check_new::<D, K, P, F>(keep, pool, disk, lot, path, depth) {
         Ok(spot) => spot,
@@ -283,7 +283,7 @@ pub fn mkdir<D: Disk, K: Keep<D>, P: Pool<D, K>, F: Form>(
     ensures damaged { (n : ℕ) → IsErrOf result (Damaged n) → IfShown K.View lot.now keep.old disk.old (λ old.
         (r : Rule) × (n ≡ rule_number r) × IsBroken F.ENTRY lot.now old r) }
     ensures set { IfErr result (IsOneOf make_refusals change_rules) }
-    ensures failed { IsErrOf result Fault → Rose (D.state disk.old).faults (D.state disk.new).faults }
+    ensures failed { Caused D.state Fault result disk.old disk.new }
 {
     make_node::<D, K, P, F>(keep, pool, disk, lot, path, depth, true)
 }
@@ -318,7 +318,7 @@ pub fn make<D: Disk, K: Keep<D>, P: Pool<D, K>, F: Form>(
     ensures damaged { (n : ℕ) → IsErrOf result (Damaged n) → IfShown K.View lot.now keep.old disk.old (λ old.
         (r : Rule) × (n ≡ rule_number r) × IsBroken F.ENTRY lot.now old r) }
     ensures set { IfErr result (IsOneOf make_refusals change_rules) }
-    ensures failed { IsErrOf result Fault → Rose (D.state disk.old).faults (D.state disk.new).faults }
+    ensures failed { Caused D.state Fault result disk.old disk.new }
 {
     make_node::<D, K, P, F>(keep, pool, disk, lot, path, depth, false)
 }

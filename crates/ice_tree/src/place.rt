@@ -1,6 +1,6 @@
 //! Walks through the tree of a lot.
 ghost use Rattle.std.specs.Prelude.{◌≡◌, ◌≢◌, ◌≤◌, ◌<◌, ◌⊎◌, ◌*◌, ◌-◌, ℕ, true, IfOk, IfErr, IsErrOf, length, take, drop};
-ghost use Rattle.ice_base.specs.Disk.{Rose};
+ghost use Rattle.ice_base.specs.Disk.{Caused};
 ghost use Rattle.ice_base.specs.Lots.{is_sited};
 ghost use Rattle.ice_base.specs.Views.{Looked, IfShown};
 ghost use Rattle.ice_base.specs.declared.fault.OpFault.TheVariants.{Disk as FaultDisk, Damaged};
@@ -59,7 +59,7 @@ pub(crate) fn look<D: Disk, V: View<D>, F: Form>(
         ¬ IsNode lot.now (inode_of old number)) }
     ensures looked { Looked D.Disk V.View lot.now view.old disk.old view.new disk.new }
     ensures faults { IfErr result IsWalkFault }
-    ensures failed { IsErrOf result FaultDisk → Rose (D.state disk.old).faults (D.state disk.new).faults }
+    ensures failed { Caused D.state FaultDisk result disk.old disk.new }
 {
     let inode = get_inode::<D, V, F>(view, disk, lot, number)?;
     let size = inode.size;
@@ -97,7 +97,7 @@ pub(crate) fn enter<D: Disk, V: View<D>, F: Form>(
         → IfErr result (IsBrokenBy F.ENTRY lot.now old)) }
     ensures looked { Looked D.Disk V.View lot.now view.old disk.old view.new disk.new }
     ensures faults { IfErr result IsWalkFault }
-    ensures failed { IsErrOf result FaultDisk → Rose (D.state disk.old).faults (D.state disk.new).faults }
+    ensures failed { Caused D.state FaultDisk result disk.old disk.new }
 {
     if number >= 64 * lot.len() as u32 {
         return Err(OpFault::Damaged(Rule::InodeTwice));
@@ -130,7 +130,7 @@ pub(crate) fn enter_named<D: Disk, V: View<D>, F: Form>(
         → IfErr result (IsBrokenBy F.ENTRY lot.now old)) }
     ensures looked { Looked D.Disk V.View lot.now view.old disk.old view.new disk.new }
     ensures faults { IfErr result IsWalkFault }
-    ensures failed { IsErrOf result FaultDisk → Rose (D.state disk.old).faults (D.state disk.new).faults }
+    ensures failed { Caused D.state FaultDisk result disk.old disk.new }
 {
     if number == 0 {
         return Err(OpFault::Damaged(Rule::InodeTwice));
@@ -170,7 +170,7 @@ pub(crate) fn step<D: Disk, V: View<D>, F: Form>(
         → IfErr result (IsBrokenBy F.ENTRY lot.now old)) }
     ensures looked { Looked D.Disk V.View lot.now view.old disk.old view.new disk.new }
     ensures faults { IfErr result IsWalkFault }
-    ensures failed { IsErrOf result FaultDisk → Rose (D.state disk.old).faults (D.state disk.new).faults }
+    ensures failed { Caused D.state FaultDisk result disk.old disk.new }
 {
     match from {
         Place::Dir { number, .. } => match find::<D, V, F>(view, disk, lot, number, name)? {
@@ -210,7 +210,7 @@ pub(crate) fn walk<D: Disk, V: View<D>, F: Form>(
         IfErr result (IsBrokenBy F.ENTRY lot.now old)) }
     ensures looked { Looked D.Disk V.View lot.now view.old disk.old view.new disk.new }
     ensures faults { IfErr result IsWalkFault }
-    ensures failed { IsErrOf result FaultDisk → Rose (D.state disk.old).faults (D.state disk.new).faults }
+    ensures failed { Caused D.state FaultDisk result disk.old disk.new }
 {
     let mut place = look::<D, V, F>(view, disk, lot, 0)?;
     for k in depth..end {

@@ -1,6 +1,6 @@
 //! What a change needs: nodes, blocks, and one more accepted operation.
 ghost use Rattle.std.specs.Prelude.{◌≡◌, ◌≤◌, ◌<◌, ◌+◌, ℕ, true, false, [], ◌∷◌, None, OnOk, IfErr, IsErrOf, MatchResult, length};
-ghost use Rattle.ice_base.specs.Disk.{Rose};
+ghost use Rattle.ice_base.specs.Disk.{Caused};
 ghost use Rattle.ice_base.specs.Lots.{is_sited};
 ghost use Rattle.ice_base.specs.Used.{free_count};
 ghost use Rattle.ice_base.specs.Views.{Looked, IfShown};
@@ -75,7 +75,7 @@ fn check_nodes<D: Disk, K: Keep<D>, P: Pool<D, K>, F: Form>(
     ensures looked { Looked D.Disk K.View lot.now keep.old disk.old keep.new disk.new }
     ensures more { IsErrOf result NoNodes → need.now.lost < need.now.nodes }
     ensures set { IfErr result (IsOneOf (12 ∷ []) []) }
-    ensures failed { IsErrOf result Fault → Rose (D.state disk.old).faults (D.state disk.new).faults }
+    ensures failed { Caused D.state Fault result disk.old disk.new }
 {
     if need.nodes <= need.lost {
         return Ok(());
@@ -110,7 +110,7 @@ fn check_blocks<D: Disk, K: Keep<D>, P: Pool<D, K>, F: Form>(
     ensures looked { Looked D.Disk K.View lot.now keep.old disk.old keep.new disk.new }
     ensures more { IsErrOf result NoSpace → need.now.freed < need.now.blocks }
     ensures set { IfErr result (IsOneOf (13 ∷ []) []) }
-    ensures failed { IsErrOf result Fault → Rose (D.state disk.old).faults (D.state disk.new).faults }
+    ensures failed { Caused D.state Fault result disk.old disk.new }
 {
     if need.blocks <= need.freed {
         return Ok(());
@@ -141,7 +141,7 @@ fn check_done<D: Disk, K: Keep<D>, F: Form>(
         (r : Rule) × (n ≡ rule_number r) × IsBroken F.ENTRY lot.now old r) }
     ensures looked { Looked D.Disk K.View lot.now keep.old disk.old keep.new disk.new }
     ensures set { IfErr result (IsOneOf (14 ∷ []) sub_rules) }
-    ensures failed { IsErrOf result Fault → Rose (D.state disk.old).faults (D.state disk.new).faults }
+    ensures failed { Caused D.state Fault result disk.old disk.new }
 {
     match done_of::<D, K, F>(keep, disk, lot) {
         Err(fault) => Err(refusal_of(fault)),
@@ -174,7 +174,7 @@ pub(crate) fn check_quota<D: Disk, K: Keep<D>, P: Pool<D, K>, F: Form>(
     ensures more_nodes { IsErrOf result NoNodes → need.now.lost < need.now.nodes }
     ensures more_blocks { IsErrOf result NoSpace → need.now.freed < need.now.blocks }
     ensures set { IfErr result (IsOneOf (12 ∷ 13 ∷ 14 ∷ []) sub_rules) }
-    ensures failed { IsErrOf result Fault → Rose (D.state disk.old).faults (D.state disk.new).faults }
+    ensures failed { Caused D.state Fault result disk.old disk.new }
 {
     match check_nodes::<D, K, P, F>(keep, pool, disk, lot, need) {
         Err(refusal) => return Err(refusal),

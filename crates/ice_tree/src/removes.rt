@@ -1,6 +1,6 @@
 //! Files and empty directories that are taken away.
 ghost use Rattle.std.specs.Prelude.{◌≡◌, ◌≢◌, ◌≤◌, ◌<◌, ◌+◌, ◌*◌, ℕ, List, true, false, [], ◌∷◌, Some, None, OnOk, IfOk, IfErr, IsErrOf, MatchResult, length, drop};
-ghost use Rattle.ice_base.specs.Disk.{Rose};
+ghost use Rattle.ice_base.specs.Disk.{Caused};
 ghost use Rattle.ice_base.specs.Fields.{long_at};
 ghost use Rattle.ice_base.specs.Lots.{LotView, is_sited, sub_address};
 ghost use Rattle.ice_base.specs.Used.{used_inode, counted};
@@ -121,7 +121,7 @@ fn find_gone<D: Disk, V: View<D>, F: Form>(
     ensures damaged { (n : ℕ) → IsErrOf result (Damaged n) → IfShown V.View lot.now view.old disk.old (λ old.
         (r : Rule) × (n ≡ rule_number r) × IsBroken F.ENTRY lot.now old r) }
     ensures set { IfErr result (IsOneOf remove_refusals change_rules) }
-    ensures failed { IsErrOf result Fault → Rose (D.state disk.old).faults (D.state disk.new).faults }
+    ensures failed { Caused D.state Fault result disk.old disk.new }
 {
     if path.len() == depth {
         return Err(Refusal::IsRoot);
@@ -153,7 +153,7 @@ fn check_gone<D: Disk, K: Keep<D>, P: Pool<D, K>, F: Form>(
     ensures damaged { (n : ℕ) → IsErrOf result (Damaged n) → IfShown K.View lot.now keep.old disk.old (λ old.
         (r : Rule) × (n ≡ rule_number r) × IsBroken F.ENTRY lot.now old r) }
     ensures set { IfErr result (IsOneOf remove_refusals sub_rules) }
-    ensures failed { IsErrOf result Fault → Rose (D.state disk.old).faults (D.state disk.new).faults }
+    ensures failed { Caused D.state Fault result disk.old disk.new }
 {
     let need = Need {
         nodes: 0,
@@ -188,7 +188,7 @@ fn may_remove<D: Disk, K: Keep<D>, P: Pool<D, K>, F: Form>(
     ensures damaged { (n : ℕ) → IsErrOf result (Damaged n) → IfShown K.View lot.now keep.old disk.old (λ old.
         (r : Rule) × (n ≡ rule_number r) × IsBroken F.ENTRY lot.now old r) }
     ensures set { IfErr result (IsOneOf remove_refusals change_rules) }
-    ensures failed { IsErrOf result Fault → Rose (D.state disk.old).faults (D.state disk.new).faults }
+    ensures failed { Caused D.state Fault result disk.old disk.new }
 {
     match find_gone::<D, K, F>(keep, disk, lot, path, depth) {
         Err(refusal) => Err(refusal),
@@ -229,7 +229,7 @@ fn drop_bytes<D: Disk, K: Keep<D>, P: Pool<D, K>, F: Form>(
     ensures done { AsShown K.View lot.now keep.old disk.old keep.new disk.new (λ old new.
         OnOk result (long_at (new sub_address) 16 ≡ long_at (old sub_address) 16)) }
     ensures faults { IfErr result (IsNamedIn change_rules) }
-    ensures failed { IsErrOf result FaultDisk → Rose (D.state disk.old).faults (D.state disk.new).faults }
+    ensures failed { Caused D.state FaultDisk result disk.old disk.new }
 {
     if bytes == 0 {
         return Ok(());
@@ -279,7 +279,7 @@ fn clear<D: Disk, K: Keep<D>, P: Pool<D, K>, F: Form>(
     ensures done { AsShown K.View lot.now keep.old disk.old keep.new disk.new (λ old new.
         OnOk result (long_at (new sub_address) 16 ≡ long_at (old sub_address) 16)) }
     ensures faults { IfErr result (IsNamedIn change_rules) }
-    ensures failed { IsErrOf result FaultDisk → Rose (D.state disk.old).faults (D.state disk.new).faults }
+    ensures failed { Caused D.state FaultDisk result disk.old disk.new }
 {
     drop_bytes::<D, K, P, F>(keep, pool, disk, lot, number, bytes)?;
     put_inode::<D, K, P, F>(keep, pool, disk, lot, number, &free_node())?;
@@ -314,7 +314,7 @@ fn take_away<D: Disk, K: Keep<D>, P: Pool<D, K>, F: Form>(
     ensures done { AsShown K.View lot.now keep.old disk.old keep.new disk.new (λ old new.
         OnOk result (long_at (new sub_address) 16 ≡ long_at (old sub_address) 16)) }
     ensures faults { IfErr result (IsNamedIn change_rules) }
-    ensures failed { IsErrOf result FaultDisk → Rose (D.state disk.old).faults (D.state disk.new).faults }
+    ensures failed { Caused D.state FaultDisk result disk.old disk.new }
 {
     match take::<D, K, P, F>(keep, pool, disk, lot, gone.spot.number, name)? {
         None => Err(OpFault::Damaged(Rule::Kind)),
@@ -350,7 +350,7 @@ fn put_away<D: Disk, K: Keep<D>, P: Pool<D, K>, F: Form>(
         GoneIs F.ENTRY lot.now old name.now gone.now → CanCount old
         → IfErr result (IsBrokenBy F.ENTRY lot.now old)) }
     ensures faults { IfErr result (IsNamedIn change_rules) }
-    ensures failed { IsErrOf result FaultDisk → Rose (D.state disk.old).faults (D.state disk.new).faults }
+    ensures failed { Caused D.state FaultDisk result disk.old disk.new }
 {
     take_away::<D, K, P, F>(keep, pool, disk, lot, gone, name)?;
     count_up(keep, disk, lot)?;
@@ -391,7 +391,7 @@ pub fn remove<D: Disk, K: Keep<D>, P: Pool<D, K>, F: Form>(
     ensures damaged { (n : ℕ) → IsErrOf result (Damaged n) → IfShown K.View lot.now keep.old disk.old (λ old.
         (r : Rule) × (n ≡ rule_number r) × IsBroken F.ENTRY lot.now old r) }
     ensures set { IfErr result (IsOneOf remove_refusals change_rules) }
-    ensures failed { IsErrOf result Fault → Rose (D.state disk.old).faults (D.state disk.new).faults }
+    ensures failed { Caused D.state Fault result disk.old disk.new }
 {
     if let Err(refusal) = check_path::<F>(path, depth) {
         return Err(refusal);

@@ -1,6 +1,6 @@
 //! Files and directories that move.
 ghost use Rattle.std.specs.Prelude.{◌≡◌, ◌≢◌, ◌≤◌, ◌<◌, ◌+◌, ◌-◌, ◌*◌, ◌||◌, ℕ, List, true, false, [], ◌∷◌, Some, None, OnOk, IfOk, IfErr, IsErrOf, MatchResult, MatchOption, length, drop, get_or};
-ghost use Rattle.ice_base.specs.Disk.{Rose};
+ghost use Rattle.ice_base.specs.Disk.{Caused};
 ghost use Rattle.ice_base.specs.Fields.{long_at};
 ghost use Rattle.ice_base.specs.Lots.{LotView, is_sited, sub_address};
 ghost use Rattle.ice_base.specs.Views.{Looked, Spent, AsShown, IfShown};
@@ -158,7 +158,7 @@ fn check_height<D: Disk, V: View<D>, F: Form>(
         PlaceIs old place → PlaceReached F.ENTRY lot.now old place → (r : Rule) × (n ≡ rule_number r)
         × IsBroken F.ENTRY lot.now old r) }
     ensures set { IfErr result (IsOneOf rename_refusals list_rules) }
-    ensures failed { IsErrOf result Fault → Rose (D.state disk.old).faults (D.state disk.new).faults }
+    ensures failed { Caused D.state Fault result disk.old disk.new }
 {
     if there <= here {
         return Ok(());
@@ -282,7 +282,7 @@ fn find_move<D: Disk, V: View<D>, F: Form>(
     ensures damaged { (n : ℕ) → IsErrOf result (Damaged n) → IfShown V.View lot.now view.old disk.old (λ old.
         (r : Rule) × (n ≡ rule_number r) × IsBroken F.ENTRY lot.now old r) }
     ensures set { IfErr result (IsOneOf rename_refusals list_rules) }
-    ensures failed { IsErrOf result Fault → Rose (D.state disk.old).faults (D.state disk.new).faults }
+    ensures failed { Caused D.state Fault result disk.old disk.new }
 {
     let from = match find_ends::<D, V, F>(view, disk, lot, path, depth) {
         Err(fault) => return Err(refusal_of(fault)),
@@ -387,7 +387,7 @@ fn may_move<D: Disk, K: Keep<D>, P: Pool<D, K>, F: Form>(
     ensures damaged { (n : ℕ) → IsErrOf result (Damaged n) → IfShown K.View lot.now keep.old disk.old (λ old.
         (r : Rule) × (n ≡ rule_number r) × IsBroken F.ENTRY lot.now old r) }
     ensures set { IfErr result (IsOneOf rename_refusals rename_rules) }
-    ensures failed { IsErrOf result Fault → Rose (D.state disk.old).faults (D.state disk.new).faults }
+    ensures failed { Caused D.state Fault result disk.old disk.new }
 {
     match find_move::<D, K, F>(keep, disk, lot, path, to, depth) {
         Err(refusal) => Err(refusal),
@@ -432,7 +432,7 @@ fn move_row<D: Disk, K: Keep<D>, P: Pool<D, K>, F: Form>(
     ensures done { AsShown K.View lot.now keep.old disk.old keep.new disk.new (λ old new.
         OnOk result (long_at (new sub_address) 16 ≡ long_at (old sub_address) 16)) }
     ensures faults { IfErr result (IsNamedIn change_rules) }
-    ensures failed { IsErrOf result FaultDisk → Rose (D.state disk.old).faults (D.state disk.new).faults }
+    ensures failed { Caused D.state FaultDisk result disk.old disk.new }
 {
     let _bytes = new.bytes();
     match take::<D, K, P, F>(keep, pool, disk, lot, step.from.number, name)? {
@@ -473,7 +473,7 @@ fn put_moved<D: Disk, K: Keep<D>, P: Pool<D, K>, F: Form>(
         MoveIs F.ENTRY lot.now old name.now step.now → RowFits F.ENTRY lot.now old step.now
         → IfErr result (IsBrokenBy F.ENTRY lot.now old)) }
     ensures faults { IfErr result (IsNamedIn change_rules) }
-    ensures failed { IsErrOf result FaultDisk → Rose (D.state disk.old).faults (D.state disk.new).faults }
+    ensures failed { Caused D.state FaultDisk result disk.old disk.new }
 {
     if step.same {
         count_up(keep, disk, lot)?;
@@ -517,7 +517,7 @@ pub fn rename<D: Disk, K: Keep<D>, P: Pool<D, K>, F: Form>(
     ensures damaged { (n : ℕ) → IsErrOf result (Damaged n) → IfShown K.View lot.now keep.old disk.old (λ old.
         (r : Rule) × (n ≡ rule_number r) × IsBroken F.ENTRY lot.now old r) }
     ensures set { IfErr result (IsOneOf rename_refusals rename_rules) }
-    ensures failed { IsErrOf result Fault → Rose (D.state disk.old).faults (D.state disk.new).faults }
+    ensures failed { Caused D.state Fault result disk.old disk.new }
 {
     if let Err(refusal) = check_paths::<F>(path, to, depth) {
         return Err(refusal);
