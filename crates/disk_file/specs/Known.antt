@@ -22,7 +22,7 @@ pub record SameBut (old new : Known) : Type 0 where
   pub lost : new.lost ≡ old.lost
 
 -- and that count too
-pub record Same (old new : Known) : Type 0 where
+pub record SameKnown (old new : Known) : Type 0 where
   pub rest : SameBut old new
   pub disk_faults : new.disk_faults ≡ old.disk_faults
 

@@ -9,8 +9,8 @@ ghost use Rattle.std.specs.Prelude.{◌≡◌, ◌≢◌, ◌≤◌, ◌<◌, �
 ghost use Rattle.std.specs.IoError.{error_kind};
 ghost use Rattle.ice_base.specs.Disk.{block, Rose, Nowhere, HasCause, WriteCounts, BarrierCounts};
 ghost use Rattle.ice_base.specs.Frames.{Within};
-ghost use Rattle.ice_base.specs.Host.{SameDisk, GaveOnly, Leaves, Takes, Gives, FirstOf, moved};
-ghost use Rattle.disk_file.specs.Known.{Same, SameBut, silent_state, silent_left};
+ghost use Rattle.ice_base.specs.Host.{SameDisk, GaveOnly, Leaves, Takes, Gives, FirstOf, moved_count};
+ghost use Rattle.disk_file.specs.Known.{SameKnown, SameBut, silent_state, silent_left};
 
 use crate::sink::Sink;
 use crate::streams::take_piece;
@@ -173,7 +173,7 @@ impl FileHost {
     fn write_file(&mut self, at: u32, from: &Block) -> bool
         requires sent { self.old.held ≡ [] }
         requires kept { self.old.lost ≡ false }
-        ensures same { Same self.old self.new }
+        ensures same { SameKnown self.old self.new }
     {
         match &mut self.file {
             Some(file) => write_whole(file, at, from).is_ok(),
@@ -185,7 +185,7 @@ impl FileHost {
     fn sync_file(&mut self) -> bool
         requires sent { self.old.held ≡ [] }
         requires kept { self.old.lost ≡ false }
-        ensures same { Same self.old self.new }
+        ensures same { SameKnown self.old self.new }
     {
         match &self.file {
             Some(file) => file.sync_all().is_ok(),
@@ -197,7 +197,7 @@ impl FileHost {
     fn take_input(&mut self, into: &mut [u8]) -> Option<usize>
         requires room { 0 < length into.old }
         requires sent { self.old.lost ≡ false → self.old.held ≡ [] }
-        ensures same { Same self.old self.new }
+        ensures same { SameKnown self.old self.new }
         ensures count { IfSome result (λ n. n ≤ length into.new) }
     {
         take_piece(&mut self.input, into)
@@ -317,7 +317,7 @@ impl Host for FileHost {
         requires { 0 < length bytes.now }
         ensures disk { SameDisk (silent_state self.old) (silent_state self.new) }
         ensures ticks { (silent_state self.old).tells ≡ true → Rose (silent_state self.old).clock (silent_state self.new).clock }
-        ensures leaves { Leaves silent_state silent_left (FirstOf (silent_state self.old).streams.aside bytes.now (moved result)) self.old self.new }
+        ensures leaves { Leaves silent_state silent_left (FirstOf (silent_state self.old).streams.aside bytes.now (moved_count result)) self.old self.new }
         ensures gives { Gives (silent_state self.old).tells (silent_state self.old).streams (silent_state self.new).streams bytes.now result }
         ensures calm { OnOk result ((silent_state self.new).streams.sink_faults ≡ (silent_state self.old).streams.sink_faults) }
         ensures lost { IsErr result ↔ self.new.lost ≡ true }

@@ -5,12 +5,12 @@ use Rattle.std.proofs.lemmas.Grind.{common_steps}
 use Rattle.ice_base.specs.Disk.{Image, block}
 use Rattle.disk_mem.specs.Memory.{Moment, IsLeft}
 use Rattle.disk_mem.specs.Fill.{Filled}
-use Rattle.disk_mem.specs.Crash.{LeavesFilled, Shows}
+use Rattle.disk_mem.specs.Crash.{LeavesFilled, ShowsMoment}
 
 beyond : (flags : List Bool) (k : ℕ) → length flags ≤ k → slice_index_or flags k false ≡ false
 beyond flags k le = grind (arith, common_steps)
 
-module _ (fill : ℕ) (m : Moment) (blocks settled filled : Image) (flags : List Bool) (shows : Shows m blocks settled flags) (count : length filled ≡ length blocks)
+module _ (fill : ℕ) (m : Moment) (blocks settled filled : Image) (flags : List Bool) (shows : ShowsMoment m blocks settled flags) (count : length filled ≡ length blocks)
     (kept : (k : ℕ) → slice_index_or flags k false ≡ false → block filled k ≡ block blocks k)
     (loose : (k : ℕ) → slice_index_or flags k false ≡ true → Filled fill k (block settled k) (block blocks k) (block filled k)) where
   unflagged : (k : ℕ) → m.loose k ≡ false → slice_index_or flags k false ≡ false

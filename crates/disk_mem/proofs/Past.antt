@@ -6,17 +6,17 @@ use Rattle.std.proofs.lemmas.List.{length-set, get_or-set_same, get_or-set_other
 use Rattle.std.proofs.Math.Seq.{take-append-add}
 use Rattle.ice_base.specs.Disk.{Image, block}
 use Rattle.ice_base.specs.Host.{FirstOf}
-use Rattle.disk_mem.specs.Memory.{Moment, number_of, applied, loosened, after, past_of, fresh, IsLeft, LeftSince, Linked, agrees, all_given, settled_flag}
+use Rattle.disk_mem.specs.Memory.{Moment, call_number, applied, loosened, after, past_of, fresh_state, IsLeft, LeftSince, Linked, agrees, all_given, settled_flag}
 use Rattle.disk_mem.specs.Record.{FailedNoted}
 use Rattle.disk_mem.specs.declared.step.Step.{Step}
 use Rattle.disk_mem.specs.declared.step.Step.TheVariants.{Write, Failed, Barrier, Give}
 
-after_push : (t : ℕ) (m : Moment) (steps : List Step) (s : Step) → after t m (steps ++ s ∷ []) ≡ (if nat_lt (number_of s) t then applied (after t m steps) s else after t m steps)
+after_push : (t : ℕ) (m : Moment) (steps : List Step) (s : Step) → after t m (steps ++ s ∷ []) ≡ (if nat_lt (call_number s) t then applied (after t m steps) s else after t m steps)
 after_push t m [] s = refl
-after_push t m (x ∷ steps) s = after_push t (if nat_lt (number_of x) t then applied m x else m) steps s
+after_push t m (x ∷ steps) s = after_push t (if nat_lt (call_number x) t then applied m x else m) steps s
 
 pub after_more : (t : ℕ) (m : Moment) (steps : List Step) (i : ℕ) (d : Step) → i < length steps
-    → after t m (take (i + 1) steps) ≡ (if nat_lt (number_of (slice_index_or steps i d)) t then applied (after t m (take i steps)) (slice_index_or steps i d) else after t m (take i steps))
+    → after t m (take (i + 1) steps) ≡ (if nat_lt (call_number (slice_index_or steps i d)) t then applied (after t m (take i steps)) (slice_index_or steps i d) else after t m (take i steps))
 after_more t m steps i d less = ap (λ (x : List Step). after t m x) (take_more steps i d less) ∙ after_push t m (take i steps) (slice_index_or steps i d)
 
 -- the first bytes of two parts, past the first part
@@ -47,16 +47,16 @@ pub record Grows (calls : ℕ) (s : Step) (past later : ℕ → Moment) : Type 0
   pub old : (u : ℕ) → u ≤ calls → later u ≡ past u
   pub new : (u : ℕ) → calls < u → later u ≡ applied (past u) s
 
-pub grows : (first : Image) (steps steps' : List Step) (s : Step) (calls : ℕ) → number_of s ≡ calls → steps' ≡ steps ++ s ∷ [] → Grows calls s (past_of first steps) (past_of first steps')
+pub grows : (first : Image) (steps steps' : List Step) (s : Step) (calls : ℕ) → call_number s ≡ calls → steps' ≡ steps ++ s ∷ [] → Grows calls s (past_of first steps) (past_of first steps')
 grows first steps steps' s calls is e = record {
-  old = λ u le. ap (λ (x : List Step). after u (fresh first) x) e ∙ after_push u (fresh first) steps s ∙ not_yet u le;
-  new = λ u less. ap (λ (x : List Step). after u (fresh first) x) e ∙ after_push u (fresh first) steps s ∙ already u less;
+  old = λ u le. ap (λ (x : List Step). after u (fresh_state first) x) e ∙ after_push u (fresh_state first) steps s ∙ not_yet u le;
+  new = λ u less. ap (λ (x : List Step). after u (fresh_state first) x) e ∙ after_push u (fresh_state first) steps s ∙ already u less;
 }
   where
-    not_yet : (u : ℕ) → u ≤ calls → (if nat_lt (number_of s) u then applied (after u (fresh first) steps) s else after u (fresh first) steps) ≡ after u (fresh first) steps
+    not_yet : (u : ℕ) → u ≤ calls → (if nat_lt (call_number s) u then applied (after u (fresh_state first) steps) s else after u (fresh_state first) steps) ≡ after u (fresh_state first) steps
     not_yet u le = grind (arith, nat_tests, is)
 
-    already : (u : ℕ) → calls < u → (if nat_lt (number_of s) u then applied (after u (fresh first) steps) s else after u (fresh first) steps) ≡ applied (after u (fresh first) steps) s
+    already : (u : ℕ) → calls < u → (if nat_lt (call_number s) u then applied (after u (fresh_state first) steps) s else after u (fresh_state first) steps) ≡ applied (after u (fresh_state first) steps) s
     already u less = grind (arith, nat_tests, is)
 
 pub block_set_same : (image : Image) (at : ℕ) (bytes : List ℕ) → at < length image → block (slice_set image at bytes) at ≡ bytes

@@ -11,7 +11,7 @@ pub record LeavesFilled (fill : ℕ) (m : Moment) (image : Image) : Type 0 where
   pub loose : (k : ℕ) → k < length m.now → m.loose k ≡ true → Filled fill k (block m.settled k) (block m.now k) (block image k)
 
 -- blocks, their settled bytes and the flags of the loose ones show a moment
-pub record Shows (m : Moment) (blocks settled : Image) (flags : List Bool) : Type 0 where
+pub record ShowsMoment (m : Moment) (blocks settled : Image) (flags : List Bool) : Type 0 where
   pub now : m.now ≡ blocks
   pub old : (k : ℕ) → block m.settled k ≡ block settled k
   pub loose : (k : ℕ) → k < length blocks → m.loose k ≡ slice_index_or flags k false

@@ -2,7 +2,7 @@
 use Rattle.std.specs.Prelude.{ℕ, List, false, slice_index_or, drop}
 use Rattle.ice_base.specs.Disk.{Image, DiskState}
 use Rattle.disk_mem.specs.declared.mem_host.MemHost.{MemHost}
-use Rattle.disk_mem.specs.Memory.{Memory, past_of, told, Left}
+use Rattle.disk_mem.specs.Memory.{Memory, past_of, told, LeftInMemory}
 
 -- what the host holds
 abbrev pub memory : MemHost → Memory
@@ -32,4 +32,4 @@ told_by m = told (memory m)
 
 -- what its crashes may leave
 abbrev pub left_by : MemHost → ℕ → Image → List ℕ → Type 0
-left_by m t image out = Left (memory m) t image out
+left_by m t image out = LeftInMemory (memory m) t image out

@@ -15,11 +15,11 @@ pub record Moment : Type 0 where
   pub given : ℕ
 
 -- the number of the call that made the step
-abbrev pub number_of : Step → ℕ
-number_of (Write n at bytes) = n
-number_of (Failed n at) = n
-number_of (Barrier n) = n
-number_of (Give n until) = n
+abbrev pub call_number : Step → ℕ
+call_number (Write n at bytes) = n
+call_number (Failed n at) = n
+call_number (Barrier n) = n
+call_number (Give n until) = n
 
 -- the block is loose too
 abbrev pub loosened : (ℕ → Bool) → ℕ → ℕ → Bool
@@ -33,17 +33,17 @@ applied m (Barrier n) = record { now = m.now; settled = m.now; loose = λ k. fal
 applied m (Give n until) = record { now = m.now; settled = m.settled; loose = m.loose; given = until }
 
 -- the start: all settled, nothing given
-abbrev pub fresh : Image → Moment
-fresh image = record { now = image; settled = image; loose = λ k. false; given = 0 }
+abbrev pub fresh_state : Image → Moment
+fresh_state image = record { now = image; settled = image; loose = λ k. false; given = 0 }
 
 -- the moment that these steps lead to, as far as the first t calls made them
 abbrev pub after : ℕ → Moment → List Step → Moment
 after t m [] = m
-after t m (s ∷ steps) = after t (if nat_lt (number_of s) t then applied m s else m) steps
+after t m (s ∷ steps) = after t (if nat_lt (call_number s) t then applied m s else m) steps
 
 -- the moment after the first t calls
 abbrev pub past_of : Image → List Step → ℕ → Moment
-past_of first steps t = after t (fresh first) steps
+past_of first steps t = after t (fresh_state first) steps
 
 -- What a host in memory holds. `past` is the moment after so many calls, whole up to `remembered`;
 -- `room` and `room_bytes` are how many calls and given bytes need no more memory for their records.
@@ -97,8 +97,8 @@ pub record LeftSince (past : ℕ → Moment) (calls : ℕ) (output : List ℕ) (
   pub is : IsLeft output (past moment) (past (moment + 1)) image out
 
 -- a crash at a moment not before t may leave them
-abbrev pub Left : Memory → ℕ → Image → List ℕ → Type 0
-Left m t image out = LeftSince m.past m.calls m.output t image out
+abbrev pub LeftInMemory : Memory → ℕ → Image → List ℕ → Type 0
+LeftInMemory m t image out = LeftSince m.past m.calls m.output t image out
 
 -- the present, as it follows from the past
 pub record Linked (past : ℕ → Moment) (calls remembered : ℕ) (blocks : Image) (flags : List Bool) (output : List ℕ) : Type 0 where
@@ -154,7 +154,7 @@ pub record Spends (bytes : ℕ) (old new : Memory) : Type 0 where
 pub record IsNew (image : Image) (m : Memory) : Type 0 where
   pub blocks : m.blocks ≡ image
   pub loose : (k : ℕ) → m.loose k ≡ false
-  pub past : (t : ℕ) → m.past t ≡ fresh image
+  pub past : (t : ℕ) → m.past t ≡ fresh_state image
   pub remembered : m.remembered ≡ 2 ^ 64 - 1
   pub output : m.output ≡ []
   pub intake : m.intake ≡ []

@@ -1,9 +1,9 @@
 //! What was given at a moment, and one crash outcome, from what a host in memory remembers.
 ghost use Rattle.std.specs.Prelude.{◌≡◌, ◌<◌, ◌+◌, ◌≤◌, ◌^◌, ℕ, List, true, false, length, take, slice_index_or, if◌then◌else◌, nat_lt, IfOk};
-ghost use Rattle.disk_mem.specs.Memory.{Moment, applied, after, number_of};
+ghost use Rattle.disk_mem.specs.Memory.{Moment, applied, after, call_number};
 ghost use Rattle.ice_base.specs.Disk.{block};
-ghost use Rattle.disk_mem.specs.Memory.{loosened, fresh};
-ghost use Rattle.disk_mem.specs.Crash.{Shows};
+ghost use Rattle.disk_mem.specs.Memory.{loosened, fresh_state};
+ghost use Rattle.disk_mem.specs.Crash.{ShowsMoment};
 ghost use Rattle.disk_mem.specs.Fill.{Filled};
 ghost use Rattle.std.specs.Prelude.{slice_set};
 
@@ -15,7 +15,7 @@ use std::alloc::{AllocError, Global};
 
 // How many bytes had been given after the step, if one of the first `moment` calls made it.
 fn given_after(step: &Step, moment: u64, given: usize) -> usize
-    ensures { (m : Moment) → m.given ≡ given → (if nat_lt (number_of step.now) moment then applied m step.now else m).given ≡ result }
+    ensures { (m : Moment) → m.given ≡ given → (if nat_lt (call_number step.now) moment then applied m step.now else m).given ≡ result }
 {
     if moment <= step.number() {
         return given;
@@ -50,7 +50,7 @@ pub struct Replay {
 impl Replay {
     /// The start.
     pub fn new(alloc: Global, first: &[Block]) -> Result<Replay, AllocError>
-        ensures { IfOk result (λ r. Shows (fresh first.now) r.blocks.items r.settled.items r.loose.items) }
+        ensures { IfOk result (λ r. ShowsMoment (fresh_state first.now) r.blocks.items r.settled.items r.loose.items) }
     {
         let blocks = Vec::from_slice(alloc, first)?;
         let settled = Vec::from_slice(alloc, first)?;
@@ -64,8 +64,8 @@ impl Replay {
 
     /// Makes the steps of the first `moment` calls.
     pub fn make_all(&mut self, steps: &[Step], moment: u64)
-        ensures { (m : Moment) → Shows m self.old.blocks.items self.old.settled.items self.old.loose.items
-            → Shows (after moment m steps.now) self.new.blocks.items self.new.settled.items self.new.loose.items }
+        ensures { (m : Moment) → ShowsMoment m self.old.blocks.items self.old.settled.items self.old.loose.items
+            → ShowsMoment (after moment m steps.now) self.new.blocks.items self.new.settled.items self.new.loose.items }
     {
         for step in steps {
             self.make(step, moment);
@@ -74,8 +74,8 @@ impl Replay {
 
     // Makes the step, if one of the first `moment` calls made it.
     fn make(&mut self, step: &Step, moment: u64)
-        ensures { (m : Moment) → Shows m self.old.blocks.items self.old.settled.items self.old.loose.items
-            → Shows (if nat_lt (number_of step.now) moment then applied m step.now else m) self.new.blocks.items self.new.settled.items self.new.loose.items }
+        ensures { (m : Moment) → ShowsMoment m self.old.blocks.items self.old.settled.items self.old.loose.items
+            → ShowsMoment (if nat_lt (call_number step.now) moment then applied m step.now else m) self.new.blocks.items self.new.settled.items self.new.loose.items }
     {
         if moment <= step.number() {
             return;
@@ -90,8 +90,8 @@ impl Replay {
 
     // Writes a block.
     fn write(&mut self, at: u32, bytes: &Block)
-        ensures { (m : Moment) → Shows m self.old.blocks.items self.old.settled.items self.old.loose.items
-            → Shows (record m { now = slice_set m.now at bytes.now; loose = loosened m.loose at }) self.new.blocks.items self.new.settled.items self.new.loose.items }
+        ensures { (m : Moment) → ShowsMoment m self.old.blocks.items self.old.settled.items self.old.loose.items
+            → ShowsMoment (record m { now = slice_set m.now at bytes.now; loose = loosened m.loose at }) self.new.blocks.items self.new.settled.items self.new.loose.items }
     {
         self.loosen(at);
         let at = at as usize;
@@ -104,8 +104,8 @@ impl Replay {
     fn loosen(&mut self, at: u32)
         ensures blocks { self.new.blocks.items ≡ self.old.blocks.items }
         ensures settled { self.new.settled.items ≡ self.old.settled.items }
-        ensures shows { (m : Moment) → Shows m self.old.blocks.items self.old.settled.items self.old.loose.items
-            → Shows (record m { loose = loosened m.loose at }) self.new.blocks.items self.new.settled.items self.new.loose.items }
+        ensures shows { (m : Moment) → ShowsMoment m self.old.blocks.items self.old.settled.items self.old.loose.items
+            → ShowsMoment (record m { loose = loosened m.loose at }) self.new.blocks.items self.new.settled.items self.new.loose.items }
     {
         let at = at as usize;
         if at < self.loose.len() {
@@ -115,8 +115,8 @@ impl Replay {
 
     // Settles all blocks.
     fn settle(&mut self)
-        ensures { (m : Moment) → Shows m self.old.blocks.items self.old.settled.items self.old.loose.items
-            → Shows (record m { settled = m.now; loose = λ k. false }) self.new.blocks.items self.new.settled.items self.new.loose.items }
+        ensures { (m : Moment) → ShowsMoment m self.old.blocks.items self.old.settled.items self.old.loose.items
+            → ShowsMoment (record m { settled = m.now; loose = λ k. false }) self.new.blocks.items self.new.settled.items self.new.loose.items }
     {
         for k in 0..self.loose.len() {
             self.settle_one(k);

@@ -47,7 +47,7 @@ pub struct MemHost {
 }
 
 impl MemHost {
-    ghost use Rattle.disk_mem.specs.Memory.{Memory, IsNew, Planned, fresh};
+    ghost use Rattle.disk_mem.specs.Memory.{Memory, IsNew, Planned, fresh_state};
     ghost use Rattle.disk_mem.specs.MemHostView.{memory, left_by};
     ghost use Rattle.disk_mem.specs.Crash.{LeavesFilled};
 
@@ -139,7 +139,7 @@ impl MemHost {
         requires inside { at < length (memory self.old).blocks }
         requires early { (memory self.old).calls ≡ 0 }
         ensures blocks { (memory self.new).blocks ≡ slice_set (memory self.old).blocks at from.now }
-        ensures past { (t : ℕ) → (memory self.new).past t ≡ fresh (memory self.new).blocks }
+        ensures past { (t : ℕ) → (memory self.new).past t ≡ fresh_state (memory self.new).blocks }
         ensures loose { (k : ℕ) → (memory self.new).loose k ≡ false }
         ensures rest { memory self.new ≡ record (memory self.old) { blocks = (memory self.new).blocks; past = (memory self.new).past } }
     {
@@ -384,7 +384,7 @@ impl Disk for MemHost {
 
 impl Host for MemHost {
     ghost use Rattle.ice_base.specs.Disk.{Rose};
-    ghost use Rattle.ice_base.specs.Host.{SameDisk, Leaves, Takes, Gives, FirstOf, moved};
+    ghost use Rattle.ice_base.specs.Host.{SameDisk, Leaves, Takes, Gives, FirstOf, moved_count};
     ghost use Rattle.disk_mem.specs.Memory.{Memory, Planned, Obeys, KeepsPast, Present, settled_of, Ticks, Spends, next};
     ghost use Rattle.disk_mem.specs.MemHostView.{memory, told_by, left_by};
 
@@ -424,14 +424,14 @@ impl Host for MemHost {
         requires { 0 < length bytes.now }
         ensures disk { SameDisk (told_by self.old) (told_by self.new) }
         ensures ticks { (told_by self.old).tells ≡ true → Rose (told_by self.old).clock (told_by self.new).clock }
-        ensures leaves { Leaves told_by left_by (FirstOf (told_by self.old).streams.aside bytes.now (moved result)) self.old self.new }
+        ensures leaves { Leaves told_by left_by (FirstOf (told_by self.old).streams.aside bytes.now (moved_count result)) self.old self.new }
         ensures gives { Gives (told_by self.old).tells (told_by self.old).streams (told_by self.new).streams bytes.now result }
         ensures calm { OnOk result ((told_by self.new).streams.sink_faults ≡ (told_by self.old).streams.sink_faults) }
         ensures fails { Obeys (Planned (memory self.old)) ((0 < (memory self.old).room) × (min (length bytes.now) (memory self.old).piece ≤ (memory self.old).room_bytes)) result }
         ensures moves { IfOk result (λ n. n ≡ min (length bytes.now) (memory self.old).piece) }
         ensures faults { (memory self.new).sink_faults ≡ (if is_ok result then (memory self.old).sink_faults else next (memory self.old).sink_faults) }
         ensures counts { Ticks (memory self.old) (memory self.new) }
-        ensures spends { Spends (moved result) (memory self.old) (memory self.new) }
+        ensures spends { Spends (moved_count result) (memory self.old) (memory self.new) }
         ensures past { KeepsPast (memory self.old) (memory self.new) }
         ensures present { Present (memory self.new) }
         ensures remembered { (memory self.new).remembered ≡ (memory self.old).remembered }

@@ -71,7 +71,7 @@ impl Disk for MuteHost {
 }
 
 impl Host for MuteHost {
-    ghost use Rattle.ice_base.specs.Host.{SameDisk, Leaves, Takes, Gives, FirstOf, moved};
+    ghost use Rattle.ice_base.specs.Host.{SameDisk, Leaves, Takes, Gives, FirstOf, moved_count};
     ghost use Rattle.disk_mem.specs.Memory.{Planned, Obeys};
     ghost use Rattle.disk_mem.specs.MemHostView.{memory, told_by};
     ghost use Rattle.disk_mem.specs.MuteView.{mute, mute_left};
@@ -91,7 +91,7 @@ impl Host for MuteHost {
     fn give(&mut self, bytes: &[u8]) -> Result<usize, SinkFault>
         requires { 0 < length bytes.now }
         ensures disk { SameDisk (mute self.old) (mute self.new) }
-        ensures leaves { Leaves mute mute_left (FirstOf (mute self.old).streams.aside bytes.now (moved result)) self.old self.new }
+        ensures leaves { Leaves mute mute_left (FirstOf (mute self.old).streams.aside bytes.now (moved_count result)) self.old self.new }
         ensures gives { Gives false (mute self.old).streams (mute self.new).streams bytes.now result }
         ensures calm { OnOk result ((mute self.new).streams.sink_faults ≡ (mute self.old).streams.sink_faults) }
         ensures host { Gives true (told_by self.old.host).streams (told_by self.new.host).streams bytes.now result }

@@ -17,11 +17,11 @@ pub enum Step {
 }
 
 impl Step {
-    ghost use Rattle.disk_mem.specs.Memory.{number_of};
+    ghost use Rattle.disk_mem.specs.Memory.{call_number};
 
     /// The number of the call.
     pub fn number(&self) -> u64
-        ensures { result ≡ number_of self.now }
+        ensures { result ≡ call_number self.now }
     {
         match self {
             Step::Write(number, _, _) => *number,

@@ -2,7 +2,7 @@
 use Rattle.std.proofs.Common.{◌≡◌, ◌≢◌, ◌<◌, ◌≤◌, ◌+◌, ◌==◌, ℕ, zero, suc, Bool, true, false, cond, not, refl, sym, ap, ◌∙◌, add-one, arith}
 use Rattle.std.proofs.lemmas.Bool.Decides.{nat_tests}
 use Rattle.std.proofs.lemmas.List.FromFn.{sum_by-map-range_with_len_more}
-use Rattle.ice_base.specs.Bits.{count_below, Takes, Gives}
+use Rattle.ice_base.specs.Bits.{count_below, Inserts, Deletes}
 
 pub count_below-zero : (p : ℕ → Bool) → count_below p 0 ≡ 0
 unfolding count_below
@@ -29,7 +29,7 @@ count_below-same p q (suc n) h =
     cc
 
 -- one number more is counted
-pub count_below-takes : (p q : ℕ → Bool) (a n : ℕ) → a < n → p a ≡ false → Takes p a q → count_below q n ≡ count_below p n + 1
+pub count_below-takes : (p q : ℕ → Bool) (a n : ℕ) → a < n → p a ≡ false → Inserts p a q → count_below q n ≡ count_below p n + 1
 count_below-takes p q a zero h f t = absurd (omega arith)
 count_below-takes p q a (suc n) h f t =
     let x = count_below-suc p n in
@@ -47,7 +47,7 @@ count_below-takes p q a (suc n) h f t =
     ] refl
 
 -- one number less is counted
-pub count_below-gives : (p q : ℕ → Bool) (a n : ℕ) → a < n → p a ≡ true → Gives p a q → count_below q n + 1 ≡ count_below p n
+pub count_below-gives : (p q : ℕ → Bool) (a n : ℕ) → a < n → p a ≡ true → Deletes p a q → count_below q n + 1 ≡ count_below p n
 count_below-gives p q a zero h f t = absurd (omega arith)
 count_below-gives p q a (suc n) h f t =
     let x = count_below-suc p n in

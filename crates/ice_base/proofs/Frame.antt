@@ -1,7 +1,7 @@
 -- What outlasts calls, and what their crashes leave.
 use Rattle.std.proofs.Common.{Result, Ok, Err, OnOk, OnErr, is_ok, IsErr, ◌≡◌, inl, inr, ⊎_elim, ℕ, true, List, sym, ◌∙◌, ap, subst}
 use Rattle.ice_base.specs.Disk.{Image, DiskState, Streams, AgreesOn, Everywhere, Nowhere, Minus, BarrierCounts}
-use Rattle.ice_base.specs.Frames.{Within, Every, LeavesOnly, With, RestsOn, Step, Settled, Moves, Sure}
+use Rattle.ice_base.specs.Frames.{Within, Every, LeavesOnly, With, RestsOn, CrashStep, Settled, Moves, Sure}
 
 -- fewer blocks to agree on
 pub agrees_fewer : (A B : ℕ → Type 0) (s : DiskState) (image : Image) → ((k : ℕ) → B k → A k) → AgreesOn A s image → AgreesOn B s image
@@ -52,7 +52,7 @@ module _ {D : Type 0} (state : D → DiskState) (left : D → ℕ → Image → 
 
   -- Between two moments a call went on from one state that has P, and P does not rest on what the call changes.
   pub step_from_now : (E S R : ℕ → Type 0) (P : Image → Type 0) (a b : D) → RestsOn R P → ((k : ℕ) → R k → E k) → ((k : ℕ) → R k → ¬ S k)
-      → Within state left S a b → Settled E (state a) → P (state a).now → Step state left E P a b
+      → Within state left S a b → Settled E (state a) → P (state a).now → CrashStep state left E P a b
   step_from_now E S R P a b rests inside outside w settled p =
       let every : Every (Minus E S) (state a) P = λ image agrees. rests (state a).now image (λ k r. agrees.same k (inside k r, outside k r) (settled.settled k (inside k r))) p in
       record { leaves = leaves_within E S a b P w every; after = every_after E S a b P w every }
@@ -61,7 +61,7 @@ module _ {D : Type 0} (state : D → DiskState) (left : D → ℕ → Image → 
   pub now_after : (S R : ℕ → Type 0) (P : Image → Type 0) (a b : D) → RestsOn R P → ((k : ℕ) → R k → ¬ S k) → Within state left S a b → P (state a).now → P (state b).now
   now_after S R P a b rests outside w p = rests (state a).now (state b).now (λ k r. w.same k (outside k r)) p
 
-  pub step_then : (E : ℕ → Type 0) (P : Image → Type 0) (a b c : D) → (state b).streams ≡ (state a).streams → Step state left E P a b → Step state left E P b c → Step state left E P a c
+  pub step_then : (E : ℕ → Type 0) (P : Image → Type 0) (a b c : D) → (state b).streams ≡ (state a).streams → CrashStep state left E P a b → CrashStep state left E P b c → CrashStep state left E P a c
   step_then E P a b c streams v w = record {
     leaves = leaves_then _ a b c v.leaves
         (leaves_more (With (state b).streams.aside P) (With (state a).streams.aside P) b c (λ i o p. (p.0, p.1 ∙ ap (λ (x : Streams). x.aside) streams)) w.leaves);
@@ -69,10 +69,10 @@ module _ {D : Type 0} (state : D → DiskState) (left : D → ℕ → Image → 
   }
 
   -- a barrier, or others' calls
-  pub step_apart : (E S : ℕ → Type 0) (P : Image → Type 0) (a b : D) → ((k : ℕ) → E k → S k → ⊥) → Within state left S a b → Every E (state a) P → Step state left E P a b
+  pub step_apart : (E S : ℕ → Type 0) (P : Image → Type 0) (a b : D) → ((k : ℕ) → E k → S k → ⊥) → Within state left S a b → Every E (state a) P → CrashStep state left E P a b
   step_apart E S P a b apart w every = record { leaves = leaves_apart E S a b P apart w every; after = every_apart E S a b P apart w every }
 
-  pub step_more : (E : ℕ → Type 0) (P Q : Image → Type 0) (a b : D) → ((i : Image) → P i → Q i) → Step state left E P a b → Step state left E Q a b
+  pub step_more : (E : ℕ → Type 0) (P Q : Image → Type 0) (a b : D) → ((i : Image) → P i → Q i) → CrashStep state left E P a b → CrashStep state left E Q a b
   step_more E P Q a b sub v = record {
     leaves = leaves_more _ _ a b (λ i o p. (sub i p.0, p.1)) v.leaves;
     after = λ i agrees. sub i (v.after i agrees);
@@ -80,7 +80,7 @@ module _ {D : Type 0} (state : D → DiskState) (left : D → ℕ → Image → 
 
   -- one step of a commit: writes, and a barrier
   pub step_barrier : (E S R : ℕ → Type 0) (P : Image → Type 0) (a b c : D) → RestsOn R P → ((k : ℕ) → R k → E k) → ((k : ℕ) → R k → ¬ S k)
-      → Within state left S a b → Within state left Nowhere b c → Settled E (state a) → P (state a).now → Step state left E P a c
+      → Within state left S a b → Within state left Nowhere b c → Settled E (state a) → P (state a).now → CrashStep state left E P a c
   step_barrier E S R P a b c rests inside outside w v settled p =
       let first = step_from_now E S R P a b rests inside outside w settled p in
       step_then E P a b c w.streams first (step_apart E Nowhere P b c (λ k e n. n) v first.after)

@@ -1,11 +1,11 @@
 -- A first step that rests on fewer blocks than it ends with: a journal at rest, with old bodies that were never settled.
 use Rattle.std.proofs.Common.{Result, Ok, OnOk, ◌≡◌, ℕ, List, subst}
 use Rattle.ice_base.specs.Disk.{Image, DiskState, Nowhere}
-use Rattle.ice_base.specs.Frames.{Within, RestsOn, Step, Settled, Moves, MovesFrom}
+use Rattle.ice_base.specs.Frames.{Within, RestsOn, CrashStep, Settled, Moves, MovesFrom}
 use Rattle.ice_base.proofs.Frame.{agrees_fewer, step_then, step_more, step_barrier}
 
 module _ {D : Type 0} (state : D → DiskState) (left : D → ℕ → Image → List ℕ → Type 0) where
-  step_wider : (R E : ℕ → Type 0) (P : Image → Type 0) (a b : D) → ((k : ℕ) → R k → E k) → Step state left R P a b → Step state left E P a b
+  step_wider : (R E : ℕ → Type 0) (P : Image → Type 0) (a b : D) → ((k : ℕ) → R k → E k) → CrashStep state left R P a b → CrashStep state left E P a b
   step_wider R E P a b inside step = record { leaves = step.leaves; after = λ i agrees. step.after i (agrees_fewer E R (state b) i inside agrees) }
 
   -- writes outside what the fact rests on, and a barrier

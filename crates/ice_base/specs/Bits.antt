@@ -8,12 +8,12 @@ unfoldable pub bit_of : List ℕ → ℕ → Bool
 bit_of block k = bit_at (slice_index block (k / 8)) (k % 8) == 1
 
 -- a set that got one number more
-abbrev pub Takes : (ℕ → Bool) → ℕ → (ℕ → Bool) → Type 0
-Takes old a new = (b : ℕ) → new b ≡ cond (b == a) true (old b)
+abbrev pub Inserts : (ℕ → Bool) → ℕ → (ℕ → Bool) → Type 0
+Inserts old a new = (b : ℕ) → new b ≡ cond (b == a) true (old b)
 
 -- a set that lost one number
-abbrev pub Gives : (ℕ → Bool) → ℕ → (ℕ → Bool) → Type 0
-Gives old a new = (b : ℕ) → new b ≡ cond (b == a) false (old b)
+abbrev pub Deletes : (ℕ → Bool) → ℕ → (ℕ → Bool) → Type 0
+Deletes old a new = (b : ℕ) → new b ≡ cond (b == a) false (old b)
 
 -- the least number that is not in the set
 abbrev pub IsLeast : (ℕ → Bool) → ℕ → Type 0

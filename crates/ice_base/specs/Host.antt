@@ -52,15 +52,15 @@ pub record GaveOnly (old new : Streams) : Type 0 where
   pub faults : old.sink_faults ≤ new.sink_faults
 
 -- how many a give moved
-abbrev pub moved : {E : Type 0} → Result ℕ E → ℕ
-moved (Ok n) = n
-moved (Err e) = 0
+abbrev pub moved_count : {E : Type 0} → Result ℕ E → ℕ
+moved_count (Ok n) = n
+moved_count (Err e) = 0
 
 -- a give moves at least one byte at Ok, and none at Err
 pub record Gives {E : Type 0} (tells : Bool) (old new : Streams) (bytes : List ℕ) (result : Result ℕ E) : Type 0 where
   pub only : GaveOnly old new
   pub rose : OnErr result (Rose old.sink_faults new.sink_faults)
   pub some : IfOk result (λ n. 0 < n)
-  pub count : moved result ≤ length bytes
-  pub aside : tells ≡ true → new.aside ≡ old.aside ++ take (moved result) bytes
+  pub count : moved_count result ≤ length bytes
+  pub aside : tells ≡ true → new.aside ≡ old.aside ++ take (moved_count result) bytes
   pub silent : tells ≡ false → new.aside ≡ old.aside

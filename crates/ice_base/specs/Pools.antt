@@ -1,6 +1,6 @@
 -- What a take and a give do.
 use Rattle.std.specs.Prelude.{◌≡◌, ◌<◌, ◌+◌, ◌-◌, ◌*◌, ℕ, Bool, true, false, not, List, [], ◌∷◌, length}
-use Rattle.ice_base.specs.Bits.{bit_of, Takes, Gives, IsLeast}
+use Rattle.ice_base.specs.Bits.{bit_of, Inserts, Deletes, IsLeast}
 use Rattle.ice_base.specs.Fields.{WordSet}
 use Rattle.ice_base.specs.Lots.{LotView, sub_address}
 use Rattle.ice_base.specs.Used.{used, bitmap_of, bit_place, count_place, counted}
@@ -10,9 +10,9 @@ use Rattle.ice_base.specs.declared.view.View as view
 -- the least free inode, or block, was taken: it is marked used and counted, and nothing else of these two blocks changed
 pub record Took (inodes : Bool) (old new : ℕ → List ℕ) (i : ℕ) : Type 0 where
   pub least : IsLeast (used inodes old) i
-  pub taken : Takes (used inodes old) i (used inodes new)
+  pub taken : Inserts (used inodes old) i (used inodes new)
   pub others : (j : ℕ) → used (not inodes) new j ≡ used (not inodes) old j
-  pub marked : Takes (bit_of (old (bitmap_of inodes i))) (bit_place inodes i) (bit_of (new (bitmap_of inodes i)))
+  pub marked : Inserts (bit_of (old (bitmap_of inodes i))) (bit_place inodes i) (bit_of (new (bitmap_of inodes i)))
   pub counts : WordSet (old sub_address) (count_place inodes) (counted inodes old + 1) (new sub_address)
 
 -- the same of a block
@@ -26,9 +26,9 @@ TookInode old new i = Took true old new i
 -- a used inode, or block, was given back: it is marked free and no longer counted, and nothing else of these two blocks changed
 pub record Gave (inodes : Bool) (old new : ℕ → List ℕ) (i : ℕ) : Type 0 where
   pub was_used : used inodes old i ≡ true
-  pub given : Gives (used inodes old) i (used inodes new)
+  pub given : Deletes (used inodes old) i (used inodes new)
   pub others : (j : ℕ) → used (not inodes) new j ≡ used (not inodes) old j
-  pub marked : Gives (bit_of (old (bitmap_of inodes i))) (bit_place inodes i) (bit_of (new (bitmap_of inodes i)))
+  pub marked : Deletes (bit_of (old (bitmap_of inodes i))) (bit_place inodes i) (bit_of (new (bitmap_of inodes i)))
   pub counts : WordSet (old sub_address) (count_place inodes) (counted inodes old - 1) (new sub_address)
 
 -- the same of a block

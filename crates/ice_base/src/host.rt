@@ -1,7 +1,7 @@
 //! A disk with a source of bytes and a sink for bytes.
 ghost use Rattle.std.specs.Prelude.{◌≡◌, ◌<◌, ◌≤◌, ◌++◌, length, true, OnOk, OnErr};
 ghost use Rattle.ice_base.specs.Disk.{Rose};
-ghost use Rattle.ice_base.specs.Host.{SameDisk, Leaves, Takes, Gives, GaveOnly, FirstOf, CutOf, moved};
+ghost use Rattle.ice_base.specs.Host.{SameDisk, Leaves, Takes, Gives, GaveOnly, FirstOf, CutOf, moved_count};
 
 use crate::Disk;
 
@@ -35,7 +35,7 @@ pub trait Host: Disk {
         ensures disk { SameDisk (Self.state self.old) (Self.state self.new) }
         ensures ticks { (Self.state self.old).tells ≡ true
             → Rose (Self.state self.old).clock (Self.state self.new).clock }
-        ensures leaves { Leaves Self.state Self.left (FirstOf (Self.state self.old).streams.aside bytes.now (moved result)) self.old self.new }
+        ensures leaves { Leaves Self.state Self.left (FirstOf (Self.state self.old).streams.aside bytes.now (moved_count result)) self.old self.new }
         ensures gives { Gives (Self.state self.old).tells (Self.state self.old).streams (Self.state self.new).streams bytes.now result }
         ensures calm { OnOk result ((Self.state self.new).streams.sink_faults ≡ (Self.state self.old).streams.sink_faults) };
 }

@@ -3,7 +3,7 @@ use Rattle.std.specs.Int.{bit_at, w8}
 use Rattle.std.proofs.lemmas.Nat.{mod_below, div-add-mod'}
 use Rattle.std.proofs.lemmas.Nat.Bits.{shr_and_one, bit_at-lt, bit_at_set_same, bit_at_set_other, bit_at_clear_same, bit_at_clear_other}
 use Rattle.std.proofs.lemmas.Bool.Decides.{nat_tests}
-use Rattle.ice_base.specs.Bits.{bit_of, Takes, Gives}
+use Rattle.ice_base.specs.Bits.{bit_of, Inserts, Deletes}
 
 -- one byte changed at one bit
 bit_of-set : (xs : List ℕ) (k b j : ℕ) → k / 8 < length xs → j / 8 ≡ k / 8 → bit_of (slice_set xs (k / 8) b) j ≡ (bit_at b (j % 8) == 1)
@@ -57,11 +57,11 @@ one_bit v xs ys k here else j =
     ] refl
 
 -- a byte with one bit set, in place of the old one
-pub set_takes : (xs : List ℕ) (k : ℕ) → k / 8 < length xs → Takes (bit_of xs) k (bit_of (slice_set xs (k / 8) (bit_or (slice_index xs (k / 8)) (1 * 2 ^ (k % 8) % 256))))
+pub set_takes : (xs : List ℕ) (k : ℕ) → k / 8 < length xs → Inserts (bit_of xs) k (bit_of (slice_set xs (k / 8) (bit_or (slice_index xs (k / 8)) (1 * 2 ^ (k % 8) % 256))))
 set_takes xs k h = one_bit true xs (slice_set xs (k / 8) (bit_or (slice_index xs (k / 8)) (1 * 2 ^ (k % 8) % 256))) k (set_same xs k h) (λ j ne. set_other xs k j h ne)
 
 -- or cleared
-pub clear_gives : (xs : List ℕ) (k : ℕ) → k / 8 < length xs → Gives (bit_of xs) k (bit_of (slice_set xs (k / 8) (bit_and (slice_index xs (k / 8)) (255 - 1 * 2 ^ (k % 8) % 256))))
+pub clear_gives : (xs : List ℕ) (k : ℕ) → k / 8 < length xs → Deletes (bit_of xs) k (bit_of (slice_set xs (k / 8) (bit_and (slice_index xs (k / 8)) (255 - 1 * 2 ^ (k % 8) % 256))))
 clear_gives xs k h = one_bit false xs (slice_set xs (k / 8) (bit_and (slice_index xs (k / 8)) (255 - 1 * 2 ^ (k % 8) % 256))) k (clear_same xs k h) (λ j ne. clear_other xs k j h ne)
 
 pub ruleset bit_tests = (shr_and_one, bit_at-lt, nat_tests)

@@ -2,7 +2,7 @@
 #![tactic(auto)]
 
 ghost use Rattle.std.specs.Prelude.{◌≡◌, ◌<◌, ℕ, true, false, IfSome, IfNone};
-ghost use Rattle.ice_base.specs.Bits.{bit_of, count_below, Takes, Gives};
+ghost use Rattle.ice_base.specs.Bits.{bit_of, count_below, Inserts, Deletes};
 ghost use Rattle.ice_base.specs.Used.{bit_index, bits_of};
 
 use ice_base::Block;
@@ -41,7 +41,7 @@ pub fn bit(block: &Block, inodes: bool, i: u32) -> bool
 #[tactic(auto, using(crate::proofs::BitLaws::bit_sets))]
 fn set_at(block: &mut Block, k: usize)
     requires { k < 320 }
-    ensures { Takes (bit_of block.old) k (bit_of block.new) }
+    ensures { Inserts (bit_of block.old) k (bit_of block.new) }
 {
     block[k / 8] |= 1 << (k % 8);
 }
@@ -49,7 +49,7 @@ fn set_at(block: &mut Block, k: usize)
 /// Sets the bit, and changes no other.
 pub fn set(block: &mut Block, inodes: bool, i: u32)
     requires { i < bits_of inodes }
-    ensures { Takes (bit_of block.old) (bit_index inodes i) (bit_of block.new) }
+    ensures { Inserts (bit_of block.old) (bit_index inodes i) (bit_of block.new) }
 {
     set_at(block, index(inodes, i));
 }
@@ -57,7 +57,7 @@ pub fn set(block: &mut Block, inodes: bool, i: u32)
 #[tactic(auto, using(crate::proofs::BitLaws::bit_sets))]
 fn clear_at(block: &mut Block, k: usize)
     requires { k < 320 }
-    ensures { Gives (bit_of block.old) k (bit_of block.new) }
+    ensures { Deletes (bit_of block.old) k (bit_of block.new) }
 {
     block[k / 8] &= !(1 << (k % 8));
 }
@@ -65,7 +65,7 @@ fn clear_at(block: &mut Block, k: usize)
 /// Clears the bit, and changes no other.
 pub fn clear(block: &mut Block, inodes: bool, i: u32)
     requires { i < bits_of inodes }
-    ensures { Gives (bit_of block.old) (bit_index inodes i) (bit_of block.new) }
+    ensures { Deletes (bit_of block.old) (bit_index inodes i) (bit_of block.new) }
 {
     clear_at(block, index(inodes, i));
 }

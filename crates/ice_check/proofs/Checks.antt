@@ -6,7 +6,7 @@ use Rattle.ice_base.specs.Used.{used_inode}
 use Rattle.ice_map.specs.Maps.{times}
 use Rattle.ice_map.proofs.ListLaws.{times-append}
 use Rattle.ice_file.specs.Own.{file_bytes}
-use Rattle.ice_dir.specs.Rows.{Row}
+use Rattle.ice_dir.specs.Rows.{DirRow}
 use Rattle.tree_spec.specs.Answers.{deepest}
 use Rattle.tree_spec.specs.Trees.{File, Dir, Entries, Nil}
 use Rattle.tree_spec.specs.Costs.{Form}
@@ -15,7 +15,7 @@ use Rattle.ice_reads.specs.Reads.{Reads, tree_uses, entries_use, used_inodes, us
 use Rattle.ice_reads.proofs.Frames.{times-other}
 use Rattle.ice_rules.specs.Walks.{IsSound, KindFits}
 use Rattle.ice_rules.proofs.RowLaws.{no_rows, all_rows, with_row, uses-more, rows_more}
-use Rattle.ice_check.specs.Marks.{Marked, Checked, CheckedRows, IsGood}
+use Rattle.ice_check.specs.Marks.{GotMarks, Checked, CheckedRows, IsGood}
 use Rattle.ice_check.proofs.MarkLaws.{marked_both, marked_as, marked_none}
 
 module _ (f : Form) (lot : LotView) (m : Map) where
@@ -45,7 +45,7 @@ module _ (f : Form) (lot : LotView) (m : Map) where
 
   -- a file
   pub file_checked : (i h : ℕ) (in0 in1 bl0 bl1 : List Bool) → i < 64 * length lot.groups → h ≤ deepest → IsSound f lot m i → (o i).inode.kind ≡ 1
-      → Marked in0 in1 (i ∷ []) → Marked bl0 bl1 (o i).uses → Checked f lot m i h in0 in1 bl0 bl1
+      → GotMarks in0 in1 (i ∷ []) → GotMarks bl0 bl1 (o i).uses → Checked f lot m i h in0 in1 bl0 bl1
   file_checked i h in0 in1 bl0 bl1 low deep s one a b = record {
     tree = File (file_bytes (o i));
     sound = s;
@@ -57,9 +57,9 @@ module _ (f : Form) (lot : LotView) (m : Map) where
 
   -- a directory
   pub dir_checked : (i h count : ℕ) (in0 in1 in2 bl0 bl1 bl2 : List Bool) → i < 64 * length lot.groups → h ≤ deepest → IsSound f lot m i → (o i).inode.kind ≡ 2 → count ≡ length (rows_in f (o i))
-      → Marked in0 in1 (i ∷ []) → Marked bl0 bl1 (o i).uses → CheckedRows f lot m (rows_in f (o i)) (h + 1) count in1 in2 bl1 bl2 → Checked f lot m i h in0 in2 bl0 bl2
+      → GotMarks in0 in1 (i ∷ []) → GotMarks bl0 bl1 (o i).uses → CheckedRows f lot m (rows_in f (o i)) (h + 1) count in1 in2 bl1 bl2 → Checked f lot m i h in0 in2 bl0 bl2
   dir_checked i h count in0 in1 in2 bl0 bl1 bl2 low deep s two is a b c =
-      let rs : List Row = rows_in f (o i) in
+      let rs : List DirRow = rows_in f (o i) in
       record {
         tree = Dir c.entries;
         sound = s;
@@ -77,12 +77,12 @@ module _ (f : Form) (lot : LotView) (m : Map) where
       split xs ys k h = either (times xs k) (times ys k) (subst (λ x. 0 < x) (times-append xs ys k) h)
 
   -- no row
-  pub none_checked : (rs : List Row) (h : ℕ) (ins bls : List Bool) → CheckedRows f lot m rs h 0 ins ins bls bls
+  pub none_checked : (rs : List DirRow) (h : ℕ) (ins bls : List Bool) → CheckedRows f lot m rs h 0 ins ins bls bls
   none_checked rs h ins bls = record { entries = Nil; rows = no_rows f lot o rs h; used = λ j c. absurd (omega (arith, c)); inodes = marked_none ins; blocks = marked_none bls }
 
   -- one row more
   module _ (i h k j : ℕ) (in0 in1 in2 bl0 bl1 bl2 : List Bool) (good : IsGood f lot m i k j) (t : Checked f lot m j h in1 in2 bl1 bl2) (c : CheckedRows f lot m (rows_in f (o i)) h k in0 in1 bl0 bl1) where
-    abbrev rs : List Row
+    abbrev rs : List DirRow
     rs = rows_in f (o i)
 
     abbrev more : Entries

@@ -13,7 +13,7 @@ use Rattle.tree_spec.specs.Answers.{is_dir}
 use Rattle.tree_spec.specs.Trees.{Tree, File, Dir}
 use Rattle.tree_spec.specs.Costs.{Form}
 use Rattle.ice_reads.specs.Reads.{Reads, used_blocks, used_inodes}
-use Rattle.ice_reads.specs.Recovers.{Holds}
+use Rattle.ice_reads.specs.Recovers.{HoldsTree}
 use Rattle.ice_reads.specs.Tables.{Map, Table, own_in}
 use Rattle.ice_reads.proofs.Numbers.{Reads-number, Reads-data}
 use Rattle.ice_steps.proofs.Counts.{count-times, mark-same, mark-small}
@@ -69,7 +69,7 @@ module _ (f : Form) (lot : LotView) (m : Map) where
     blocks-counted =
         count-times (marked bl1) (256 * length lot.groups) (used_blocks f o 0 c.tree) (λ b h. data_below lot b (Reads-data f lot o b 0 0 c.tree c.reads (has-times (used_blocks f o 0 c.tree) b h))) (λ b low. block-marks b)
 
-    pub whole_holds : Agrees lot m in1 bl1 → (t : Tree) × Holds f lot m t
+    pub whole_holds : Agrees lot m in1 bl1 → (t : Tree) × HoldsTree f lot m t
     whole_holds a = (
       c.tree,
       record {

@@ -13,7 +13,7 @@ use Rattle.ice_map.specs.Maps.{nth_block, leads}
 use Rattle.ice_map.proofs.MapLaws.{nth-direct, leads-direct, leads-single}
 use Rattle.ice_file.specs.Own.{map_length}
 use Rattle.ice_dir.specs.Faults.{IsEntryFault}
-use Rattle.ice_dir.specs.Rows.{Row, rows_of, HasEntry}
+use Rattle.ice_dir.specs.Rows.{DirRow, dir_rows_of, HasEntry}
 use Rattle.ice_dir.proofs.DirLaws.{row-below}
 use Rattle.tree_spec.specs.Costs.{form_one}
 use Rattle.tree_spec.specs.Names.{is_name}
@@ -73,14 +73,14 @@ module _ (lot : LotView) (m : Map) (w : List ℕ) (dir k : ℕ) (looks : LooksIn
             leads-single lot m (inode_of m dir) (k / 16) high single ∙ place-there
       ] refl
 
-  name_broken : IfSome (slice_get (rows_of 64 m dir) k) (λ row. is_name row.0 ≡ false) → Breaks form_one lot m rule.Name
+  name_broken : IfSome (slice_get (dir_rows_of 64 m dir) k) (λ row. is_name row.0 ≡ false) → Breaks form_one lot m rule.Name
   name_broken bad =
-      let at = slice_get-get_or (rows_of 64 m dir) k ([], 0) below in
-      let out : is_name (get_or (rows_of 64 m dir) k ([], 0)).0 ≡ false = subst (λ o. IfSome o (λ (row : Row). is_name row.0 ≡ false)) at bad in
-      record { walk = w; dir = dir; entry = k; row = get_or (rows_of 64 m dir) k ([], 0); looks = looks; is = at; bad = λ f. no (sym f.is ∙ out) }
+      let at = slice_get-get_or (dir_rows_of 64 m dir) k ([], 0) below in
+      let out : is_name (get_or (dir_rows_of 64 m dir) k ([], 0)).0 ≡ false = subst (λ o. IfSome o (λ (row : DirRow). is_name row.0 ≡ false)) at bad in
+      record { walk = w; dir = dir; entry = k; row = get_or (dir_rows_of 64 m dir) k ([], 0); looks = looks; is = at; bad = λ f. no (sym f.is ∙ out) }
 
   pub entry_broken : (e : OpFault) → IsEntryFault e → (e ≡ op.Damaged rule.Kind → ¬ HasEntry lot k (inode_of m dir)) → (e ≡ op.Damaged rule.Pointer → leads lot m (inode_of m dir) (k / 16) ≡ false)
-      → (e ≡ op.Damaged rule.Name → IfSome (slice_get (rows_of 64 m dir) k) (λ row. is_name row.0 ≡ false)) → Broke lot m (told_as e)
+      → (e ≡ op.Damaged rule.Name → IfSome (slice_get (dir_rows_of 64 m dir) k) (λ row. is_name row.0 ≡ false)) → Broke lot m (told_as e)
   entry_broken op.Disk h a b c = tt
   entry_broken (op.Damaged rule.Kind) h a b c = absurd (a refl entry-there)
   entry_broken (op.Damaged rule.Pointer) h a b c = absurd (no (sym leads-there ∙ b refl))

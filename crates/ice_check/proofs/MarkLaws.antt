@@ -8,21 +8,21 @@ use Rattle.ice_map.specs.Maps.{times, nth_block, blocks_of, indirect_of, uses}
 use Rattle.ice_map.proofs.ListLaws.{times-append, range-append, has-range, has-times, has-left, has-right, has-head}
 use Rattle.ice_file.specs.Own.{mark}
 use Rattle.ice_reads.proofs.Frames.{times-here, times-other}
-use Rattle.ice_check.specs.Marks.{marked, Marked, MarkedTwice}
+use Rattle.ice_check.specs.Marks.{marked, GotMarks, MarkedTwice}
 
-pub marked_both : (old middle new : List Bool) (xs ys : List ℕ) → Marked old middle xs → Marked middle new ys → Marked old new (xs ++ ys)
+pub marked_both : (old middle new : List Bool) (xs ys : List ℕ) → GotMarks old middle xs → GotMarks middle new ys → GotMarks old new (xs ++ ys)
 marked_both old middle new xs ys a b = record { each = λ k. omega (arith, a.each k, b.each k, times-append xs ys k) }
 
-pub marked_as : (old middle new : List Bool) (xs ys zs : List ℕ) → ((k : ℕ) → times zs k ≡ times xs k + times ys k) → Marked old middle xs → Marked middle new ys → Marked old new zs
+pub marked_as : (old middle new : List Bool) (xs ys zs : List ℕ) → ((k : ℕ) → times zs k ≡ times xs k + times ys k) → GotMarks old middle xs → GotMarks middle new ys → GotMarks old new zs
 marked_as old middle new xs ys zs e a b = record { each = λ k. omega (arith, a.each k, b.each k, e k) }
 
-pub marked_none : (old : List Bool) → Marked old old []
+pub marked_none : (old : List Bool) → GotMarks old old []
 marked_none old = record { each = λ k. omega arith }
 
 apart : (i k : ℕ) → (i == k) ≡ false → i ≢ k
 apart i k e same = grind (arith, nat_tests)
 
-pub marked_one : (marks : List Bool) (i : ℕ) → i < length marks → marked marks i ≡ false → Marked marks (set marks i true) (i ∷ [])
+pub marked_one : (marks : List Bool) (i : ℕ) → i < length marks → marked marks i ≡ false → GotMarks marks (set marks i true) (i ∷ [])
 marked_one marks i h clear = record { each = at }
   where
     at : (k : ℕ) → mark (marked (set marks i true) k) ≡ mark (marked marks k) + times (i ∷ []) k
@@ -53,19 +53,19 @@ times_more f n b =
     let s : 0 + n ≡ n = omega arith in
     omega (arith, times-append (map f (range_with_len 0 n)) (map f (range_with_len (0 + n) 1)) b, ap (λ xs. times xs b) e, ap (λ x. times (f x ∷ []) b) s)
 
-pub each_more : (m : ℕ → List ℕ) (inode : Inode) (n at : ℕ) (old middle new : List Bool) → at ≡ nth_block m inode n → Marked old middle (blocks_of m inode n) → Marked middle new (at ∷ []) → Marked old new (blocks_of m inode (n + 1))
+pub each_more : (m : ℕ → List ℕ) (inode : Inode) (n at : ℕ) (old middle new : List Bool) → at ≡ nth_block m inode n → GotMarks old middle (blocks_of m inode n) → GotMarks middle new (at ∷ []) → GotMarks old new (blocks_of m inode (n + 1))
 each_more m inode n at old middle new e a b =
-    marked_as old middle new (blocks_of m inode n) (nth_block m inode n ∷ []) (blocks_of m inode (n + 1)) (times_more (nth_block m inode) n) a (subst (λ x. Marked middle new (x ∷ [])) e b)
+    marked_as old middle new (blocks_of m inode n) (nth_block m inode n ∷ []) (blocks_of m inode (n + 1)) (times_more (nth_block m inode) n) a (subst (λ x. GotMarks middle new (x ∷ [])) e b)
 
 -- a number that is marked had a mark, or stands in the list
-was : (old new : List Bool) (xs : List ℕ) (b : ℕ) → Marked old new xs → marked new b ≡ true → (marked old b ≡ true) ⊎ (0 < times xs b)
+was : (old new : List Bool) (xs : List ℕ) (b : ℕ) → GotMarks old new xs → marked new b ≡ true → (marked old b ≡ true) ⊎ (0 < times xs b)
 was old new xs b a t = by (marked old b) refl
   where
     by : (v : Bool) → marked old b ≡ v → (marked old b ≡ true) ⊎ (0 < times xs b)
     by true e = inl e
     by false e = inr (omega (arith, a.each b, ap mark t, ap mark e))
 
-pub each_twice : (m : ℕ → List ℕ) (inode : Inode) (n count at : ℕ) (old now : List Bool) → n < count → at ≡ nth_block m inode n → Marked old now (blocks_of m inode n) → marked now at ≡ true → MarkedTwice old (blocks_of m inode count)
+pub each_twice : (m : ℕ → List ℕ) (inode : Inode) (n count at : ℕ) (old now : List Bool) → n < count → at ≡ nth_block m inode n → GotMarks old now (blocks_of m inode n) → marked now at ≡ true → MarkedTwice old (blocks_of m inode count)
 each_twice m inode n count at old now h e a t = record {
   number = nth_block m inode n;
   among = has-range (nth_block m inode) 0 count n (omega arith) (omega arith);
@@ -87,7 +87,7 @@ pub one_twice : (old : List Bool) (a : ℕ) → marked old a ≡ true → Marked
 one_twice old a t = record { number = a; among = has-head a []; why = inl t }
 
 -- the indirect block, and then the others
-pub uses_marked : (m : ℕ → List ℕ) (inode : Inode) (count : ℕ) (old middle new : List Bool) → Marked old middle (indirect_of inode count) → Marked middle new (blocks_of m inode count) → Marked old new (uses m inode count)
+pub uses_marked : (m : ℕ → List ℕ) (inode : Inode) (count : ℕ) (old middle new : List Bool) → GotMarks old middle (indirect_of inode count) → GotMarks middle new (blocks_of m inode count) → GotMarks old new (uses m inode count)
 uses_marked m inode count old middle new a b = marked_both old middle new (indirect_of inode count) (blocks_of m inode count) a b
 
 pub first_twice : (m : ℕ → List ℕ) (inode : Inode) (count : ℕ) (old : List Bool) → MarkedTwice old (indirect_of inode count) → MarkedTwice old (uses m inode count)
@@ -101,7 +101,7 @@ first_twice m inode count old t = record {
     by (inl x) = inl x
     by (inr x) = inr (omega (arith, x, times-append (indirect_of inode count) (blocks_of m inode count) t.number))
 
-pub then_twice : (m : ℕ → List ℕ) (inode : Inode) (count : ℕ) (old middle : List Bool) → Marked old middle (indirect_of inode count) → MarkedTwice middle (blocks_of m inode count) → MarkedTwice old (uses m inode count)
+pub then_twice : (m : ℕ → List ℕ) (inode : Inode) (count : ℕ) (old middle : List Bool) → GotMarks old middle (indirect_of inode count) → MarkedTwice middle (blocks_of m inode count) → MarkedTwice old (uses m inode count)
 then_twice m inode count old middle a t = record {
   number = t.number;
   among = has-right (indirect_of inode count) (blocks_of m inode count) t.number t.among;

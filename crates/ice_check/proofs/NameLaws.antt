@@ -15,7 +15,7 @@ use Rattle.std.proofs.lemmas.List.Sums.{sum_by-cons}
 use Rattle.std.proofs.lemmas.Option.{slice_get-get_or, slice_get_within}
 use Rattle.ice_base.specs.Lots.{LotView}
 use Rattle.ice_base.specs.declared.fault.Rule.TheVariants as rule
-use Rattle.ice_dir.specs.Rows.{Row}
+use Rattle.ice_dir.specs.Rows.{DirRow}
 use Rattle.ice_file.specs.Own.{mark}
 use Rattle.tree_spec.specs.Costs.{form_one}
 use Rattle.tree_spec.specs.Routes.{is_same_name}
@@ -23,11 +23,11 @@ use Rattle.tree_spec.specs.Trees.{by_bytes}
 use Rattle.tree_spec.proofs.Trees.{same_name, is_same_name-refl}
 use Rattle.ice_reads.specs.Tables.{Map, own_in, rows_in, IsNameOf}
 use Rattle.ice_reads.proofs.Focus.{same_Some}
-use Rattle.ice_rules.specs.Walks.{entry_of, LooksInto}
+use Rattle.ice_rules.specs.Walks.{walk_entry, LooksInto}
 use Rattle.ice_rules.specs.Rules.{Breaks}
-use Rattle.ice_check.specs.Marks.{is_taken, AreRead, AllNew}
+use Rattle.ice_check.specs.Marks.{stands_before, AreRead, AllNew}
 use Rattle.ice_check.specs.declared.names.Kept.{Kept}
-use Rattle.ice_check.specs.Names.{kept_name, names_of, AllDiffer, TwoAlike}
+use Rattle.ice_check.specs.Names.{kept_name, array_names, AllDiffer, TwoAlike}
 
 no : {A : Type 0} → true ≡ false → A
 no e = absurd (cc)
@@ -130,59 +130,59 @@ sorted_differ xs up apart i j lt h e =
 none : Kept
 none = record { bytes = []; len = 0 }
 
-pub kept_at : (ks : List Kept) (k : ℕ) (d : Kept) → k < length ks → get_or (names_of ks) k [] ≡ kept_name (get_or ks k d)
+pub kept_at : (ks : List Kept) (k : ℕ) (d : Kept) → k < length ks → get_or (array_names ks) k [] ≡ kept_name (get_or ks k d)
 kept_at ks k d h = get_or-map kept_name ks k d [] h
 
-pub kept_take : (ks : List Kept) (count k : ℕ) → count ≤ length ks → k < count → get_or (names_of (take count ks)) k [] ≡ get_or (names_of ks) k []
+pub kept_take : (ks : List Kept) (count k : ℕ) → count ≤ length ks → k < count → get_or (array_names (take count ks)) k [] ≡ get_or (array_names ks) k []
 kept_take ks count k room h =
     kept_at (take count ks) k none (omega (arith, length-take count ks)) ∙ ap kept_name (get_or-take count ks k none h) ∙ sym (kept_at ks k none (omega arith))
 
-pub cut_long : (ks : List Kept) (count : ℕ) → count ≤ length ks → length (names_of (take count ks)) ≡ count
+pub cut_long : (ks : List Kept) (count : ℕ) → count ≤ length ks → length (array_names (take count ks)) ≡ count
 cut_long ks count room = omega (arith, length-map {A = Kept} {B = List ℕ} (take count ks) kept_name, length-take count ks)
 
-pub kept_set : (ks : List Kept) (k : ℕ) (x : Kept) → k < length ks → get_or (names_of (set ks k x)) k [] ≡ kept_name x
+pub kept_set : (ks : List Kept) (k : ℕ) (x : Kept) → k < length ks → get_or (array_names (set ks k x)) k [] ≡ kept_name x
 kept_set ks k x h = kept_at (set ks k x) k x (omega (arith, length-set {A = Kept})) ∙ ap kept_name (get_or-set_same ks k x x h)
 
-pub kept_others : (ks : List Kept) (k j : ℕ) (x : Kept) → k < length ks → j < length ks → j ≢ k → get_or (names_of (set ks k x)) j [] ≡ get_or (names_of ks) j []
+pub kept_others : (ks : List Kept) (k j : ℕ) (x : Kept) → k < length ks → j < length ks → j ≢ k → get_or (array_names (set ks k x)) j [] ≡ get_or (array_names ks) j []
 kept_others ks k j x h hj ne = kept_at (set ks k x) j x (omega (arith, length-set {A = Kept})) ∙ ap kept_name (get_or-set_other ks k j x x ne) ∙ sym (kept_at ks j x hj)
 
 -- names beside each other in a loop over the array
-pub neighbours_alike : (ks : List Kept) (k : ℕ) (d e : Kept) → 1 ≤ k → k < length ks → kept_name (get_or ks (k - 1) d) ≡ kept_name (get_or ks k e) → get_or (names_of ks) (k - 1) [] ≡ get_or (names_of ks) (k - 1 + 1) []
+pub neighbours_alike : (ks : List Kept) (k : ℕ) (d e : Kept) → 1 ≤ k → k < length ks → kept_name (get_or ks (k - 1) d) ≡ kept_name (get_or ks k e) → get_or (array_names ks) (k - 1) [] ≡ get_or (array_names ks) (k - 1 + 1) []
 neighbours_alike ks k d e one h same =
     let next : k ≡ k - 1 + 1 = omega arith in
-    kept_at ks (k - 1) d (omega arith) ∙ same ∙ sym (kept_at ks k e h) ∙ ap (λ x. get_or (names_of ks) x []) next
+    kept_at ks (k - 1) d (omega arith) ∙ same ∙ sym (kept_at ks k e h) ∙ ap (λ x. get_or (array_names ks) x []) next
 
-pub neighbours_more : (ks : List Kept) (k : ℕ) (d e : Kept) → 1 ≤ k → k < length ks → ((j : ℕ) → j + 1 < k → get_or (names_of ks) j [] ≡ get_or (names_of ks) (j + 1) [] → ⊥) → kept_name (get_or ks (k - 1) d) ≢ kept_name (get_or ks k e)
-    → (j : ℕ) → j + 1 < k + 1 → get_or (names_of ks) j [] ≡ get_or (names_of ks) (j + 1) [] → ⊥
+pub neighbours_more : (ks : List Kept) (k : ℕ) (d e : Kept) → 1 ≤ k → k < length ks → ((j : ℕ) → j + 1 < k → get_or (array_names ks) j [] ≡ get_or (array_names ks) (j + 1) [] → ⊥) → kept_name (get_or ks (k - 1) d) ≢ kept_name (get_or ks k e)
+    → (j : ℕ) → j + 1 < k + 1 → get_or (array_names ks) j [] ≡ get_or (array_names ks) (j + 1) [] → ⊥
 neighbours_more ks k d e one h before apart j lt same =
     elim (j + 1 == k) as (λ t. (j + 1 == k) ≡ t → ⊥) [
       | true ↦ λ t.
           let here : j + 1 ≡ k = grind (arith, nat_tests) in
           let last : k - 1 ≡ j = omega arith in
-          apart (sym (kept_at ks (k - 1) d (omega arith)) ∙ ap (λ x. get_or (names_of ks) x []) last ∙ same ∙ ap (λ x. get_or (names_of ks) x []) here ∙ kept_at ks k e h)
+          apart (sym (kept_at ks (k - 1) d (omega arith)) ∙ ap (λ x. get_or (array_names ks) x []) last ∙ same ∙ ap (λ x. get_or (array_names ks) x []) here ∙ kept_at ks k e h)
       | false ↦ λ t. let other : j + 1 ≢ k = grind (arith, nat_tests) in before j (omega arith) same
     ] refl
 
 -- after a sort, whose neighbours differ
 pub sorted_names : (old new : List Kept) → IsPermutation old new → IsSortedBy (λ a b. is_lt (by_bytes (kept_name a) (kept_name b))) new
-    → ((k : ℕ) → k + 1 < length new → get_or (names_of new) k [] ≢ get_or (names_of new) (k + 1) []) → AllDiffer (names_of old)
+    → ((k : ℕ) → k + 1 < length new → get_or (array_names new) k [] ≢ get_or (array_names new) (k + 1) []) → AllDiffer (array_names old)
 sorted_names old new p up apart =
-    differ_before (names_of old) (names_of new) (IsPermutation-map kept_name old new p) (sorted_differ (names_of new) sorted (λ k h. apart k (omega (arith, length-map {A = Kept} {B = List ℕ} new kept_name))))
+    differ_before (array_names old) (array_names new) (IsPermutation-map kept_name old new p) (sorted_differ (array_names new) sorted (λ k h. apart k (omega (arith, length-map {A = Kept} {B = List ℕ} new kept_name))))
   where
-    sorted : IsSorted by_bytes (names_of new)
+    sorted : IsSorted by_bytes (array_names new)
     sorted k d low h =
         let l = length-map {A = Kept} {B = List ℕ} new kept_name in
-        subst (λ x. is_lt (by_bytes x (get_or (names_of new) k d)) ≡ false) (sym (get_or-map kept_name new (k + 1) none d (omega arith)))
+        subst (λ x. is_lt (by_bytes x (get_or (array_names new) k d)) ≡ false) (sym (get_or-map kept_name new (k + 1) none d (omega arith)))
         (subst (λ x. is_lt (by_bytes (kept_name (get_or new (k + 1) none)) x) ≡ false) (sym (get_or-map kept_name new k none d (omega arith))) (up k none low (omega arith)))
 
 -- and whose neighbours are alike somewhere
-pub sorted_alike : (old new : List Kept) (k : ℕ) → IsPermutation old new → k + 1 < length new → get_or (names_of new) k [] ≡ get_or (names_of new) (k + 1) [] → TwoAlike (names_of old)
+pub sorted_alike : (old new : List Kept) (k : ℕ) → IsPermutation old new → k + 1 < length new → get_or (array_names new) k [] ≡ get_or (array_names new) (k + 1) [] → TwoAlike (array_names old)
 sorted_alike old new k p h e =
-    alike_before (names_of old) (names_of new) (IsPermutation-map kept_name old new p) (record { one = k; other = k + 1; below = omega arith; within = omega (arith, length-map {A = Kept} {B = List ℕ} new kept_name); same = e })
+    alike_before (array_names old) (array_names new) (IsPermutation-map kept_name old new p) (record { one = k; other = k + 1; below = omega arith; within = omega (arith, length-map {A = Kept} {B = List ℕ} new kept_name); same = e })
 
 -- ---- the names of a directory
 
-none_taken : (c : List ℕ) (rs : List Row) (k : ℕ) → ((i : ℕ) (r : Row) → i < k → slice_get rs i ≡ Some r → eq_by_cmp by_bytes c r.0 ≡ false) → is_taken rs k c ≡ false
+none_taken : (c : List ℕ) (rs : List DirRow) (k : ℕ) → ((i : ℕ) (r : DirRow) → i < k → slice_get rs i ≡ Some r → eq_by_cmp by_bytes c r.0 ≡ false) → stands_before rs k c ≡ false
 none_taken c [] zero h = refl
 none_taken c [] (suc k) h = refl
 none_taken c (r ∷ rs) zero h = refl
@@ -190,16 +190,16 @@ none_taken c (r ∷ rs) (suc k) h =
     rw (h 0 r (omega arith) refl) (none_taken c rs k (λ i s lt at. h (suc i) s (omega arith) at))
 
 module _ (lot : LotView) (m : Map) (dir count : ℕ) (names cut : List (List ℕ)) (is : count ≡ length (rows_in form_one (own_in form_one m dir))) (long : length cut ≡ count) (same : (k : ℕ) → k < count → get_or cut k [] ≡ get_or names k []) (read : AreRead m dir count names) where
-  abbrev rs : List Row
+  abbrev rs : List DirRow
   rs = rows_in form_one (own_in form_one m dir)
 
-  name-at : (k : ℕ) (row : Row) → k < count → entry_of form_one m dir k ≡ Some row → get_or cut k [] ≡ row.0
+  name-at : (k : ℕ) (row : DirRow) → k < count → walk_entry form_one m dir k ≡ Some row → get_or cut k [] ≡ row.0
   name-at k row h at = same k h ∙ read.each k row h at
 
   pub new_names : AllDiffer cut → AllNew m dir
   new_names d = record { each = λ k row at. none_taken row.0 rs k (λ i r lt here. by k row at i r lt here (eq_by_cmp by_bytes row.0 r.0) refl) }
     where
-      by : (k : ℕ) (row : Row) → entry_of form_one m dir k ≡ Some row → (i : ℕ) (r : Row) → i < k → slice_get rs i ≡ Some r → (b : Bool) → eq_by_cmp by_bytes row.0 r.0 ≡ b → b ≡ false
+      by : (k : ℕ) (row : DirRow) → walk_entry form_one m dir k ≡ Some row → (i : ℕ) (r : DirRow) → i < k → slice_get rs i ≡ Some r → (b : Bool) → eq_by_cmp by_bytes row.0 r.0 ≡ b → b ≡ false
       by k row at i r lt here false e = refl
       by k row at i r lt here true e =
           let low : k < count = omega (arith, slice_get_within rs k row at) in
@@ -230,26 +230,26 @@ module _ (lot : LotView) (m : Map) (dir count : ℕ) (names cut : List (List ℕ
       }
 
 -- one name more was read
-pub read_more : (m : Map) (dir k next : ℕ) (name : List ℕ) (ks : List Kept) (x : Kept) → k < length ks → entry_of form_one m dir k ≡ Some (name, next) → kept_name x ≡ name → IsNameOf form_one name → AreRead m dir k (names_of ks) → AreRead m dir (k + 1) (names_of (set ks k x))
+pub read_more : (m : Map) (dir k next : ℕ) (name : List ℕ) (ks : List Kept) (x : Kept) → k < length ks → walk_entry form_one m dir k ≡ Some (name, next) → kept_name x ≡ name → IsNameOf form_one name → AreRead m dir k (array_names ks) → AreRead m dir (k + 1) (array_names (set ks k x))
 read_more m dir k next name ks x room at is fit old = record { each = each; fit = fits }
   where
-    here : get_or (names_of (set ks k x)) k [] ≡ name
+    here : get_or (array_names (set ks k x)) k [] ≡ name
     here = kept_set ks k x room ∙ is
 
-    each : (j : ℕ) (row : Row) → j < k + 1 → entry_of form_one m dir j ≡ Some row → get_or (names_of (set ks k x)) j [] ≡ row.0
+    each : (j : ℕ) (row : DirRow) → j < k + 1 → walk_entry form_one m dir j ≡ Some row → get_or (array_names (set ks k x)) j [] ≡ row.0
     each j row lt there =
-        elim (j == k) as (λ t. (j == k) ≡ t → get_or (names_of (set ks k x)) j [] ≡ row.0) [
+        elim (j == k) as (λ t. (j == k) ≡ t → get_or (array_names (set ks k x)) j [] ≡ row.0) [
           | true ↦ λ t.
               let same : j ≡ k = grind (arith, nat_tests) in
-              let one : (name, next) ≡ row = same_Some (name, next) row (sym at ∙ ap (λ n. entry_of form_one m dir n) (sym same) ∙ there) in
-              ap (λ n. get_or (names_of (set ks k x)) n []) same ∙ here ∙ ap (λ (r : Row). r.0) one
+              let one : (name, next) ≡ row = same_Some (name, next) row (sym at ∙ ap (λ n. walk_entry form_one m dir n) (sym same) ∙ there) in
+              ap (λ n. get_or (array_names (set ks k x)) n []) same ∙ here ∙ ap (λ (r : DirRow). r.0) one
           | false ↦ λ t. let other : j ≢ k = grind (arith, nat_tests) in kept_others ks k j x room (omega arith) other ∙ old.each j row (omega arith) there
         ] refl
 
-    fits : (j : ℕ) → j < k + 1 → IsNameOf form_one (get_or (names_of (set ks k x)) j [])
+    fits : (j : ℕ) → j < k + 1 → IsNameOf form_one (get_or (array_names (set ks k x)) j [])
     fits j lt =
-        elim (j == k) as (λ t. (j == k) ≡ t → IsNameOf form_one (get_or (names_of (set ks k x)) j [])) [
-          | true ↦ λ t. let same : j ≡ k = grind (arith, nat_tests) in subst (λ c. IsNameOf form_one c) (sym (ap (λ n. get_or (names_of (set ks k x)) n []) same ∙ here)) fit
+        elim (j == k) as (λ t. (j == k) ≡ t → IsNameOf form_one (get_or (array_names (set ks k x)) j [])) [
+          | true ↦ λ t. let same : j ≡ k = grind (arith, nat_tests) in subst (λ c. IsNameOf form_one c) (sym (ap (λ n. get_or (array_names (set ks k x)) n []) same ∙ here)) fit
           | false ↦ λ t. let other : j ≢ k = grind (arith, nat_tests) in subst (λ c. IsNameOf form_one c) (sym (kept_others ks k j x room (omega arith) other)) (old.fit j (omega arith))
         ] refl
 

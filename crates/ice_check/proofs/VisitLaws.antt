@@ -11,10 +11,10 @@ use Rattle.ice_file.specs.Own.{map_length, own_of}
 use Rattle.tree_spec.specs.Costs.{form_one}
 use Rattle.ice_reads.specs.Tables.{Map, own_in, rows_in, IsNameOf}
 use Rattle.ice_reads.proofs.Losses.{length-rows_in}
-use Rattle.ice_rules.specs.Walks.{KindFits, PointersFit, IsSound, IsNamable, WalksTo, WalkUses, LooksInto, BlockReached, entry_of}
+use Rattle.ice_rules.specs.Walks.{KindFits, PointersFit, IsSound, IsNamable, WalksTo, WalkUses, LooksInto, BlockReached, walk_entry}
 use Rattle.ice_rules.specs.Rules.{Breaks, Differs}
 use Rattle.ice_rules.proofs.Orders.{before_apart}
-use Rattle.ice_check.specs.Marks.{Marked, MarkedTwice, SeenBefore, SomeUnused, AllNew, IsGood}
+use Rattle.ice_check.specs.Marks.{GotMarks, MarkedTwice, SeenBefore, SomeUnused, AllNew, IsGood}
 use Rattle.ice_check.specs.declared.fault.CheckFault.{CheckFault}
 use Rattle.ice_check.specs.declared.fault.CheckFault.TheVariants as check
 use Rattle.ice_check.specs.Shown.{IfBitmap, Broke}
@@ -34,8 +34,8 @@ module _ (lot : LotView) (m : Map) (i : ℕ) (inode : Inode) (is : inode ≡ ino
   uses_here =
       ap (uses (λ _. pointers) inode) long ∙ sym (same_uses m inode pointers (map_length 64 inode) same) ∙ ap (λ (x : Inode). uses m x (map_length 64 x)) is
 
-  pub marks_here : (old new : List Bool) → Marked old new (uses (λ _. pointers) inode count) → Marked old new (own_in form_one m i).uses
-  marks_here old new a = subst (Marked old new) uses_here a
+  pub marks_here : (old new : List Bool) → GotMarks old new (uses (λ _. pointers) inode count) → GotMarks old new (own_in form_one m i).uses
+  marks_here old new a = subst (GotMarks old new) uses_here a
 
   pub file_here : inode.kind ≡ 1 → (own_in form_one m i).inode.kind ≡ 1
   file_here e = ap (λ (x : Inode). x.kind) (sym is) ∙ e
@@ -75,7 +75,7 @@ module _ (lot : LotView) (m : Map) (i : ℕ) (inode : Inode) (is : inode ≡ ino
       here = record { by = by; sound = sound_here used; uses = subst (λ xs. has xs t.number ≡ true) uses_here t.among }
 
 -- what a directory's entry names
-module _ (lot : LotView) (m : Map) (dir k next : ℕ) (name : List ℕ) (at : entry_of form_one m dir k ≡ Some (name, next)) where
+module _ (lot : LotView) (m : Map) (dir k next : ℕ) (name : List ℕ) (at : walk_entry form_one m dir k ≡ Some (name, next)) where
   pub good_here : AllNew m dir → IsNameOf form_one name → IsNamable lot next → IsGood form_one lot m dir k next
   good_here new fit number = record { row = (name, next); is = at; name = fit; new = new.each k (name, next) at; number = number; same = refl }
 

@@ -12,10 +12,10 @@ use Rattle.tree_spec.specs.Answers.{deepest}
 use Rattle.tree_spec.specs.Costs.{Form}
 use Rattle.ice_reads.specs.Tables.{Map, Table, own_in}
 use Rattle.ice_reads.proofs.Frames.{times-other}
-use Rattle.ice_rules.specs.Walks.{IsSound, IsOpen, GoesTo, WalksTo, LooksInto, InodeReached, Before, Within}
+use Rattle.ice_rules.specs.Walks.{IsSound, IsOpen, GoesTo, WalksTo, LooksInto, InodeReached, Before, NotAfter}
 use Rattle.ice_rules.specs.Rules.{Breaks, Differs}
 use Rattle.ice_rules.proofs.Orders.{before_apart, before_child, dir_before, before_next, within_dir, goes_on}
-use Rattle.ice_check.specs.Marks.{marked, Marked, IsGood, IsAt, Seen, SeenBefore, SeenWithin}
+use Rattle.ice_check.specs.Marks.{marked, GotMarks, IsGood, IsAt, Seen, SeenBefore, SeenWithin}
 
 -- a mark was there before, or came with the list
 was : (a b : Bool) (n : ℕ) → mark b ≡ mark a + n → b ≡ true → (a ≡ true) ⊎ (0 < n)
@@ -57,7 +57,7 @@ module _ (f : Form) (lot : LotView) (m : Map) where
 
     -- ---- what was seen after it
 
-    seen_here : (in0 in1 bl0 bl1 : List Bool) → depth ≤ deepest → used_inode m i ≡ true → IsSound f lot m i → SeenBefore f lot m w in0 bl0 → Marked in0 in1 (i ∷ []) → Marked bl0 bl1 (o i).uses
+    seen_here : (in0 in1 bl0 bl1 : List Bool) → depth ≤ deepest → used_inode m i ≡ true → IsSound f lot m i → SeenBefore f lot m w in0 bl0 → GotMarks in0 in1 (i ∷ []) → GotMarks bl0 bl1 (o i).uses
         → Seen f lot m (λ v. Before v w ⊎ (v ≡ w)) in1 bl1
     seen_here in0 in1 bl0 bl1 low used sound seen a b = record {
       inodes = λ j t. ⊎_elim
@@ -77,11 +77,11 @@ module _ (f : Form) (lot : LotView) (m : Map) where
               | false ↦ λ e. absurd (omega (arith, times-other j i [] e, h))
             ] refl
 
-    pub seen_file : (in0 in1 bl0 bl1 : List Bool) → depth ≤ deepest → used_inode m i ≡ true → IsSound f lot m i → SeenBefore f lot m w in0 bl0 → Marked in0 in1 (i ∷ []) → Marked bl0 bl1 (o i).uses → SeenWithin f lot m w in1 bl1
+    pub seen_file : (in0 in1 bl0 bl1 : List Bool) → depth ≤ deepest → used_inode m i ≡ true → IsSound f lot m i → SeenBefore f lot m w in0 bl0 → GotMarks in0 in1 (i ∷ []) → GotMarks bl0 bl1 (o i).uses → SeenWithin f lot m w in1 bl1
     seen_file in0 in1 bl0 bl1 low used sound seen a b =
-        seen_more (λ v. Before v w ⊎ (v ≡ w)) (Within w) in1 bl1 (λ v h. ⊎_elim (λ x. inl x) (λ e. inr ([], e ∙ sym (append-nil w))) h) (seen_here in0 in1 bl0 bl1 low used sound seen a b)
+        seen_more (λ v. Before v w ⊎ (v ≡ w)) (NotAfter w) in1 bl1 (λ v h. ⊎_elim (λ x. inl x) (λ e. inr ([], e ∙ sym (append-nil w))) h) (seen_here in0 in1 bl0 bl1 low used sound seen a b)
 
-    pub seen_dir : (in0 in1 bl0 bl1 : List Bool) → depth ≤ deepest → used_inode m i ≡ true → IsSound f lot m i → SeenBefore f lot m w in0 bl0 → Marked in0 in1 (i ∷ []) → Marked bl0 bl1 (o i).uses → SeenBefore f lot m (w ++ 0 ∷ []) in1 bl1
+    pub seen_dir : (in0 in1 bl0 bl1 : List Bool) → depth ≤ deepest → used_inode m i ≡ true → IsSound f lot m i → SeenBefore f lot m w in0 bl0 → GotMarks in0 in1 (i ∷ []) → GotMarks bl0 bl1 (o i).uses → SeenBefore f lot m (w ++ 0 ∷ []) in1 bl1
     seen_dir in0 in1 bl0 bl1 low used sound seen a b =
         seen_more (λ v. Before v w ⊎ (v ≡ w)) (λ v. Before v (w ++ 0 ∷ [])) in1 bl1
         (λ v h. ⊎_elim (λ x. before_child v w 0 x) (λ e. subst (λ u. Before u (w ++ 0 ∷ [])) (sym e) (dir_before w 0)) h) (seen_here in0 in1 bl0 bl1 low used sound seen a b)
@@ -95,7 +95,7 @@ module _ (f : Form) (lot : LotView) (m : Map) where
         }
 
   pub seen_next : (w : List ℕ) (k : ℕ) (ins bls : List Bool) → SeenWithin f lot m (w ++ k ∷ []) ins bls → SeenBefore f lot m (w ++ (k + 1) ∷ []) ins bls
-  seen_next w k ins bls = seen_more (Within (w ++ k ∷ [])) (λ v. Before v (w ++ (k + 1) ∷ [])) ins bls (λ v h. before_next v w k h)
+  seen_next w k ins bls = seen_more (NotAfter (w ++ k ∷ [])) (λ v. Before v (w ++ (k + 1) ∷ [])) ins bls (λ v h. before_next v w k h)
 
   pub seen_whole : (w : List ℕ) (n : ℕ) (ins bls : List Bool) → SeenBefore f lot m (w ++ n ∷ []) ins bls → SeenWithin f lot m w ins bls
-  seen_whole w n ins bls = seen_more (λ v. Before v (w ++ n ∷ [])) (Within w) ins bls (λ v h. within_dir v w n h)
+  seen_whole w n ins bls = seen_more (λ v. Before v (w ++ n ∷ [])) (NotAfter w) ins bls (λ v h. within_dir v w n h)

@@ -10,20 +10,20 @@ use Rattle.ice_base.specs.declared.fault.Rule.{Rule}
 use Rattle.ice_base.specs.declared.fault.Rule.TheVariants as rule
 use Rattle.ice_map.specs.Maps.{times}
 use Rattle.ice_file.specs.Own.{mark}
-use Rattle.ice_dir.specs.Rows.{Row}
+use Rattle.ice_dir.specs.Rows.{DirRow}
 use Rattle.tree_spec.specs.Trees.{Tree, Entries, by_bytes}
 use Rattle.tree_spec.specs.Costs.{Form, form_one}
 use Rattle.ice_reads.specs.Tables.{Map, own_in, rows_in, IsNameOf}
 use Rattle.ice_reads.specs.Reads.{Reads, entries_use, used_inodes, used_blocks}
 use Rattle.ice_rules.specs.RowsRead.{RowsRead, names_in}
-use Rattle.ice_rules.specs.Walks.{IsSound, IsNamable, GoesTo, WalksTo, WalkUses, entry_of, Before, Within}
+use Rattle.ice_rules.specs.Walks.{IsSound, IsNamable, GoesTo, WalksTo, WalkUses, walk_entry, Before, NotAfter}
 
 -- whether a number has a mark
 abbrev pub marked : List Bool → ℕ → Bool
 marked marks k = slice_index_or marks k false
 
 -- each number got a mark for each time that it stands in the list
-pub record Marked (old new : List Bool) (xs : List ℕ) : Type 0 where
+pub record GotMarks (old new : List Bool) (xs : List ℕ) : Type 0 where
   pub each : (k : ℕ) → mark (marked new k) ≡ mark (marked old k) + times xs k
 
 -- inode i stands for a tree, all its inodes are marked used in their bitmaps, none of them below is the root, and they and its blocks got marks
@@ -32,27 +32,27 @@ pub record Checked (f : Form) (lot : LotView) (m : Map) (i h : ℕ) (in0 in1 bl0
   pub reads : Reads f lot (own_in f m) i h tree
   pub sound : IsSound f lot m i
   pub used : (j : ℕ) → 0 < times (used_inodes f (own_in f m) i tree) j → used_inode m j ≡ true
-  pub inodes : Marked in0 in1 (used_inodes f (own_in f m) i tree)
-  pub blocks : Marked bl0 bl1 (used_blocks f (own_in f m) i tree)
+  pub inodes : GotMarks in0 in1 (used_inodes f (own_in f m) i tree)
+  pub blocks : GotMarks bl0 bl1 (used_blocks f (own_in f m) i tree)
 
 -- the first rows of a directory stand for entries, whose inodes and blocks got marks
-pub record CheckedRows (f : Form) (lot : LotView) (m : Map) (rs : List Row) (h done : ℕ) (in0 in1 bl0 bl1 : List Bool) : Type 0 where
+pub record CheckedRows (f : Form) (lot : LotView) (m : Map) (rs : List DirRow) (h done : ℕ) (in0 in1 bl0 bl1 : List Bool) : Type 0 where
   pub entries : Entries
   pub rows : RowsRead f lot (own_in f m) rs h done entries
   pub used : (j : ℕ) → 0 < times (entries_use f (own_in f m) (λ n. n ∷ []) rs entries) j → used_inode m j ≡ true
-  pub inodes : Marked in0 in1 (entries_use f (own_in f m) (λ n. n ∷ []) rs entries)
-  pub blocks : Marked bl0 bl1 (entries_use f (own_in f m) (λ n. (own_in f m n).uses) rs entries)
+  pub inodes : GotMarks in0 in1 (entries_use f (own_in f m) (λ n. n ∷ []) rs entries)
+  pub blocks : GotMarks bl0 bl1 (entries_use f (own_in f m) (λ n. (own_in f m n).uses) rs entries)
 
 -- a row before row k has this name
-abbrev pub is_taken : List Row → ℕ → List ℕ → Bool
-is_taken rs k c = list_any (eq_by_cmp by_bytes c) (names_in (take k rs))
+abbrev pub stands_before : List DirRow → ℕ → List ℕ → Bool
+stands_before rs k c = list_any (eq_by_cmp by_bytes c) (names_in (take k rs))
 
 -- entry k of a directory may be taken, its name is new, and it names inode j
 pub record IsGood (f : Form) (lot : LotView) (m : Map) (dir k j : ℕ) : Type 0 where
-  pub row : Row
-  pub is : entry_of f m dir k ≡ Some row
+  pub row : DirRow
+  pub is : walk_entry f m dir k ≡ Some row
   pub name : IsNameOf f row.0
-  pub new : is_taken (rows_in f (own_in f m dir)) k row.0 ≡ false
+  pub new : stands_before (rows_in f (own_in f m dir)) k row.0 ≡ false
   pub number : IsNamable lot row.1
   pub same : j ≡ row.1
 
@@ -74,7 +74,7 @@ SeenBefore f lot m w = Seen f lot m (λ v. Before v w)
 
 -- before this walk, or on from its end
 abbrev pub SeenWithin : Form → LotView → Map → List ℕ → List Bool → List Bool → Type 0
-SeenWithin f lot m w = Seen f lot m (Within w)
+SeenWithin f lot m w = Seen f lot m (NotAfter w)
 
 -- ---- the end of a check
 
@@ -106,12 +106,12 @@ pub record MarkedTwice (old : List Bool) (xs : List ℕ) : Type 0 where
 
 -- these are the names of the first entries of a directory, and each is one of the form
 pub record AreRead (m : Map) (dir count : ℕ) (names : List (List ℕ)) : Type 0 where
-  pub each : (k : ℕ) (row : Row) → k < count → entry_of form_one m dir k ≡ Some row → slice_index_or names k [] ≡ row.0
+  pub each : (k : ℕ) (row : DirRow) → k < count → walk_entry form_one m dir k ≡ Some row → slice_index_or names k [] ≡ row.0
   pub fit : (k : ℕ) → k < count → IsNameOf form_one (slice_index_or names k [])
 
 -- each entry of a directory has a name that no entry before it has
 pub record AllNew (m : Map) (dir : ℕ) : Type 0 where
-  pub each : (k : ℕ) (row : Row) → entry_of form_one m dir k ≡ Some row → is_taken (rows_in form_one (own_in form_one m dir)) k row.0 ≡ false
+  pub each : (k : ℕ) (row : DirRow) → walk_entry form_one m dir k ≡ Some row → stands_before (rows_in form_one (own_in form_one m dir)) k row.0 ≡ false
 
 -- ---- bitmaps
 

@@ -7,8 +7,8 @@ abbrev pub kept_name : Kept → List ℕ
 kept_name kept = take (min kept.len 123) kept.bytes
 
 -- the names of the array
-abbrev pub names_of : List Kept → List (List ℕ)
-names_of kept = map kept_name kept
+abbrev pub array_names : List Kept → List (List ℕ)
+array_names kept = map kept_name kept
 
 -- no two of the names are equal
 pub record AllDiffer (names : List (List ℕ)) : Type 0 where

@@ -11,7 +11,7 @@ use Rattle.ice_check.specs.declared.fault.Summary.{Summary}
 use Rattle.tree_spec.specs.Trees.{Tree}
 use Rattle.tree_spec.specs.Costs.{form_one, blocks, nodes}
 use Rattle.ice_reads.specs.Tables.{Map}
-use Rattle.ice_reads.specs.Recovers.{Holds, MapRecovers}
+use Rattle.ice_reads.specs.Recovers.{HoldsTree, MapRecovers}
 use Rattle.ice_rules.specs.Rules.{Breaks, MayName, LotMayName, form_in}
 
 -- the view shows what the lot holds, which is this map
@@ -66,4 +66,4 @@ told_as _ = Disk
 -- the map holds some tree
 pub record HoldsSome (lot : LotView) (m : Map) : Type 0 where
   pub tree : Tree
-  pub holds : Holds form_one lot m tree
+  pub holds : HoldsTree form_one lot m tree

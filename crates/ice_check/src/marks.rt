@@ -3,7 +3,7 @@ ghost use Rattle.std.specs.Prelude.{◌≡◌, ◌≤◌, ◌<◌, [], ◌∷◌
 ghost use Rattle.ice_base.specs.Bits.{count_below};
 ghost use Rattle.ice_base.specs.Spare.{has};
 ghost use Rattle.ice_map.specs.Maps.{longest, uses, blocks_of, indirect_of};
-ghost use Rattle.ice_check.specs.Marks.{marked, Marked, MarkedTwice, Unmarked};
+ghost use Rattle.ice_check.specs.Marks.{marked, GotMarks, MarkedTwice, Unmarked};
 
 use crate::inodes::pointer;
 use ice_base::Block;
@@ -22,7 +22,7 @@ pub fn unmarked<const N: usize>() -> [bool; N]
 pub fn mark(marks: &mut [bool], at: usize) -> bool
     requires { at < length marks.old }
     ensures wide { length marks.new ≡ length marks.old }
-    ensures new { result ≡ true → Marked marks.old marks.new (at ∷ []) }
+    ensures new { result ≡ true → GotMarks marks.old marks.new (at ∷ []) }
     ensures twice { result ≡ false → marked marks.old at ≡ true }
 {
     if marks[at] {
@@ -35,7 +35,7 @@ pub fn mark(marks: &mut [bool], at: usize) -> bool
 fn mark_indirect(inode: &Inode, count: u32, blocks: &mut [bool]) -> bool
     requires { (b : ℕ) → has (indirect_of inode.now count) b ≡ true → b < length blocks.old }
     ensures wide { length blocks.new ≡ length blocks.old }
-    ensures all { result ≡ true → Marked blocks.old blocks.new (indirect_of inode.now count) }
+    ensures all { result ≡ true → GotMarks blocks.old blocks.new (indirect_of inode.now count) }
     ensures twice { result ≡ false → MarkedTwice blocks.old (indirect_of inode.now count) }
 {
     if count <= 12 {
@@ -48,7 +48,7 @@ fn mark_each(inode: &Inode, pointers: &Block, count: u32, blocks: &mut [bool]) -
     requires short { count ≤ longest }
     requires below { (b : ℕ) → has (blocks_of (λ _. pointers.now) inode.now count) b ≡ true → b < length blocks.old }
     ensures wide { length blocks.new ≡ length blocks.old }
-    ensures all { result ≡ true → Marked blocks.old blocks.new (blocks_of (λ _. pointers.now) inode.now count) }
+    ensures all { result ≡ true → GotMarks blocks.old blocks.new (blocks_of (λ _. pointers.now) inode.now count) }
     ensures twice { result ≡ false → MarkedTwice blocks.old (blocks_of (λ _. pointers.now) inode.now count) }
 {
     for n in 0..count {
@@ -65,7 +65,7 @@ pub fn mark_blocks(inode: &Inode, pointers: &Block, count: u32, blocks: &mut [bo
     requires short { count ≤ longest }
     requires below { (b : ℕ) → has (uses (λ _. pointers.now) inode.now count) b ≡ true → b < length blocks.old }
     ensures wide { length blocks.new ≡ length blocks.old }
-    ensures all { result ≡ true → Marked blocks.old blocks.new (uses (λ _. pointers.now) inode.now count) }
+    ensures all { result ≡ true → GotMarks blocks.old blocks.new (uses (λ _. pointers.now) inode.now count) }
     ensures twice { result ≡ false → MarkedTwice blocks.old (uses (λ _. pointers.now) inode.now count) }
 {
     if !mark_indirect(inode, count, blocks) {

@@ -1,7 +1,7 @@
 //! Names in a fixed array.
 ghost use Rattle.std.specs.Prelude.{◌≡◌, ◌≢◌, ◌≤◌, true, false, length};
 ghost use Rattle.tree_spec.specs.Trees.{by_bytes};
-ghost use Rattle.ice_check.specs.Names.{kept_name, names_of, AllDiffer, TwoAlike};
+ghost use Rattle.ice_check.specs.Names.{kept_name, array_names, AllDiffer, TwoAlike};
 
 use std::cmp::Ordering;
 use tree_spec::Name;
@@ -58,8 +58,8 @@ fn are_same(a: &Kept, b: &Kept) -> bool
 /// Whether no name stands in the array twice. It puts the names in order.
 pub fn names_differ(names: &mut [Kept]) -> bool
     ensures long { length names.new ≡ length names.old }
-    ensures yes { result ≡ true → AllDiffer (names_of names.old) }
-    ensures no { result ≡ false → TwoAlike (names_of names.old) }
+    ensures yes { result ≡ true → AllDiffer (array_names names.old) }
+    ensures no { result ≡ false → TwoAlike (array_names names.old) }
 {
     names.sort_unstable_by(|a, b| compare(a, b));
     for k in 1..names.len() {

@@ -5,9 +5,9 @@ ghost use Rattle.ice_base.specs.Lots.{is_sited};
 ghost use Rattle.ice_base.specs.Views.{Looked};
 ghost use Rattle.tree_spec.specs.Costs.{form_one};
 ghost use Rattle.ice_reads.specs.Tables.{Map, own_in, rows_in, IsNameOf};
-ghost use Rattle.ice_rules.specs.Walks.{entry_of, LooksInto};
+ghost use Rattle.ice_rules.specs.Walks.{walk_entry, LooksInto};
 ghost use Rattle.ice_check.specs.Marks.{AreRead, AllNew};
-ghost use Rattle.ice_check.specs.Names.{names_of};
+ghost use Rattle.ice_check.specs.Names.{array_names};
 ghost use Rattle.ice_check.specs.Shown.{Shows, IsCheckFault, Broke, told_as};
 ghost use Rattle.ice_check.specs.declared.fault.CheckFault.TheVariants.{Disk as FaultDisk};
 
@@ -47,7 +47,7 @@ pub fn read_entry<D: Disk, V: View<D>>(
     requires sited { is_sited lot.now (D.state disk.old).size ≡ true }
     requires number { number < 64 * length lot.now.groups }
     ensures row { (m : Map) → Shows V.View lot.now view.old disk.old m
-        → IfOk result (λ next. entry_of form_one m number k ≡ Some (name.new, next)) }
+        → IfOk result (λ next. walk_entry form_one m number k ≡ Some (name.new, next)) }
     ensures fits { OnOk result (IsNameOf form_one name.new) }
     ensures broken { (m : Map) (w : List ℕ) → Shows V.View lot.now view.old disk.old m → LooksInto form_one lot.now m w number
         → k < length (rows_in form_one (own_in form_one m number)) → IfErr result (Broke lot.now m) }
@@ -78,7 +78,7 @@ fn read_names<D: Disk, V: View<D>>(
     requires room { count ≤ length names.old }
     ensures long { length names.new ≡ length names.old }
     ensures names { (m : Map) → Shows V.View lot.now view.old disk.old m
-        → OnOk result (AreRead m number count (names_of names.new)) }
+        → OnOk result (AreRead m number count (array_names names.new)) }
     ensures broken { (m : Map) (w : List ℕ) → Shows V.View lot.now view.old disk.old m → LooksInto form_one lot.now m w number
         → count ≡ length (rows_in form_one (own_in form_one m number)) → IfErr result (Broke lot.now m) }
     ensures looked { Looked D.Disk V.View lot.now view.old disk.old view.new disk.new }

@@ -7,7 +7,7 @@ ghost use Rattle.ice_base.specs.Views.{Looked};
 ghost use Rattle.tree_spec.specs.Costs.{form_one};
 ghost use Rattle.ice_reads.specs.Tables.{Map, own_in, rows_in};
 ghost use Rattle.ice_rules.specs.Walks.{WalksTo, LooksInto, IsSound, IsOpen, IsNamable};
-ghost use Rattle.ice_check.specs.Marks.{Marked, Checked, CheckedRows, AllNew, IsGood, IsAt, SeenBefore, SeenWithin};
+ghost use Rattle.ice_check.specs.Marks.{GotMarks, Checked, CheckedRows, AllNew, IsGood, IsAt, SeenBefore, SeenWithin};
 ghost use Rattle.ice_check.specs.Shown.{Shows, IsCheckFault, Broke};
 ghost use Rattle.ice_check.specs.declared.fault.CheckFault.TheVariants.{Disk as FaultDisk};
 
@@ -36,7 +36,7 @@ fn visit<D: Disk, V: View<D>>(
     ensures sound { (m : Map) → Shows V.View lot.now view.old disk.old m → used_inode m number ≡ true
         → OnOk result (IsSound form_one lot.now m number) }
     ensures marks { (m : Map) → Shows V.View lot.now view.old disk.old m
-        → OnOk result (Marked blocks.old blocks.new (own_in form_one m number).uses) }
+        → OnOk result (GotMarks blocks.old blocks.new (own_in form_one m number).uses) }
     ensures file { (m : Map) → Shows V.View lot.now view.old disk.old m
         → IfOk result (λ o. IfNone o ((own_in form_one m number).inode.kind ≡ 1)) }
     ensures dir { (m : Map) → Shows V.View lot.now view.old disk.old m

@@ -13,7 +13,7 @@ use Rattle.ice_map.specs.declared.codec.Inode.{Inode}
 use Rattle.ice_map.specs.Inodes.{inode_of}
 use Rattle.ice_map.specs.Maps.{nth_block}
 use Rattle.ice_file.specs.Own.{map_length, blocks_for}
-use Rattle.ice_dir.specs.Rows.{Row, per_block, place_of, row_at, row_of, dir_rows, rows_of, named, look_up, NoneNamed, FirstNamed}
+use Rattle.ice_dir.specs.Rows.{DirRow, per_block, place_of, row_at, row_of, dir_rows, dir_rows_of, named, look_up, NoneNamed, FirstNamed}
 
 pub map-same : {X : Type 0} (f g : ℕ → X) (a n : ℕ) → ((k : ℕ) → a ≤ k → k < a + n → f k ≡ g k) → map f (range_with_len a n) ≡ map g (range_with_len a n)
 map-same f g a zero h = refl
@@ -52,13 +52,13 @@ mapped m f count k h =
 
 -- the rows of a directory are those of its blocks
 pub rows-all : (entry : ℕ) (m : ℕ → List ℕ) (number : ℕ) → entry ≡ 64 → (inode_of m number).kind ≡ 2
-    → rows_of entry m number ≡ map (row_of entry m (inode_of m number)) (range_with_len 0 (inode_of m number).size)
+    → dir_rows_of entry m number ≡ map (row_of entry m (inode_of m number)) (range_with_len 0 (inode_of m number).size)
 unfolding dir_rows
 rows-all entry m number e kind =
     map-same _ (row_of entry m (inode_of m number)) 0 (inode_of m number).size (λ k l h.
     ap (λ (b : List ℕ). row_at entry b (place_of entry k)) (mapped m (nth_block m (inode_of m number)) (map_length entry (inode_of m number)) (k / per_block entry) (row-below entry (inode_of m number) k e kind (omega arith))))
 
-pub length-rows : (entry : ℕ) (m : ℕ → List ℕ) (number : ℕ) → length (rows_of entry m number) ≡ (inode_of m number).size
+pub length-rows : (entry : ℕ) (m : ℕ → List ℕ) (number : ℕ) → length (dir_rows_of entry m number) ≡ (inode_of m number).size
 unfolding dir_rows
 length-rows entry m number = length-map-range_with_len _ 0 (inode_of m number).size
 
@@ -68,15 +68,15 @@ get-mapped f a (suc n) zero h = ap (λ x. Some (f x)) (omega arith)
 get-mapped f a (suc n) (suc k) h = get-mapped f (a + 1) n k (omega arith) ∙ ap (λ x. Some (f x)) (omega arith)
 
 -- row k
-pub get-row : (entry : ℕ) (m : ℕ → List ℕ) (number k : ℕ) → entry ≡ 64 → (inode_of m number).kind ≡ 2 → k < (inode_of m number).size → slice_get (rows_of entry m number) k ≡ Some (row_of entry m (inode_of m number) k)
+pub get-row : (entry : ℕ) (m : ℕ → List ℕ) (number k : ℕ) → entry ≡ 64 → (inode_of m number).kind ≡ 2 → k < (inode_of m number).size → slice_get (dir_rows_of entry m number) k ≡ Some (row_of entry m (inode_of m number) k)
 get-row entry m number k e kind h =
-    ap (λ (xs : List Row). slice_get xs k) (rows-all entry m number e kind)
+    ap (λ (xs : List DirRow). slice_get xs k) (rows-all entry m number e kind)
     ∙ get-mapped (row_of entry m (inode_of m number)) 0 (inode_of m number).size k h
     ∙ ap (λ x. Some (row_of entry m (inode_of m number) x)) (omega arith)
 
 -- a row that was read
 pub read-row : (entry : ℕ) (m : ℕ → List ℕ) (number k b at : ℕ) (inode : Inode) (block : List ℕ) → entry ≡ 64 → inode ≡ inode_of m number → inode.kind ≡ 2 → k < inode.size
-    → b ≡ k / per_block entry → at ≡ place_of entry k → block ≡ m (nth_block m inode b) → slice_get (rows_of entry m number) k ≡ Some (row_at entry block at)
+    → b ≡ k / per_block entry → at ≡ place_of entry k → block ≡ m (nth_block m inode b) → slice_get (dir_rows_of entry m number) k ≡ Some (row_at entry block at)
 read-row entry m number k b at inode block e is kind h eb ep read =
     let kind' : (inode_of m number).kind ≡ 2 = ap (λ (i : Inode). i.kind) (sym is) ∙ kind in
     let small : k < (inode_of m number).size = rw is at h in
@@ -87,28 +87,28 @@ read-row entry m number k b at inode block e is kind h eb ep read =
     ∙ ap (λ x. Some (row_at entry block x)) (sym ep)
 
 -- whether a row has a name
-pub named-is : (name : List ℕ) (row : Row) → row.0 ≡ name → named name row ≡ true
+pub named-is : (name : List ℕ) (row : DirRow) → row.0 ≡ name → named name row ≡ true
 named-is name row h =
     elim (named name row) as (λ t. named name row ≡ t → named name row ≡ true) [
       | true ↦ λ t. t
       | false ↦ λ t. absurd (other_text row.0 name (sym t) h)
     ] refl
 
-pub named-not : (name : List ℕ) (row : Row) → row.0 ≢ name → named name row ≡ false
+pub named-not : (name : List ℕ) (row : DirRow) → row.0 ≢ name → named name row ≡ false
 named-not name row h =
     elim (named name row) as (λ t. named name row ≡ t → named name row ≡ false) [
       | true ↦ λ t. absurd (h (same_text row.0 name (sym t)))
       | false ↦ λ t. t
     ] refl
 
-no_row : Row
+no_row : DirRow
 no_row = ([], 0)
 
-at_range : (row : ℕ → Row) (n k : ℕ) → k < n → get_or (map row (range_with_len 0 n)) k no_row ≡ row k
+at_range : (row : ℕ → DirRow) (n k : ℕ) → k < n → get_or (map row (range_with_len 0 n)) k no_row ≡ row k
 at_range row n k h = get_or-map-range_with_len row 0 n k k no_row h (omega arith)
 
 -- where the first row of a name stands
-pub position-found : (row : ℕ → Row) (name : List ℕ) (n k : ℕ) → FirstNamed row name 0 n k → position_or_len (named name) (map row (range_with_len 0 n)) ≡ k
+pub position-found : (row : ℕ → DirRow) (name : List ℕ) (n k : ℕ) → FirstNamed row name 0 n k → position_or_len (named name) (map row (range_with_len 0 n)) ≡ k
 position-found row name n k f =
     let l = length-map-range_with_len row 0 n in
     let below = f.below in
@@ -116,29 +116,29 @@ position-found row name n k f =
     (λ j h. ap (named name) (at_range row n j (omega arith)) ∙ named-not name (row j) (f.first j (omega arith) h))
     (λ h. ap (named name) (at_range row n k (omega arith)) ∙ named-is name (row k) f.has)
 
-pub position-none : (row : ℕ → Row) (name : List ℕ) (n : ℕ) → NoneNamed row name 0 n → position_or_len (named name) (map row (range_with_len 0 n)) ≡ n
+pub position-none : (row : ℕ → DirRow) (name : List ℕ) (n : ℕ) → NoneNamed row name 0 n → position_or_len (named name) (map row (range_with_len 0 n)) ≡ n
 position-none row name n f =
     let l = length-map-range_with_len row 0 n in
     position_or_len_is (named name) (map row (range_with_len 0 n)) n no_row (omega arith)
     (λ j h. ap (named name) (at_range row n j (omega arith)) ∙ named-not name (row j) (f j (omega arith) h))
     (λ h. absurd (omega arith))
 
-pub look-found : (row : ℕ → Row) (name : List ℕ) (n k : ℕ) → FirstNamed row name 0 n k → look_up name (map row (range_with_len 0 n)) ≡ Some (row k).1
+pub look-found : (row : ℕ → DirRow) (name : List ℕ) (n k : ℕ) → FirstNamed row name 0 n k → look_up name (map row (range_with_len 0 n)) ≡ Some (row k).1
 look-found row name n k f =
-    ap (option_map (λ (r : Row). r.1)) (find_at (named name) (map row (range_with_len 0 n))
+    ap (option_map (λ (r : DirRow). r.1)) (find_at (named name) (map row (range_with_len 0 n))
     ∙ ap (slice_get (map row (range_with_len 0 n))) (position-found row name n k f)
     ∙ get-mapped row 0 n k f.below ∙ ap (λ x. Some (row x)) (omega arith))
 
-pub look-none : (row : ℕ → Row) (name : List ℕ) (n : ℕ) → NoneNamed row name 0 n → look_up name (map row (range_with_len 0 n)) ≡ None
+pub look-none : (row : ℕ → DirRow) (name : List ℕ) (n : ℕ) → NoneNamed row name 0 n → look_up name (map row (range_with_len 0 n)) ≡ None
 look-none row name n f =
     let l = length-map-range_with_len row 0 n in
-    ap (option_map (λ (r : Row). r.1)) (find_at (named name) (map row (range_with_len 0 n))
+    ap (option_map (λ (r : DirRow). r.1)) (find_at (named name) (map row (range_with_len 0 n))
     ∙ ap (slice_get (map row (range_with_len 0 n))) (position-none row name n f)
     ∙ slice_get_past (map row (range_with_len 0 n)) n (omega arith))
 
 -- the rows of an inode that was read
 pub rows-read : (entry : ℕ) (m m' : ℕ → List ℕ) (number : ℕ) (inode : Inode) → entry ≡ 64 → inode ≡ inode_of m number → inode.kind ≡ 2 → m' ≡ m
-    → rows_of entry m number ≡ map (row_of entry m' inode) (range_with_len 0 inode.size)
+    → dir_rows_of entry m number ≡ map (row_of entry m' inode) (range_with_len 0 inode.size)
 rows-read entry m m' number inode e is kind same =
     rows-all entry m number e (ap (λ (i : Inode). i.kind) (sym is) ∙ kind)
     ∙ ap (λ (i : Inode). map (row_of entry m i) (range_with_len 0 i.size)) (sym is)

@@ -3,13 +3,13 @@ use Rattle.std.proofs.Common.{◌≡◌, ◌<◌, ◌*◌, ◌/◌, ℕ, false, 
 use Rattle.ice_base.specs.Lots.{LotView}
 use Rattle.ice_map.specs.declared.codec.Inode.{Inode}
 use Rattle.ice_map.specs.Maps.{leads, Misleads}
-use Rattle.ice_dir.specs.Changes.{dir_blocks}
+use Rattle.ice_dir.specs.Changes.{entry_blocks}
 use Rattle.ice_dir.specs.Rows.{per_block}
 use Rattle.ice_dir.proofs.PutLaws.{row-inside}
 use Rattle.ice_dir.proofs.TakeLaws.{block-inside}
 
 -- the block of a row of a directory is no data place
-pub misled-row : (lot : LotView) (entry : ℕ) (m m0 : ℕ → List ℕ) (x : Inode) (k per : ℕ) → entry ≡ 64 → m ≡ m0 → per ≡ per_block entry → k < x.size → leads lot m0 x (k / per) ≡ false → Misleads lot m x (dir_blocks entry x.size)
+pub misled-row : (lot : LotView) (entry : ℕ) (m m0 : ℕ → List ℕ) (x : Inode) (k per : ℕ) → entry ≡ 64 → m ≡ m0 → per ≡ per_block entry → k < x.size → leads lot m0 x (k / per) ≡ false → Misleads lot m x (entry_blocks entry x.size)
 misled-row lot entry m m0 x k per e same p h bad = record {
   block = k / per_block entry;
   below = row-inside entry x.size k e h;
@@ -17,7 +17,7 @@ misled-row lot entry m m0 x k per e same p h bad = record {
 }
 
 -- a block of its rows is none
-pub misled-block : (lot : LotView) (entry : ℕ) (m m0 : ℕ → List ℕ) (x : Inode) (n : ℕ) → entry ≡ 64 → m ≡ m0 → n * per_block entry < x.size → leads lot m0 x n ≡ false → Misleads lot m x (dir_blocks entry x.size)
+pub misled-block : (lot : LotView) (entry : ℕ) (m m0 : ℕ → List ℕ) (x : Inode) (n : ℕ) → entry ≡ 64 → m ≡ m0 → n * per_block entry < x.size → leads lot m0 x n ≡ false → Misleads lot m x (entry_blocks entry x.size)
 misled-block lot entry m m0 x n e same h bad = record {
   block = n;
   below = block-inside entry x.size n e h;

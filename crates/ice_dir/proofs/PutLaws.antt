@@ -11,17 +11,17 @@ use Rattle.ice_base.specs.Lots.{LotView}
 use Rattle.ice_map.specs.declared.codec.Inode.{Inode}
 use Rattle.ice_map.specs.Inodes.{inode_of, InodeSet}
 use Rattle.ice_file.specs.Own.{MadeOf, WellMade, map_length, blocks_for}
-use Rattle.ice_file.specs.Writes.{Moved, Reached, content_of}
+use Rattle.ice_file.specs.Writes.{Moved, HadBlock, content_of}
 use Rattle.ice_file.proofs.MoveLaws.{moved-then, put-moved, put-others, put-here}
-use Rattle.ice_dir.specs.Changes.{dir_blocks, RowPut, DirSet, TextAdded, TextTaken}
-use Rattle.ice_dir.specs.Rows.{Row, per_block, place_of, row_bytes, row_in, row_of, entry_bytes, texts_of, rows_of, IsText, IsDirectory}
+use Rattle.ice_dir.specs.Changes.{entry_blocks, RowPut, DirSet, TextAdded, TextTaken}
+use Rattle.ice_dir.specs.Rows.{DirRow, per_block, place_of, row_bytes, row_in, row_of, entry_bytes, texts_of, dir_rows_of, IsText, IsDirectory}
 use Rattle.ice_dir.proofs.DirLaws.{map-same, rows-all, per-sixteen}
 use Rattle.ice_dir.proofs.RowLaws.{bytes-same}
 use Rattle.ice_file.proofs.SetLaws.{resized, own-set}
 use Rattle.ice_dir.proofs.SetLaws.{set-content}
 
 -- the blocks of a directory
-pub dir-sixteenth : (entry size : ℕ) → entry ≡ 64 → dir_blocks entry size ≡ (size + 15) / 16
+pub dir-sixteenth : (entry size : ℕ) → entry ≡ 64 → entry_blocks entry size ≡ (size + 15) / 16
 dir-sixteenth entry size e =
     let a = div-add-mod' (64 * size + 1023) 1024 in
     let r = mod_below (64 * size + 1023) 1024 (omega arith) in
@@ -30,18 +30,18 @@ dir-sixteenth entry size e =
     let q : blocks_for (64 * size) ≡ (size + 15) / 16 = omega (arith, a, r, b, s) in
     rw e q
 
-pub row-inside : (entry size j : ℕ) → entry ≡ 64 → j < size → j / per_block entry < dir_blocks entry size
+pub row-inside : (entry size j : ℕ) → entry ≡ 64 → j < size → j / per_block entry < entry_blocks entry size
 row-inside entry size j e h =
     let l = dir-sixteenth entry size e in
     let b = div-add-mod' (size + 15) 16 in
     let s = mod_below (size + 15) 16 (omega arith) in
     let c = div-add-mod' j 16 in
     let t = mod_below j 16 (omega arith) in
-    let q : j / 16 < dir_blocks entry size = omega (arith, l, b, s, c, t) in
+    let q : j / 16 < entry_blocks entry size = omega (arith, l, b, s, c, t) in
     rw (per-sixteen entry e) q
 
 -- the blocks of a directory with one entry more
-pub one-more : (entry size : ℕ) → entry ≡ 64 → max (dir_blocks entry size) (size / per_block entry + 1) ≡ dir_blocks entry (size + 1)
+pub one-more : (entry size : ℕ) → entry ≡ 64 → max (entry_blocks entry size) (size / per_block entry + 1) ≡ entry_blocks entry (size + 1)
 one-more entry size e =
     let l = dir-sixteenth entry size e in
     let m = dir-sixteenth entry (size + 1) e in
@@ -51,7 +51,7 @@ one-more entry size e =
     let d = mod_below (size + 1 + 15) 16 (omega arith) in
     let f = div-add-mod' size 16 in
     let i = mod_below size 16 (omega arith) in
-    let q : max (dir_blocks entry size) (size / 16 + 1) ≡ dir_blocks entry (size + 1) = omega (arith, l, m, a, b, c, d, f, i) in
+    let q : max (entry_blocks entry size) (size / 16 + 1) ≡ entry_blocks entry (size + 1) = omega (arith, l, m, a, b, c, d, f, i) in
     rw (per-sixteen entry e) q
 
 -- two rows of a block
@@ -68,7 +68,7 @@ pub place-fits : (entry k : ℕ) → entry ≡ 64 → place_of entry k + entry �
 place-fits entry k e = rw e (let b = mod_below k 16 (omega arith) in omega (arith, b))
 
 -- a block of a map was put, in which one row was written
-module _ (lot : LotView) (entry : ℕ) (m0 m1 m2 : ℕ → List ℕ) (x y : Inode) (c d k at : ℕ) (old new bytes : List ℕ) (sixty : entry ≡ 64) (reached : Reached lot m0 m1 x y c (k / per_block entry) at) (few : length lot.groups ≤ 64)
+module _ (lot : LotView) (entry : ℕ) (m0 m1 m2 : ℕ → List ℕ) (x y : Inode) (c d k at : ℕ) (old new bytes : List ℕ) (sixty : entry ≡ 64) (reached : HadBlock lot m0 m1 x y c (k / per_block entry) at) (few : length lot.groups ≤ 64)
     (wide : max c (k / per_block entry + 1) ≡ d) (had : k / per_block entry < c → old ≡ content_of m0 x (k / per_block entry)) (long : length old ≡ 1024) (now_long : length new ≡ 1024) (beside : SameBeside (place_of entry k) entry old new)
     (here : row_bytes entry new (place_of entry k) ≡ bytes) (put : m2 at ≡ new) (only : (b : ℕ) → b ≢ at → m2 b ≡ m1 b) where
   moved-one : Moved lot m0 m1 x y c d
@@ -113,8 +113,8 @@ one-listed new old last n front end =
     ∙ ap (λ rs. rs ++ last ∷ []) (map-same new old 0 n (λ j l h. front j (omega arith)))
 
 -- the entries of a directory to which one was added
-module _ (lot : LotView) (entry : ℕ) (m0 m1 m2 : ℕ → List ℕ) (x y z : Inode) (number : ℕ) (bytes : List ℕ) (e : entry ≡ 64) (put : RowPut lot entry m0 m1 x y (dir_blocks entry x.size) (dir_blocks entry (x.size + 1)) x.size bytes)
-    (before : inode_of m0 number ≡ x) (after : inode_of m2 number ≡ z) (more : z.size ≡ x.size + 1) (same : (n : ℕ) → n < dir_blocks entry (x.size + 1) → content_of m2 z n ≡ content_of m1 y n) where
+module _ (lot : LotView) (entry : ℕ) (m0 m1 m2 : ℕ → List ℕ) (x y z : Inode) (number : ℕ) (bytes : List ℕ) (e : entry ≡ 64) (put : RowPut lot entry m0 m1 x y (entry_blocks entry x.size) (entry_blocks entry (x.size + 1)) x.size bytes)
+    (before : inode_of m0 number ≡ x) (after : inode_of m2 number ≡ z) (more : z.size ≡ x.size + 1) (same : (n : ℕ) → n < entry_blocks entry (x.size + 1) → content_of m2 z n ≡ content_of m1 y n) where
   entry-now : (j : ℕ) → j < x.size + 1 → entry_bytes entry m2 z j ≡ entry_bytes entry m1 y j
   entry-now j h = ap (λ (b : List ℕ). row_bytes entry b (place_of entry j)) (same (j / per_block entry) (row-inside entry (x.size + 1) j e h))
 
@@ -128,21 +128,21 @@ module _ (lot : LotView) (entry : ℕ) (m0 m1 m2 : ℕ → List ℕ) (x y z : In
       ∙ one-listed (entry_bytes entry m2 z) (entry_bytes entry m0 x) bytes x.size entry-had (entry-now x.size (omega arith) ∙ put.here)
       ∙ ap (λ (i : Inode). map (entry_bytes entry m0 i) (range_with_len 0 i.size) ++ bytes ∷ []) (sym before)
 
-  pub rows-added : (row : Row) → row_in bytes ≡ row → x.kind ≡ 2 → z.kind ≡ 2 → rows_of entry m2 number ≡ rows_of entry m0 number ++ row ∷ []
+  pub rows-added : (row : DirRow) → row_in bytes ≡ row → x.kind ≡ 2 → z.kind ≡ 2 → dir_rows_of entry m2 number ≡ dir_rows_of entry m0 number ++ row ∷ []
   rows-added row reads kx kz =
       rows-all entry m2 number e (ap (λ (i : Inode). i.kind) after ∙ kz)
       ∙ ap (λ (i : Inode). map (row_of entry m2 i) (range_with_len 0 i.size)) after
       ∙ ap (λ n. map (row_of entry m2 z) (range_with_len 0 n)) more
       ∙ one-listed (row_of entry m2 z) (row_of entry m0 x) row x.size (λ j h. ap row_in (entry-had j h)) (ap row_in (entry-now x.size (omega arith) ∙ put.here) ∙ reads)
-      ∙ ap (λ (rs : List Row). rs ++ row ∷ []) (ap (λ (i : Inode). map (row_of entry m0 i) (range_with_len 0 i.size)) (sym before)
+      ∙ ap (λ (rs : List DirRow). rs ++ row ∷ []) (ap (λ (i : Inode). map (row_of entry m0 i) (range_with_len 0 i.size)) (sym before)
       ∙ sym (rows-all entry m0 number e (ap (λ (i : Inode). i.kind) before ∙ kx)))
 
-dir-map : (entry : ℕ) (x : Inode) → x.kind ≡ 2 → map_length entry x ≡ dir_blocks entry x.size
+dir-map : (entry : ℕ) (x : Inode) → x.kind ≡ 2 → map_length entry x ≡ entry_blocks entry x.size
 dir-map entry x k = rw k refl
 
 -- a directory to which a row was added and which was then put
-module _ (lot : LotView) (entry : ℕ) (m0 m1 m2 : ℕ → List ℕ) (x y : Inode) (number : ℕ) (row : Row) (bytes : List ℕ) (e : entry ≡ 64) (is : IsDirectory lot x) (room : x.size + 1 < 64 * length lot.groups) (before : inode_of m0 number ≡ x)
-    (put : RowPut lot entry m0 m1 x y (dir_blocks entry x.size) (dir_blocks entry (x.size + 1)) x.size bytes) (text : IsText row bytes) (set : InodeSet m1 m2 number (resized y (y.size + 1)))
+module _ (lot : LotView) (entry : ℕ) (m0 m1 m2 : ℕ → List ℕ) (x y : Inode) (number : ℕ) (row : DirRow) (bytes : List ℕ) (e : entry ≡ 64) (is : IsDirectory lot x) (room : x.size + 1 < 64 * length lot.groups) (before : inode_of m0 number ≡ x)
+    (put : RowPut lot entry m0 m1 x y (entry_blocks entry x.size) (entry_blocks entry (x.size + 1)) x.size bytes) (text : IsText row bytes) (set : InodeSet m1 m2 number (resized y (y.size + 1)))
     (only : (b : ℕ) → b ≢ inode_address number → m2 b ≡ m1 b) where
   kind-put : y.kind ≡ 2
   kind-put = put.moved.kind ∙ is.kind
@@ -150,20 +150,20 @@ module _ (lot : LotView) (entry : ℕ) (m0 m1 m2 : ℕ → List ℕ) (x y : Inod
   size-put : y.size + 1 ≡ x.size + 1
   size-put = ap (λ n. n + 1) put.moved.size
 
-  content-put : (n : ℕ) → n < dir_blocks entry (x.size + 1) → content_of m2 (resized y (y.size + 1)) n ≡ content_of m1 y n
-  content-put = set-content lot m1 m2 y (y.size + 1) (dir_blocks entry (x.size + 1)) number put.moved.made only
+  content-put : (n : ℕ) → n < entry_blocks entry (x.size + 1) → content_of m2 (resized y (y.size + 1)) n ≡ content_of m1 y n
+  content-put = set-content lot m1 m2 y (y.size + 1) (entry_blocks entry (x.size + 1)) number put.moved.made only
 
   pub text-added : TextAdded entry m0 m2 number row
   text-added = (bytes, text, texts-added lot entry m0 m1 m2 x y (resized y (y.size + 1)) number bytes e put before set.value size-put content-put)
 
-  pub dir-added : DirSet lot entry m0 m2 number (rows_of entry m0 number ++ row ∷ [])
+  pub dir-added : DirSet lot entry m0 m2 number (dir_rows_of entry m0 number ++ row ∷ [])
   dir-added = record {
     rows = rows-added lot entry m0 m1 m2 x y (resized y (y.size + 1)) number bytes e put before set.value size-put content-put row text.reads is.kind kind-put;
     is = rw set.value (record { kind = kind-put; few = let s = size-put in omega arith });
-    set = own-set lot m0 m1 m2 x y (dir_blocks entry x.size) (dir_blocks entry (x.size + 1)) (y.size + 1) entry number before (dir-map entry x is.kind) put.moved set (dir-map entry (resized y (y.size + 1)) kind-put ∙ ap (dir_blocks entry) size-put) only;
+    set = own-set lot m0 m1 m2 x y (entry_blocks entry x.size) (entry_blocks entry (x.size + 1)) (y.size + 1) entry number before (dir-map entry x is.kind) put.moved set (dir-map entry (resized y (y.size + 1)) kind-put ∙ ap (entry_blocks entry) size-put) only;
   }
 
-pub made-dir : (lot : LotView) (entry : ℕ) (m : ℕ → List ℕ) (number : ℕ) (x : Inode) → inode_of m number ≡ x → x.kind ≡ 2 → WellMade lot entry m number → MadeOf lot m x (dir_blocks entry x.size)
+pub made-dir : (lot : LotView) (entry : ℕ) (m : ℕ → List ℕ) (number : ℕ) (x : Inode) → inode_of m number ≡ x → x.kind ≡ 2 → WellMade lot entry m number → MadeOf lot m x (entry_blocks entry x.size)
 made-dir lot entry m number x before kind made = subst (λ n. MadeOf lot m x n) (dir-map entry x kind) (subst (λ i. MadeOf lot m i (map_length entry i)) before made)
 
 -- a list from which one element was taken
@@ -205,16 +205,16 @@ module _ {X : Type 0} (none : X) where
 
 -- a directory whose last row was moved to row k, which was then cut by one row and put
 module _ (lot : LotView) (entry : ℕ) (m0 m1 m2 m3 : ℕ → List ℕ) (x y : Inode) (number k : ℕ) (e : entry ≡ 64) (is : IsDirectory lot x) (below : k < x.size) (before : inode_of m0 number ≡ x)
-    (put : RowPut lot entry m0 m1 x x (dir_blocks entry x.size) (dir_blocks entry x.size) k (entry_bytes entry m0 x (x.size - 1)))
-    (moved : Moved lot m1 m2 x y (dir_blocks entry x.size) (dir_blocks entry (x.size - 1))) (contents : (n : ℕ) → n < dir_blocks entry (x.size - 1) → content_of m2 y n ≡ content_of m1 x n)
+    (put : RowPut lot entry m0 m1 x x (entry_blocks entry x.size) (entry_blocks entry x.size) k (entry_bytes entry m0 x (x.size - 1)))
+    (moved : Moved lot m1 m2 x y (entry_blocks entry x.size) (entry_blocks entry (x.size - 1))) (contents : (n : ℕ) → n < entry_blocks entry (x.size - 1) → content_of m2 y n ≡ content_of m1 x n)
     (set : InodeSet m2 m3 number (resized y (x.size - 1))) (only : (b : ℕ) → b ≢ inode_address number → m3 b ≡ m2 b) where
   kind-left : y.kind ≡ 2
   kind-left = moved.kind ∙ is.kind
 
   entry-left : (j : ℕ) → j < x.size - 1 → entry_bytes entry m3 (resized y (x.size - 1)) j ≡ entry_bytes entry m1 x j
   entry-left j h =
-      let n : j / per_block entry < dir_blocks entry (x.size - 1) = row-inside entry (x.size - 1) j e h in
-      ap (λ (b : List ℕ). row_bytes entry b (place_of entry j)) (set-content lot m2 m3 y (x.size - 1) (dir_blocks entry (x.size - 1)) number moved.made only (j / per_block entry) n ∙ contents (j / per_block entry) n)
+      let n : j / per_block entry < entry_blocks entry (x.size - 1) = row-inside entry (x.size - 1) j e h in
+      ap (λ (b : List ℕ). row_bytes entry b (place_of entry j)) (set-content lot m2 m3 y (x.size - 1) (entry_blocks entry (x.size - 1)) number moved.made only (j / per_block entry) n ∙ contents (j / per_block entry) n)
 
   entry-other : (j : ℕ) → j < x.size - 1 → j ≢ k → entry_bytes entry m1 x j ≡ entry_bytes entry m0 x j
   entry-other j h ne = put.others j (row-inside entry x.size j e (omega arith)) ne
@@ -226,18 +226,18 @@ module _ (lot : LotView) (entry : ℕ) (m0 m1 m2 m3 : ℕ → List ℕ) (x y : I
       ∙ swapped [] (entry_bytes entry m0 x) (entry_bytes entry m1 x) x.size k below put.here entry-other
       ∙ ap (λ (i : Inode). swap_remove (map (entry_bytes entry m0 i) (range_with_len 0 i.size)) k []) (sym before)
 
-  pub dir-taken : DirSet lot entry m0 m3 number (swap_remove (rows_of entry m0 number) k ([], 0))
+  pub dir-taken : DirSet lot entry m0 m3 number (swap_remove (dir_rows_of entry m0 number) k ([], 0))
   dir-taken =
       let few = is.few in
-      let all = moved-then lot m0 m1 m2 x x y (dir_blocks entry x.size) (dir_blocks entry x.size) (dir_blocks entry (x.size - 1)) put.moved moved in
+      let all = moved-then lot m0 m1 m2 x x y (entry_blocks entry x.size) (entry_blocks entry x.size) (entry_blocks entry (x.size - 1)) put.moved moved in
       let k0 : (inode_of m0 number).kind ≡ 2 = ap (λ (i : Inode). i.kind) before ∙ is.kind in
-      let now : rows_of entry m3 number ≡ map (row_of entry m3 (resized y (x.size - 1))) (range_with_len 0 (x.size - 1)) =
+      let now : dir_rows_of entry m3 number ≡ map (row_of entry m3 (resized y (x.size - 1))) (range_with_len 0 (x.size - 1)) =
       rows-all entry m3 number e (ap (λ (i : Inode). i.kind) set.value ∙ kind-left) ∙ ap (λ (i : Inode). map (row_of entry m3 i) (range_with_len 0 i.size)) set.value in
-      let old : rows_of entry m0 number ≡ map (row_of entry m0 x) (range_with_len 0 x.size) = rows-all entry m0 number e k0 ∙ ap (λ (i : Inode). map (row_of entry m0 i) (range_with_len 0 i.size)) before in
+      let old : dir_rows_of entry m0 number ≡ map (row_of entry m0 x) (range_with_len 0 x.size) = rows-all entry m0 number e k0 ∙ ap (λ (i : Inode). map (row_of entry m0 i) (range_with_len 0 i.size)) before in
       record {
         rows = now ∙ map-same (row_of entry m3 (resized y (x.size - 1))) (row_of entry m1 x) 0 (x.size - 1) (λ j l h. ap row_in (entry-left j (omega arith)))
             ∙ swapped ([], 0) (row_of entry m0 x) (row_of entry m1 x) x.size k below (ap row_in put.here) (λ j h ne. ap row_in (entry-other j h ne))
-            ∙ ap (λ (rs : List Row). swap_remove rs k ([], 0)) (sym old);
+            ∙ ap (λ (rs : List DirRow). swap_remove rs k ([], 0)) (sym old);
         is = rw set.value (record { kind = kind-left; few = omega arith });
-        set = own-set lot m0 m2 m3 x y (dir_blocks entry x.size) (dir_blocks entry (x.size - 1)) (x.size - 1) entry number before (dir-map entry x is.kind) all set (dir-map entry (resized y (x.size - 1)) kind-left) only;
+        set = own-set lot m0 m2 m3 x y (entry_blocks entry x.size) (entry_blocks entry (x.size - 1)) (x.size - 1) entry number before (dir-map entry x is.kind) all set (dir-map entry (resized y (x.size - 1)) kind-left) only;
       }

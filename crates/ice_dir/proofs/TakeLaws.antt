@@ -18,19 +18,19 @@ use Rattle.ice_map.proofs.MarkLaws.{data_not_bitmap, data_not_sub, used-same, fr
 use Rattle.ice_map.proofs.MapLaws.{nth-direct, leads-direct, leads-single, leads-lost}
 use Rattle.ice_map.proofs.UsesLaws.{cut-same, off-free, off-has, times-has}
 use Rattle.ice_file.specs.Own.{MadeOf, Confuses}
-use Rattle.ice_file.specs.Writes.{Moved, Reached, content_of, uses_of}
+use Rattle.ice_file.specs.Writes.{Moved, HadBlock, content_of, uses_of}
 use Rattle.ice_file.proofs.CutLaws.{cut-moved, cut-contents}
 use Rattle.ice_file.proofs.GrowthLaws.{Unmixed, unmixed-one, misled-here}
 use Rattle.ice_file.proofs.MoveLaws.{had-reached}
 use Rattle.ice_file.proofs.OwnLaws.{uses-nth, nth-moves}
 use Rattle.ice_file.proofs.SetLaws.{resized, nth-resized}
-use Rattle.ice_dir.specs.Changes.{dir_blocks, RowPut, DirSet, TextTaken, EntryGone}
-use Rattle.ice_dir.specs.Rows.{Row, per_block, place_of, row_bytes, entry_bytes, row_of, rows_of, named, FirstNamed, IsDirectory}
+use Rattle.ice_dir.specs.Changes.{entry_blocks, RowPut, DirSet, TextTaken, EntryGone}
+use Rattle.ice_dir.specs.Rows.{DirRow, per_block, place_of, row_bytes, entry_bytes, row_of, dir_rows_of, named, FirstNamed, IsDirectory}
 use Rattle.ice_dir.proofs.DirLaws.{per-sixteen, position-found, rows-read}
 use Rattle.ice_dir.proofs.PutLaws.{dir-sixteenth, row-inside, row-put, dir-taken, text-taken}
 
 -- a block of the rows of a directory is one of its map
-pub block-inside : (entry size n : ℕ) → entry ≡ 64 → n * per_block entry < size → n < dir_blocks entry size
+pub block-inside : (entry size n : ℕ) → entry ≡ 64 → n * per_block entry < size → n < entry_blocks entry size
 block-inside entry size n e h =
     let l = dir-sixteenth entry size e in
     let b = div-add-mod' (size + 15) 16 in
@@ -40,22 +40,22 @@ block-inside entry size n e h =
     omega (arith, l, b, s, q)
 
 -- the last row was copied over row k
-pub row-moved : (lot : LotView) (entry : ℕ) (m0 ma mb m2 : ℕ → List ℕ) (x : Inode) (k per at p q : ℕ) (from old new : List ℕ) → entry ≡ 64 → MadeOf lot m0 x (dir_blocks entry x.size) → length lot.groups ≤ 64 → k < x.size → per ≡ per_block entry → ma ≡ m0 → mb ≡ ma
+pub row-moved : (lot : LotView) (entry : ℕ) (m0 ma mb m2 : ℕ → List ℕ) (x : Inode) (k per at p q : ℕ) (from old new : List ℕ) → entry ≡ 64 → MadeOf lot m0 x (entry_blocks entry x.size) → length lot.groups ≤ 64 → k < x.size → per ≡ per_block entry → ma ≡ m0 → mb ≡ ma
     → from ≡ content_of m0 x ((x.size - 1) / per) → old ≡ content_of ma x (k / per) → at ≡ nth_block ma x (k / per) → length old ≡ 1024 → length new ≡ 1024 → p ≡ place_of entry k → q ≡ place_of entry (x.size - 1)
     → SameBeside p entry old new → row_bytes entry new p ≡ row_bytes entry from q → m2 at ≡ new → ((b : ℕ) → b ≢ at → m2 b ≡ mb b)
-    → RowPut lot entry m0 m2 x x (dir_blocks entry x.size) (dir_blocks entry x.size) k (entry_bytes entry m0 x (x.size - 1))
+    → RowPut lot entry m0 m2 x x (entry_blocks entry x.size) (entry_blocks entry x.size) k (entry_bytes entry m0 x (x.size - 1))
 row-moved lot entry m0 ma mb m2 x k per at p q from old new e made few h pe ea eb fe oe ae lo ln pp qq beside copied put only =
     let inside = row-inside entry x.size k e h in
     let at0 : at ≡ nth_block m0 x (k / per_block entry) = ae ∙ ap (λ (m : ℕ → List ℕ). nth_block m x (k / per)) ea ∙ ap (λ n. nth_block m0 x (k / n)) pe in
     let old0 : old ≡ content_of m0 x (k / per_block entry) = oe ∙ ap (λ (m : ℕ → List ℕ). content_of m x (k / per)) ea ∙ ap (λ n. content_of m0 x (k / n)) pe in
-    let r = had-reached lot m0 x (dir_blocks entry x.size) (k / per_block entry) at made inside at0 in
-    let r' = subst (λ (m : ℕ → List ℕ). Reached lot m0 m x x (dir_blocks entry x.size) (k / per_block entry) at) (sym (eb ∙ ea)) r in
-    row-put lot entry m0 mb m2 x x (dir_blocks entry x.size) (dir_blocks entry x.size) k at old new (entry_bytes entry m0 x (x.size - 1)) e r' few (omega arith) (λ l. old0) lo ln (subst (λ n. SameBeside n entry old new) pp beside)
+    let r = had-reached lot m0 x (entry_blocks entry x.size) (k / per_block entry) at made inside at0 in
+    let r' = subst (λ (m : ℕ → List ℕ). HadBlock lot m0 m x x (entry_blocks entry x.size) (k / per_block entry) at) (sym (eb ∙ ea)) r in
+    row-put lot entry m0 mb m2 x x (entry_blocks entry x.size) (entry_blocks entry x.size) k at old new (entry_bytes entry m0 x (x.size - 1)) e r' few (omega arith) (λ l. old0) lo ln (subst (λ n. SameBeside n entry old new) pp beside)
     (ap (row_bytes entry new) (sym pp) ∙ copied ∙ ap (row_bytes entry from) qq ∙ ap (λ (b : List ℕ). row_bytes entry b (place_of entry (x.size - 1))) (fe ∙ ap (λ n. content_of m0 x ((x.size - 1) / n)) pe))
     put only
 
 -- a directory loses one block at most
-pub blocks-fall : (entry size : ℕ) → entry ≡ 64 → dir_blocks entry (size - 1) ≤ dir_blocks entry size
+pub blocks-fall : (entry size : ℕ) → entry ≡ 64 → entry_blocks entry (size - 1) ≤ entry_blocks entry size
 blocks-fall entry size e =
     let l = dir-sixteenth entry size e in
     let m = dir-sixteenth entry (size - 1) e in
@@ -70,24 +70,24 @@ cut-six count rest h = grind (arith, nat_tests)
 
 -- a directory of which row k was taken
 module _ (lot : LotView) (entry : ℕ) (m0 m1 m2 m3 : ℕ → List ℕ) (x y : Inode) (number k count rest : ℕ) (e : entry ≡ 64) (is : IsDirectory lot x) (below : k < x.size) (before : inode_of m0 number ≡ x)
-    (put : RowPut lot entry m0 m1 x x (dir_blocks entry x.size) (dir_blocks entry x.size) k (entry_bytes entry m0 x (x.size - 1))) (c : count ≡ dir_blocks entry x.size) (r : rest ≡ dir_blocks entry (x.size - 1))
+    (put : RowPut lot entry m0 m1 x x (entry_blocks entry x.size) (entry_blocks entry x.size) k (entry_bytes entry m0 x (x.size - 1))) (c : count ≡ entry_blocks entry x.size) (r : rest ≡ entry_blocks entry (x.size - 1))
     (was : Cut lot m1 m2 x y count rest) (stay : Stays lot m1 m2 []) (fields : y ≡ shortened x rest) (set : InodeSet m2 m3 number (resized y (x.size - 1))) (only : (b : ℕ) → b ≢ inode_address number → m3 b ≡ m2 b) where
-  order : dir_blocks entry (x.size - 1) ≤ dir_blocks entry x.size
+  order : entry_blocks entry (x.size - 1) ≤ entry_blocks entry x.size
   order = blocks-fall entry x.size e
 
-  was' : Cut lot m1 m2 x y (dir_blocks entry x.size) (dir_blocks entry (x.size - 1))
-  was' = subst (λ n. Cut lot m1 m2 x y (dir_blocks entry x.size) n) r (subst (λ n. Cut lot m1 m2 x y n rest) c was)
+  was' : Cut lot m1 m2 x y (entry_blocks entry x.size) (entry_blocks entry (x.size - 1))
+  was' = subst (λ n. Cut lot m1 m2 x y (entry_blocks entry x.size) n) r (subst (λ n. Cut lot m1 m2 x y n rest) c was)
 
-  fields' : y ≡ shortened x (dir_blocks entry (x.size - 1))
+  fields' : y ≡ shortened x (entry_blocks entry (x.size - 1))
   fields' = fields ∙ ap (shortened x) r
 
-  moved' : Moved lot m1 m2 x y (dir_blocks entry x.size) (dir_blocks entry (x.size - 1))
-  moved' = cut-moved lot m1 m2 x y (dir_blocks entry x.size) (dir_blocks entry (x.size - 1)) put.moved.made order was' stay fields'
+  moved' : Moved lot m1 m2 x y (entry_blocks entry x.size) (entry_blocks entry (x.size - 1))
+  moved' = cut-moved lot m1 m2 x y (entry_blocks entry x.size) (entry_blocks entry (x.size - 1)) put.moved.made order was' stay fields'
 
-  contents' : (n : ℕ) → n < dir_blocks entry (x.size - 1) → content_of m2 y n ≡ content_of m1 x n
-  contents' = cut-contents lot m1 m2 x y (dir_blocks entry x.size) (dir_blocks entry (x.size - 1)) put.moved.made order was' stay fields'
+  contents' : (n : ℕ) → n < entry_blocks entry (x.size - 1) → content_of m2 y n ≡ content_of m1 x n
+  contents' = cut-contents lot m1 m2 x y (entry_blocks entry x.size) (entry_blocks entry (x.size - 1)) put.moved.made order was' stay fields'
 
-  pub dir-removed : DirSet lot entry m0 m3 number (swap_remove (rows_of entry m0 number) k ([], 0))
+  pub dir-removed : DirSet lot entry m0 m3 number (swap_remove (dir_rows_of entry m0 number) k ([], 0))
   dir-removed = dir-taken lot entry m0 m1 m2 m3 x y number k e is below before put moved' contents' set only
 
   pub text-removed : TextTaken entry m0 m3 number k
@@ -95,12 +95,12 @@ module _ (lot : LotView) (entry : ℕ) (m0 m1 m2 m3 : ℕ → List ℕ) (x y : I
 
 -- row k is the one of a name
 pub row-named : (entry : ℕ) (m m' : ℕ → List ℕ) (number : ℕ) (x : Inode) (name : List ℕ) (k : ℕ) → entry ≡ 64 → x ≡ inode_of m number → x.kind ≡ 2 → m' ≡ m → FirstNamed (row_of entry m' x) name 0 x.size k
-    → position_or_len (named name) (rows_of entry m number) ≡ k
+    → position_or_len (named name) (dir_rows_of entry m number) ≡ k
 row-named entry m m' number x name k e is kind same found =
-    ap (λ (rs : List Row). position_or_len (named name) rs) (rows-read entry m m' number x e is kind same) ∙ position-found (row_of entry m' x) name x.size k found
+    ap (λ (rs : List DirRow). position_or_len (named name) rs) (rows-read entry m m' number x e is kind same) ∙ position-found (row_of entry m' x) name x.size k found
 
 -- how many blocks a directory gives back that loses one row
-pub off-length : (entry : ℕ) (m : ℕ → List ℕ) (x : Inode) (count rest : ℕ) → entry ≡ 64 → count ≡ dir_blocks entry x.size → rest ≡ dir_blocks entry (x.size - 1) → uses_of count ≡ uses_of rest + length (cut_off m x count rest)
+pub off-length : (entry : ℕ) (m : ℕ → List ℕ) (x : Inode) (count rest : ℕ) → entry ≡ 64 → count ≡ entry_blocks entry x.size → rest ≡ entry_blocks entry (x.size - 1) → uses_of count ≡ uses_of rest + length (cut_off m x count rest)
 off-length entry m x count rest e c r =
     let order = blocks-fall entry x.size e in
     let run = length-between m x rest count in
@@ -128,12 +128,12 @@ module _ (lot : LotView) (m0 m1 : ℕ → List ℕ) (beside : (b : ℕ) → is_d
 -- ---- a cut that found damage, after the row was moved
 
 -- the indirect block of a directory in which one row was written
-row-mixed : (entry : ℕ) (m0 m1 : ℕ → List ℕ) (x : Inode) (k count : ℕ) → entry ≡ 64 → k < x.size → ((b : ℕ) → b ≢ nth_block m0 x (k / per_block entry) → m1 b ≡ m0 b) → count ≡ dir_blocks entry x.size → 12 < count → Unmixed m0 m1 x count
+row-mixed : (entry : ℕ) (m0 m1 : ℕ → List ℕ) (x : Inode) (k count : ℕ) → entry ≡ 64 → k < x.size → ((b : ℕ) → b ≢ nth_block m0 x (k / per_block entry) → m1 b ≡ m0 b) → count ≡ entry_blocks entry x.size → 12 < count → Unmixed m0 m1 x count
 row-mixed entry m0 m1 x k count e h only c long = unmixed-one m0 m0 m1 x count (k / per_block entry) (nth_block m0 x (k / per_block entry)) long (let l = row-inside entry x.size k e h in omega arith) refl only refl
 
 -- a block that was to be given back and is free was so, or the directory uses a block twice
 pub row-free : (lot : LotView) (entry : ℕ) (m0 m1 : ℕ → List ℕ) (x : Inode) (k count rest : ℕ) → entry ≡ 64 → k < x.size → ((b : ℕ) → is_data lot b ≡ false → m1 b ≡ m0 b) → ((b : ℕ) → b ≢ nth_block m0 x (k / per_block entry) → m1 b ≡ m0 b)
-    → count ≡ dir_blocks entry x.size → rest ≡ dir_blocks entry (x.size - 1) → FreeOrTwice m1 (cut_off m1 x count rest) → FreeOrTwice m0 (uses m0 x (dir_blocks entry x.size))
+    → count ≡ entry_blocks entry x.size → rest ≡ entry_blocks entry (x.size - 1) → FreeOrTwice m1 (cut_off m1 x count rest) → FreeOrTwice m0 (uses m0 x (entry_blocks entry x.size))
 row-free lot entry m0 m1 x k count rest e h beside only c r f =
     let order : rest ≤ count = (let o = blocks-fall entry x.size e in omega arith) in
     subst (λ n. FreeOrTwice m0 (uses m0 x n)) c (elim (ltb 12 count) as (λ t. ltb 12 count ≡ t → FreeOrTwice m0 (uses m0 x count)) [
@@ -158,7 +158,7 @@ row-free lot entry m0 m1 x k count rest e h beside only c r f =
 
 -- a block that leads nowhere did so, or the directory uses a block twice
 pub row-misled : (lot : LotView) (entry : ℕ) (m0 m1 : ℕ → List ℕ) (x : Inode) (k count : ℕ) → entry ≡ 64 → k < x.size → ((b : ℕ) → b ≢ nth_block m0 x (k / per_block entry) → m1 b ≡ m0 b)
-    → count ≡ dir_blocks entry x.size → Misleads lot m1 x count → Confuses lot m0 x (dir_blocks entry x.size)
+    → count ≡ entry_blocks entry x.size → Misleads lot m1 x count → Confuses lot m0 x (entry_blocks entry x.size)
 row-misled lot entry m0 m1 x k count e h only c l =
     subst (λ n. Confuses lot m0 x n) c (misled-here lot m0 m1 x count l.block l.below (λ long. row-mixed entry m0 m1 x k count e h only c long) l.bad)
 
@@ -192,7 +192,7 @@ short-lost lot m1 m2 m3 x y rest s n h fields same stays lost =
 
 -- a directory from which an entry was taken, whatever its blocks held
 module _ (lot : LotView) (entry : ℕ) (m0 m1 m2 m3 : ℕ → List ℕ) (x y : Inode) (number k count rest : ℕ) (sixty : entry ≡ 64) (few : length lot.groups ≤ 64) (is : IsDirectory lot x) (below : k < x.size) (before : inode_of m0 number ≡ x)
-    (beside : (b : ℕ) → is_data lot b ≡ false → m1 b ≡ m0 b) (c : count ≡ dir_blocks entry x.size) (r : rest ≡ dir_blocks entry (x.size - 1)) (was : Cut lot m1 m2 x y count rest) (stay : Stays lot m1 m2 [])
+    (beside : (b : ℕ) → is_data lot b ≡ false → m1 b ≡ m0 b) (c : count ≡ entry_blocks entry x.size) (r : rest ≡ entry_blocks entry (x.size - 1)) (was : Cut lot m1 m2 x y count rest) (stay : Stays lot m1 m2 [])
     (placed : (b : ℕ) → has (cut_off m1 x count rest) b ≡ true → is_data lot b ≡ true) (fields : y ≡ shortened x rest) (set : InodeSet m2 m3 number (resized y (x.size - 1))) (only : (b : ℕ) → b ≢ inode_address number → m3 b ≡ m2 b) where
   gone-bitmaps : (o : ℕ) → m3 (256 * o) ≡ m2 (256 * o)
   gone-bitmaps o = only (256 * o) (λ e. inode_not_bitmap number o (sym e))
@@ -220,7 +220,7 @@ module _ (lot : LotView) (entry : ℕ) (m0 m1 m2 m3 : ℕ → List ℕ) (x y : I
   gone-lacks b d = elim (has (cut_off m1 x count rest) b) as (λ t. has (cut_off m1 x count rest) b ≡ t → t ≡ false) [ true ↦ λ t. let p = placed b t in absurd cc | false ↦ λ t. refl ] refl
 
   abbrev mine : List ℕ
-  mine = uses m0 x (dir_blocks entry x.size)
+  mine = uses m0 x (entry_blocks entry x.size)
 
   module _ (within : (b : ℕ) → b ≢ nth_block m0 x (k / per_block entry) → m1 b ≡ m0 b) (cut_only : (b : ℕ) → is_data lot b ≡ true → m2 b ≡ m1 b) where
     stays : (b : ℕ) → is_data lot b ≡ true → m3 b ≡ m2 b
@@ -229,7 +229,7 @@ module _ (lot : LotView) (entry : ℕ) (m0 m1 m2 m3 : ℕ → List ℕ) (x y : I
     gone-blocks : (b : ℕ) → is_data lot b ≡ true → has mine b ≡ false → m3 b ≡ m0 b
     gone-blocks b d none =
         stays b d ∙ cut_only b d
-        ∙ within b (λ e. let h = uses-nth m0 x (dir_blocks entry x.size) (k / per_block entry) (row-inside entry x.size k sixty below) in let f = ap (has mine) e in absurd cc)
+        ∙ within b (λ e. let h = uses-nth m0 x (entry_blocks entry x.size) (k / per_block entry) (row-inside entry x.size k sixty below) in let f = ap (has mine) e in absurd cc)
 
     gone-marks : (b : ℕ) → used_block m3 b ≡ false → (used_block m0 b ≡ false) ⊎ (has mine b ≡ true) ⊎ HasTwice mine
     gone-marks b free =
@@ -247,7 +247,7 @@ module _ (lot : LotView) (entry : ℕ) (m0 m1 m2 m3 : ℕ → List ℕ) (x y : I
         given : (12 < count → m1 x.single ≡ m0 x.single) → has (cut_off m1 x count rest) b ≡ true → has mine b ≡ true
         given kept t = subst (λ n. has (uses m0 x n) b ≡ true) c (off-has m0 x count rest order b (ap (λ xs. has xs b) (sym (cut-same m0 m1 x count rest kept)) ∙ t))
 
-    gone-leads : Misleads lot m3 (resized y (x.size - 1)) rest → Confuses lot m0 x (dir_blocks entry x.size)
+    gone-leads : Misleads lot m3 (resized y (x.size - 1)) rest → Confuses lot m0 x (entry_blocks entry x.size)
     gone-leads bad =
         row-misled lot entry m0 m1 x k count sixty below within c
         (record { block = bad.block; below = let o = blocks-fall entry x.size sixty in let l = bad.below in omega arith; bad = short-lost lot m1 m2 m3 x y rest (x.size - 1) bad.block bad.below fields was.blocks stays bad.bad })
@@ -257,13 +257,13 @@ module _ (lot : LotView) (entry : ℕ) (m0 m1 m2 m3 : ℕ → List ℕ) (x y : I
       kind = ap (λ (i : Inode). i.kind) (set.value ∙ ap (λ (i : Inode). resized i (x.size - 1)) fields) ∙ is.kind;
       size = let a = ap (λ (i : Inode). i.size) set.value in let b = ap (λ (i : Inode). i.size) before in omega arith;
       others = λ n ne. set.others n ne ∙ stay.inodes n ∙ beside-inode lot m0 m1 beside n;
-      free = let a = ap (λ (i : Inode). uses_of (dir_blocks entry i.size)) set.value ∙ ap uses_of (sym r) in let b = ap (λ (i : Inode). uses_of (dir_blocks entry i.size)) before ∙ ap uses_of (sym c) in let f = gone-free in omega arith;
-      counts = let a = ap (λ (i : Inode). uses_of (dir_blocks entry i.size)) set.value ∙ ap uses_of (sym r) in let b = ap (λ (i : Inode). uses_of (dir_blocks entry i.size)) before ∙ ap uses_of (sym c) in let f = gone-counts in omega arith;
+      free = let a = ap (λ (i : Inode). uses_of (entry_blocks entry i.size)) set.value ∙ ap uses_of (sym r) in let b = ap (λ (i : Inode). uses_of (entry_blocks entry i.size)) before ∙ ap uses_of (sym c) in let f = gone-free in omega arith;
+      counts = let a = ap (λ (i : Inode). uses_of (entry_blocks entry i.size)) set.value ∙ ap uses_of (sym r) in let b = ap (λ (i : Inode). uses_of (entry_blocks entry i.size)) before ∙ ap uses_of (sym c) in let f = gone-counts in omega arith;
       sub = λ n h. ap (λ (b : List ℕ). slice_index b n) gone-sub ∙ was.gave.counts.others n h ∙ ap (λ (b : List ℕ). slice_index b n) (beside-sub lot m0 m1 beside few);
       places = λ b d. used-same false m2 m3 b gone-bitmaps ∙ was.gave.used b ∙ ap (λ t. cond t false (used_block m1 b)) (gone-lacks b d) ∙ used-same false m0 m1 b (beside-bitmaps lot m0 m1 beside);
       inodes = λ i. used-same true m2 m3 i gone-bitmaps ∙ was.gave.inodes i ∙ used-same true m0 m1 i (beside-bitmaps lot m0 m1 beside);
-      blocks = λ b d none. gone-blocks b d (subst (λ (i : Inode). has (uses m0 i (dir_blocks entry i.size)) b ≡ false) before none);
-      marks = λ b free. subst (λ (i : Inode). (used_block m0 b ≡ false) ⊎ (has (uses m0 i (dir_blocks entry i.size)) b ≡ true) ⊎ HasTwice (uses m0 i (dir_blocks entry i.size))) (sym before) (gone-marks b free);
-      leads = λ bad. subst (λ (i : Inode). Confuses lot m0 i (dir_blocks entry i.size)) (sym before)
-          (gone-leads (subst (λ n. Misleads lot m3 (resized y (x.size - 1)) n) (sym r) (subst (λ (i : Inode). Misleads lot m3 i (dir_blocks entry i.size)) set.value bad)));
+      blocks = λ b d none. gone-blocks b d (subst (λ (i : Inode). has (uses m0 i (entry_blocks entry i.size)) b ≡ false) before none);
+      marks = λ b free. subst (λ (i : Inode). (used_block m0 b ≡ false) ⊎ (has (uses m0 i (entry_blocks entry i.size)) b ≡ true) ⊎ HasTwice (uses m0 i (entry_blocks entry i.size))) (sym before) (gone-marks b free);
+      leads = λ bad. subst (λ (i : Inode). Confuses lot m0 i (entry_blocks entry i.size)) (sym before)
+          (gone-leads (subst (λ n. Misleads lot m3 (resized y (x.size - 1)) n) (sym r) (subst (λ (i : Inode). Misleads lot m3 i (entry_blocks entry i.size)) set.value bad)));
     }

@@ -10,20 +10,20 @@ use Rattle.ice_map.specs.Inodes.{inode_of}
 use Rattle.ice_map.specs.Maps.{uses, HasTwice, Misleads}
 use Rattle.ice_file.specs.Own.{OwnSet, blocks_for, Confuses}
 use Rattle.ice_file.specs.Writes.{Moved, uses_of}
-use Rattle.ice_dir.specs.Rows.{Row, per_block, entry_bytes, texts_of, rows_of, IsText, IsDirectory}
+use Rattle.ice_dir.specs.Rows.{DirRow, per_block, entry_bytes, texts_of, dir_rows_of, IsText, IsDirectory}
 
 -- how many blocks a directory of so many entries has
-abbrev pub dir_blocks : ℕ → ℕ → ℕ
-dir_blocks entry size = blocks_for (entry * size)
+abbrev pub entry_blocks : ℕ → ℕ → ℕ
+entry_blocks entry size = blocks_for (entry * size)
 
 -- an inode is a directory that can have one entry more
-pub record HasRoom (lot : LotView) (inode : Inode) : Type 0 where
+pub record HasEntryRoom (lot : LotView) (inode : Inode) : Type 0 where
   pub is : IsDirectory lot inode
   pub room : inode.size + 1 < 64 * length lot.groups
 
 -- A directory's rows were set: its map is well made, the marks follow what it uses, and every other inode is as it was and says what it said.
-pub record DirSet (lot : LotView) (entry : ℕ) (old new : ℕ → List ℕ) (number : ℕ) (now : List Row) : Type 0 where
-  pub rows : rows_of entry new number ≡ now
+pub record DirSet (lot : LotView) (entry : ℕ) (old new : ℕ → List ℕ) (number : ℕ) (now : List DirRow) : Type 0 where
+  pub rows : dir_rows_of entry new number ≡ now
   pub is : IsDirectory lot (inode_of new number)
   pub set : OwnSet lot entry old new number
 
@@ -34,7 +34,7 @@ pub record RowPut (lot : LotView) (entry : ℕ) (m0 m1 : ℕ → List ℕ) (x y 
   pub others : (j : ℕ) → j / per_block entry < c → j ≢ k → entry_bytes entry m1 y j ≡ entry_bytes entry m0 x j
 
 -- a directory got the text of a row behind its last entry, and the bytes of its other entries stay
-abbrev pub TextAdded : ℕ → (ℕ → List ℕ) → (ℕ → List ℕ) → ℕ → Row → Type 0
+abbrev pub TextAdded : ℕ → (ℕ → List ℕ) → (ℕ → List ℕ) → ℕ → DirRow → Type 0
 TextAdded entry old new number row = (bytes : List ℕ) × IsText row bytes × (texts_of entry new number ≡ texts_of entry old number ++ bytes ∷ [])
 
 -- entry k was taken from a directory: the bytes of the last one stand in its place, and those of its other entries stay
@@ -43,7 +43,7 @@ TextTaken entry old new number k = texts_of entry new number ≡ swap_remove (te
 
 -- what a directory uses
 abbrev pub dir_uses : ℕ → (ℕ → List ℕ) → ℕ → List ℕ
-dir_uses entry m number = uses m (inode_of m number) (dir_blocks entry (inode_of m number).size)
+dir_uses entry m number = uses m (inode_of m number) (entry_blocks entry (inode_of m number).size)
 
 -- An entry was taken from a directory, whatever its blocks held: the directory has one entry fewer, and as many blocks fewer as these need.
 -- No other inode, no other mark, and nothing of the sub-super block but the count of used blocks, changed. What became free was free or is what
@@ -52,11 +52,11 @@ pub record EntryGone (lot : LotView) (entry : ℕ) (old new : ℕ → List ℕ) 
   pub kind : (inode_of new number).kind ≡ 2
   pub size : (inode_of new number).size + 1 ≡ (inode_of old number).size
   pub others : (k : ℕ) → k ≢ number → inode_of new k ≡ inode_of old k
-  pub free : free_count false lot new + uses_of (dir_blocks entry (inode_of new number).size) ≡ free_count false lot old + uses_of (dir_blocks entry (inode_of old number).size)
-  pub counts : counted false new ≡ counted false old - (uses_of (dir_blocks entry (inode_of old number).size) - uses_of (dir_blocks entry (inode_of new number).size))
+  pub free : free_count false lot new + uses_of (entry_blocks entry (inode_of new number).size) ≡ free_count false lot old + uses_of (entry_blocks entry (inode_of old number).size)
+  pub counts : counted false new ≡ counted false old - (uses_of (entry_blocks entry (inode_of old number).size) - uses_of (entry_blocks entry (inode_of new number).size))
   pub sub : SameBeside (count_place false) 4 (old sub_address) (new sub_address)
   pub places : (b : ℕ) → is_data lot b ≡ false → used_block new b ≡ used_block old b
   pub inodes : (i : ℕ) → used_inode new i ≡ used_inode old i
   pub blocks : (b : ℕ) → is_data lot b ≡ true → has (dir_uses entry old number) b ≡ false → new b ≡ old b
   pub marks : (b : ℕ) → used_block new b ≡ false → (used_block old b ≡ false) ⊎ (has (dir_uses entry old number) b ≡ true) ⊎ HasTwice (dir_uses entry old number)
-  pub leads : Misleads lot new (inode_of new number) (dir_blocks entry (inode_of new number).size) → Confuses lot old (inode_of old number) (dir_blocks entry (inode_of old number).size)
+  pub leads : Misleads lot new (inode_of new number) (entry_blocks entry (inode_of new number).size) → Confuses lot old (inode_of old number) (entry_blocks entry (inode_of old number).size)

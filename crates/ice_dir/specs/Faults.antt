@@ -4,10 +4,10 @@ use Rattle.ice_base.specs.declared.fault.OpFault.TheVariants.{Disk, Damaged, NoS
 use Rattle.ice_base.specs.declared.fault.Rule.TheVariants.{Counts, Kind, Pointer, Name, Bitmap}
 
 -- those of a look at a directory's inode
-abbrev pub IsKindFault : OpFault → Type 0
-IsKindFault Disk = Unit {0}
-IsKindFault (Damaged Kind) = Unit {0}
-IsKindFault _ = ⊥
+abbrev pub IsDirFault : OpFault → Type 0
+IsDirFault Disk = Unit {0}
+IsDirFault (Damaged Kind) = Unit {0}
+IsDirFault _ = ⊥
 
 -- those of a search for a name
 abbrev pub IsFindFault : OpFault → Type 0
@@ -35,10 +35,10 @@ IsAddFault NoSpace = Unit {0}
 IsAddFault _ = ⊥
 
 -- those of a removal
-abbrev pub IsTakeFault : OpFault → Type 0
-IsTakeFault Disk = Unit {0}
-IsTakeFault (Damaged Counts) = Unit {0}
-IsTakeFault (Damaged Kind) = Unit {0}
-IsTakeFault (Damaged Pointer) = Unit {0}
-IsTakeFault (Damaged Bitmap) = Unit {0}
-IsTakeFault _ = ⊥
+abbrev pub IsRemovalFault : OpFault → Type 0
+IsRemovalFault Disk = Unit {0}
+IsRemovalFault (Damaged Counts) = Unit {0}
+IsRemovalFault (Damaged Kind) = Unit {0}
+IsRemovalFault (Damaged Pointer) = Unit {0}
+IsRemovalFault (Damaged Bitmap) = Unit {0}
+IsRemovalFault _ = ⊥

@@ -11,8 +11,8 @@ use Rattle.ice_map.specs.Maps.{nth_block}
 use Rattle.ice_file.specs.Own.{Own, own}
 
 -- one entry of a directory: a name, and the inode that it names
-abbrev pub Row : Type 0
-Row = List ℕ × ℕ
+abbrev pub DirRow : Type 0
+DirRow = List ℕ × ℕ
 
 -- how many entries of this many bytes a block has
 abbrev pub per_block : ℕ → ℕ
@@ -31,15 +31,15 @@ unfoldable pub name_in : List ℕ → List ℕ
 name_in bytes = cond (nat_le (5 + slice_index bytes 4) (length bytes)) (take (slice_index bytes 4) (drop 5 bytes)) []
 
 -- an entry's bytes as a row: the inode's number stands at 0
-abbrev pub row_in : List ℕ → Row
+abbrev pub row_in : List ℕ → DirRow
 row_in bytes = (name_in bytes, word_at bytes 0)
 
 -- the row at a place of a block
-abbrev pub row_at : ℕ → List ℕ → ℕ → Row
+abbrev pub row_at : ℕ → List ℕ → ℕ → DirRow
 row_at entry block at = row_in (row_bytes entry block at)
 
 -- row k of the blocks of a map
-abbrev pub row_of : ℕ → (ℕ → List ℕ) → Inode → ℕ → Row
+abbrev pub row_of : ℕ → (ℕ → List ℕ) → Inode → ℕ → DirRow
 row_of entry m inode k = row_at entry (m (nth_block m inode (k / per_block entry))) (place_of entry k)
 
 -- the bytes of entry k of the blocks of a map
@@ -51,36 +51,36 @@ abbrev pub texts_of : ℕ → (ℕ → List ℕ) → ℕ → List (List ℕ)
 texts_of entry m number = map (entry_bytes entry m (inode_of m number)) (range_with_len 0 (inode_of m number).size)
 
 -- an entry's bytes are the one text of a row: they read as it, and are zeros past the name
-pub record IsText (row : Row) (bytes : List ℕ) : Type 0 where
+pub record IsText (row : DirRow) (bytes : List ℕ) : Type 0 where
   pub reads : row_in bytes ≡ row
   pub blank : (k : ℕ) → 5 + length row.0 ≤ k → k < length bytes → slice_index bytes k ≡ 0
 
 -- the rows of a directory, in the order of its entries
-unfoldable pub dir_rows : ℕ → Own → List Row
+unfoldable pub dir_rows : ℕ → Own → List DirRow
 dir_rows entry o = map (λ k. row_at entry (slice_index_or o.contents (k / per_block entry) []) (place_of entry k)) (range_with_len 0 o.inode.size)
 
 -- the rows of the directory of a number
-abbrev pub rows_of : ℕ → (ℕ → List ℕ) → ℕ → List Row
-rows_of entry m number = dir_rows entry (own entry m number)
+abbrev pub dir_rows_of : ℕ → (ℕ → List ℕ) → ℕ → List DirRow
+dir_rows_of entry m number = dir_rows entry (own entry m number)
 
 -- whether a row has this name
-abbrev pub named : List ℕ → Row → Bool
+abbrev pub named : List ℕ → DirRow → Bool
 named name row = bytes_eq row.0 name
 
 -- the inode in the first row of this name
-abbrev pub look_up : List ℕ → List Row → Option ℕ
-look_up name rows = option_map (λ (row : Row). row.1) (find (named name) rows)
+abbrev pub look_up : List ℕ → List DirRow → Option ℕ
+look_up name rows = option_map (λ (row : DirRow). row.1) (find (named name) rows)
 
 -- the rows without the first one of this name, which they have: the last row stands in its place
-abbrev pub without : List ℕ → List Row → List Row
-without name rows = swap_remove rows (position_or_len (named name) rows) ([], 0)
+abbrev pub rows_without : List ℕ → List DirRow → List DirRow
+rows_without name rows = swap_remove rows (position_or_len (named name) rows) ([], 0)
 
 -- none of these rows has this name
-abbrev pub NoneNamed : (ℕ → Row) → List ℕ → ℕ → ℕ → Type 0
+abbrev pub NoneNamed : (ℕ → DirRow) → List ℕ → ℕ → ℕ → Type 0
 NoneNamed row name low high = (k : ℕ) → low ≤ k → k < high → (row k).0 ≢ name
 
 -- row k is the first of these rows that has this name
-pub record FirstNamed (row : ℕ → Row) (name : List ℕ) (from to k : ℕ) : Type 0 where
+pub record FirstNamed (row : ℕ → DirRow) (name : List ℕ) (from to k : ℕ) : Type 0 where
   pub after : from ≤ k
   pub below : k < to
   pub has : (row k).0 ≡ name

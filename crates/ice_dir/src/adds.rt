@@ -12,10 +12,10 @@ ghost use Rattle.ice_map.specs.Faults.{IsGrowFault};
 ghost use Rattle.ice_map.specs.Inodes.{inode_of};
 ghost use Rattle.ice_map.specs.Maps.{longest, needs, Misleads};
 ghost use Rattle.ice_file.specs.Own.{MadeOf, WellMade};
-ghost use Rattle.ice_file.specs.Writes.{Reached, content_of, uses_of};
-ghost use Rattle.ice_dir.specs.Changes.{dir_blocks, HasRoom, DirSet, RowPut, TextAdded};
+ghost use Rattle.ice_file.specs.Writes.{HadBlock, content_of, uses_of};
+ghost use Rattle.ice_dir.specs.Changes.{entry_blocks, HasEntryRoom, DirSet, RowPut, TextAdded};
 ghost use Rattle.ice_dir.specs.Faults.{IsAddFault};
-ghost use Rattle.ice_dir.specs.Rows.{rows_of, IsText, IsDirectory};
+ghost use Rattle.ice_dir.specs.Rows.{dir_rows_of, IsText, IsDirectory};
 
 use crate::looks::{dir_inode, read_block};
 use crate::rows::{blocks_for_rows, row_place, rows_per_block, write_row};
@@ -40,7 +40,7 @@ fn open_block<D: Disk, K: Keep<D>, P: Pool<D, K>, F: Form>(
     requires short { k < longest }
     ensures reached { AsShown K.View lot.now keep.old disk.old keep.new disk.new (λ old new.
         MadeOf lot.now old inode.old count
-        → IfOk result (Reached lot.now old new inode.old inode.new count k)) }
+        → IfOk result (HadBlock lot.now old new inode.old inode.new count k)) }
     ensures content { IfShown K.View lot.now keep.old disk.old (λ old.
         k < count → OnOk result (into.new ≡ content_of old inode.old k)) }
     ensures fresh { k ≡ count → OnOk result (into.new ≡ into.old) }
@@ -89,20 +89,20 @@ fn append<D: Disk, K: Keep<D>, P: Pool<D, K>, F: Form>(
     requires short { dir.old.size < 4096 }
     requires fits { length name.now ≤ F.NAME }
     ensures put { AsShown K.View lot.now keep.old disk.old keep.new disk.new (λ old new.
-        MadeOf lot.now old dir.old (dir_blocks F.ENTRY dir.old.size)
+        MadeOf lot.now old dir.old (entry_blocks F.ENTRY dir.old.size)
         → OnOk result ((bytes : List ℕ) × IsText (name.now, inode) bytes
-        × RowPut lot.now F.ENTRY old new dir.old dir.new (dir_blocks F.ENTRY dir.old.size) (dir_blocks F.ENTRY (dir.old.size + 1)) dir.old.size bytes)) }
+        × RowPut lot.now F.ENTRY old new dir.old dir.new (entry_blocks F.ENTRY dir.old.size) (entry_blocks F.ENTRY (dir.old.size + 1)) dir.old.size bytes)) }
     ensures kind { OnOk result (dir.new.kind ≡ dir.old.kind) }
     ensures size { OnOk result (dir.new.size ≡ dir.old.size) }
     ensures spent { Spent D.Disk K.View lot.now 7 keep.old disk.old keep.new disk.new }
     ensures none { IsErrOf result NoSpace → IfShown K.View lot.now keep.old disk.old (λ old.
-        free_count false lot.now old + uses_of (dir_blocks F.ENTRY dir.old.size) < uses_of (dir_blocks F.ENTRY (dir.old.size + 1))) }
+        free_count false lot.now old + uses_of (entry_blocks F.ENTRY dir.old.size) < uses_of (entry_blocks F.ENTRY (dir.old.size + 1))) }
     ensures full { IsErrOf result (Damaged Counts) → IfShown K.View lot.now keep.old disk.old (λ old.
-        2 ^ 32 + uses_of (dir_blocks F.ENTRY dir.old.size) ≤ counted false old + uses_of (dir_blocks F.ENTRY (dir.old.size + 1))) }
+        2 ^ 32 + uses_of (entry_blocks F.ENTRY dir.old.size) ≤ counted false old + uses_of (entry_blocks F.ENTRY (dir.old.size + 1))) }
     ensures unreserved { IsErrOf result (Damaged Bitmap)
         → IfShown K.View lot.now keep.old disk.old (λ old. ¬ Reserved lot.now old) }
     ensures misled { IsErrOf result (Damaged Pointer) → IfShown K.View lot.now keep.old disk.old (λ old.
-        Misleads lot.now old dir.old (dir_blocks F.ENTRY dir.old.size)) }
+        Misleads lot.now old dir.old (entry_blocks F.ENTRY dir.old.size)) }
     ensures looked { IsErrOf result NoSpace
         → Looked D.Disk K.View lot.now keep.old disk.old keep.new disk.new }
     ensures unmoved { IsErrOf result (Damaged Pointer)
@@ -141,23 +141,23 @@ pub fn add<D: Disk, K: Keep<D>, P: Pool<D, K>, F: Form>(
     requires room { 8 ≤ K.room keep.old }
     ensures added { AsShown K.View lot.now keep.old disk.old keep.new disk.new (λ old new.
         WellMade lot.now F.ENTRY old number
-        → OnOk result (DirSet lot.now F.ENTRY old new number (rows_of F.ENTRY old number ++ (name.now, inode) ∷ []))) }
+        → OnOk result (DirSet lot.now F.ENTRY old new number (dir_rows_of F.ENTRY old number ++ (name.now, inode) ∷ []))) }
     ensures text { AsShown K.View lot.now keep.old disk.old keep.new disk.new (λ old new.
         WellMade lot.now F.ENTRY old number
         → OnOk result (TextAdded F.ENTRY old new number (name.now, inode))) }
     ensures is { IfShown K.View lot.now keep.old disk.old (λ old.
-        OnOk result (HasRoom lot.now (inode_of old number))) }
+        OnOk result (HasEntryRoom lot.now (inode_of old number))) }
     ensures spent { Spent D.Disk K.View lot.now 8 keep.old disk.old keep.new disk.new }
     ensures none { IsErrOf result NoSpace → IfShown K.View lot.now keep.old disk.old (λ old.
-        free_count false lot.now old + uses_of (dir_blocks F.ENTRY (inode_of old number).size) < uses_of (dir_blocks F.ENTRY ((inode_of old number).size + 1))) }
+        free_count false lot.now old + uses_of (entry_blocks F.ENTRY (inode_of old number).size) < uses_of (entry_blocks F.ENTRY ((inode_of old number).size + 1))) }
     ensures full { IsErrOf result (Damaged Counts) → IfShown K.View lot.now keep.old disk.old (λ old.
-        2 ^ 32 + uses_of (dir_blocks F.ENTRY (inode_of old number).size) ≤ counted false old + uses_of (dir_blocks F.ENTRY ((inode_of old number).size + 1))) }
+        2 ^ 32 + uses_of (entry_blocks F.ENTRY (inode_of old number).size) ≤ counted false old + uses_of (entry_blocks F.ENTRY ((inode_of old number).size + 1))) }
     ensures kind { IsErrOf result (Damaged Kind) → IfShown K.View lot.now keep.old disk.old (λ old.
-        ¬ HasRoom lot.now (inode_of old number)) }
+        ¬ HasEntryRoom lot.now (inode_of old number)) }
     ensures unreserved { IsErrOf result (Damaged Bitmap)
         → IfShown K.View lot.now keep.old disk.old (λ old. ¬ Reserved lot.now old) }
     ensures misled { IsErrOf result (Damaged Pointer) → IfShown K.View lot.now keep.old disk.old (λ old.
-        Misleads lot.now old (inode_of old number) (dir_blocks F.ENTRY (inode_of old number).size)) }
+        Misleads lot.now old (inode_of old number) (entry_blocks F.ENTRY (inode_of old number).size)) }
     ensures is_dir { (rule : Rule) → IsErrOf result (Damaged rule) → rule ≢ Kind
         → IfShown K.View lot.now keep.old disk.old (λ old. IsDirectory lot.now (inode_of old number)) }
     ensures looked { IsErrOf result NoSpace

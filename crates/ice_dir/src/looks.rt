@@ -10,8 +10,8 @@ ghost use Rattle.ice_map.specs.Faults.{IsLookFault};
 ghost use Rattle.ice_map.specs.Inodes.{inode_of};
 ghost use Rattle.ice_map.specs.Maps.{longest, nth_block, leads};
 ghost use Rattle.tree_spec.specs.Names.{is_name};
-ghost use Rattle.ice_dir.specs.Faults.{IsKindFault, IsFindFault, IsEntryFault};
-ghost use Rattle.ice_dir.specs.Rows.{per_block, rows_of, row_at, row_of, look_up, NoneNamed, FirstNamed, IsDirectory, HasEntry};
+ghost use Rattle.ice_dir.specs.Faults.{IsDirFault, IsFindFault, IsEntryFault};
+ghost use Rattle.ice_dir.specs.Rows.{per_block, dir_rows_of, row_at, row_of, look_up, NoneNamed, FirstNamed, IsDirectory, HasEntry};
 
 use crate::rows::{read_name, read_number, row_place, rows_per_block};
 use ice_base::{Block, Disk, Form, Lot, OpFault, Rule, View, fetch};
@@ -33,7 +33,7 @@ pub fn dir_inode<D: Disk, V: View<D>, F: Form>(
     ensures kind { IsErrOf result (Damaged Kind) → IfShown V.View lot.now view.old disk.old (λ old.
         ¬ IsDirectory lot.now (inode_of old number)) }
     ensures looked { Looked D.Disk V.View lot.now view.old disk.old view.new disk.new }
-    ensures faults { IfErr result IsKindFault }
+    ensures faults { IfErr result IsDirFault }
     ensures failed { Caused D.state FaultDisk result disk.old disk.new }
 {
     let inode = get_inode::<D, V, F>(view, disk, lot, number)?;
@@ -81,14 +81,14 @@ pub fn len<D: Disk, V: View<D>, F: Form>(
     requires sited { is_sited lot.now (D.state disk.old).size ≡ true }
     requires number { number < 64 * length lot.now.groups }
     ensures rows { IfShown V.View lot.now view.old disk.old (λ old.
-        IfOk result (λ n. n ≡ length (rows_of F.ENTRY old number))) }
+        IfOk result (λ n. n ≡ length (dir_rows_of F.ENTRY old number))) }
     ensures few { IfOk result (λ n. n < 64 * length lot.now.groups) }
     ensures is { IfShown V.View lot.now view.old disk.old (λ old.
         OnOk result (IsDirectory lot.now (inode_of old number))) }
     ensures kind { IsErrOf result (Damaged Kind) → IfShown V.View lot.now view.old disk.old (λ old.
         ¬ IsDirectory lot.now (inode_of old number)) }
     ensures looked { Looked D.Disk V.View lot.now view.old disk.old view.new disk.new }
-    ensures faults { IfErr result IsKindFault }
+    ensures faults { IfErr result IsDirFault }
     ensures failed { Caused D.state FaultDisk result disk.old disk.new }
 {
     Ok(dir_inode::<D, V, F>(view, disk, lot, number)?.size)
@@ -108,7 +108,7 @@ pub fn entry<D: Disk, V: View<D>, F: Form>(
     requires sited { is_sited lot.now (D.state disk.old).size ≡ true }
     requires number { number < 64 * length lot.now.groups }
     ensures row { IfShown V.View lot.now view.old disk.old (λ old.
-        IfOk result (λ inode. slice_get (rows_of F.ENTRY old number) k ≡ Some (into.new, inode))) }
+        IfOk result (λ inode. slice_get (dir_rows_of F.ENTRY old number) k ≡ Some (into.new, inode))) }
     ensures fits { OnOk result (length into.new ≤ F.NAME) }
     ensures kept { OnErr result (into.new ≡ into.old) }
     ensures is { IfShown V.View lot.now view.old disk.old (λ old.
@@ -118,7 +118,7 @@ pub fn entry<D: Disk, V: View<D>, F: Form>(
     ensures pointer { IsErrOf result (Damaged Pointer) → IfShown V.View lot.now view.old disk.old (λ old.
         leads lot.now old (inode_of old number) (k / per_block F.ENTRY) ≡ false) }
     ensures name { IsErrOf result (Damaged BadName) → IfShown V.View lot.now view.old disk.old (λ old.
-        IfSome (slice_get (rows_of F.ENTRY old number) k) (λ row. is_name row.0 ≡ false)) }
+        IfSome (slice_get (dir_rows_of F.ENTRY old number) k) (λ row. is_name row.0 ≡ false)) }
     ensures looked { Looked D.Disk V.View lot.now view.old disk.old view.new disk.new }
     ensures faults { IfErr result IsEntryFault }
     ensures failed { Caused D.state FaultDisk result disk.old disk.new }
@@ -230,7 +230,7 @@ pub fn find<D: Disk, V: View<D>, F: Form>(
     requires sited { is_sited lot.now (D.state disk.old).size ≡ true }
     requires number { number < 64 * length lot.now.groups }
     ensures found { IfShown V.View lot.now view.old disk.old (λ old.
-        IfOk result (λ o. o ≡ look_up name.now (rows_of F.ENTRY old number))) }
+        IfOk result (λ o. o ≡ look_up name.now (dir_rows_of F.ENTRY old number))) }
     ensures is { IfShown V.View lot.now view.old disk.old (λ old.
         OnOk result (IsDirectory lot.now (inode_of old number))) }
     ensures kind { IsErrOf result (Damaged Kind) → IfShown V.View lot.now view.old disk.old (λ old.

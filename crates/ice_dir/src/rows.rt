@@ -1,7 +1,7 @@
 //! Entries of directories as bytes.
 ghost use Rattle.std.specs.Prelude.{◌≡◌, ◌≤◌, ◌<◌, ◌+◌, ◌/◌, ℕ, length, slice_index};
 ghost use Rattle.ice_base.specs.Fields.{SameBeside};
-ghost use Rattle.ice_dir.specs.Changes.{dir_blocks};
+ghost use Rattle.ice_dir.specs.Changes.{entry_blocks};
 ghost use Rattle.ice_dir.specs.Rows.{per_block, place_of, row_bytes, row_at, IsText};
 
 use ice_base::{Block, Form, read_u32, write_u32};
@@ -17,7 +17,7 @@ pub fn rows_per_block<F: Form>() -> u32
 /// How many blocks a directory of so many entries has.
 pub fn blocks_for_rows<F: Form>(size: u32) -> u32
     requires { size ≤ 4096 }
-    ensures value { result ≡ dir_blocks F.ENTRY size }
+    ensures value { result ≡ entry_blocks F.ENTRY size }
     ensures sixteenth { result ≡ (size + 15) / 16 }
 {
     (F::ENTRY * size).div_ceil(1024)

@@ -13,9 +13,9 @@ ghost use Rattle.ice_map.specs.Inodes.{inode_of};
 ghost use Rattle.ice_map.specs.Maps.{nth_block, uses, FreeOrTwice, Misleads};
 ghost use Rattle.ice_file.specs.Own.{MadeOf, WellMade, Confuses};
 ghost use Rattle.ice_file.specs.Writes.{uses_of};
-ghost use Rattle.ice_dir.specs.Changes.{dir_blocks, DirSet, RowPut, TextTaken, EntryGone};
-ghost use Rattle.ice_dir.specs.Faults.{IsTakeFault};
-ghost use Rattle.ice_dir.specs.Rows.{per_block, entry_bytes, rows_of, named, look_up, without, IsDirectory};
+ghost use Rattle.ice_dir.specs.Changes.{entry_blocks, DirSet, RowPut, TextTaken, EntryGone};
+ghost use Rattle.ice_dir.specs.Faults.{IsRemovalFault};
+ghost use Rattle.ice_dir.specs.Rows.{per_block, entry_bytes, dir_rows_of, named, look_up, rows_without, IsDirectory};
 
 use crate::looks::{dir_inode, read_block, seek};
 use crate::rows::{blocks_for_rows, copy_row, row_place, rows_per_block};
@@ -37,14 +37,14 @@ fn move_last<D: Disk, K: Keep<D>, F: Form>(
     requires short { dir.now.size ≤ 4096 }
     requires below { k < dir.now.size }
     ensures put { AsShown K.View lot.now keep.old disk.old keep.new disk.new (λ old new.
-        MadeOf lot.now old dir.now (dir_blocks F.ENTRY dir.now.size)
-        → OnOk result (RowPut lot.now F.ENTRY old new dir.now dir.now (dir_blocks F.ENTRY dir.now.size) (dir_blocks F.ENTRY dir.now.size) k (entry_bytes F.ENTRY old dir.now (dir.now.size - 1)))) }
+        MadeOf lot.now old dir.now (entry_blocks F.ENTRY dir.now.size)
+        → OnOk result (RowPut lot.now F.ENTRY old new dir.now dir.now (entry_blocks F.ENTRY dir.now.size) (entry_blocks F.ENTRY dir.now.size) k (entry_bytes F.ENTRY old dir.now (dir.now.size - 1)))) }
     ensures counts { K.map keep.new disk.new lot.now sub_address ≡ K.map keep.old disk.old lot.now sub_address }
     ensures beside { (b : ℕ) → is_data lot.now b ≡ false
         → K.map keep.new disk.new lot.now b ≡ K.map keep.old disk.old lot.now b }
     ensures spent { Spent D.Disk K.View lot.now 1 keep.old disk.old keep.new disk.new }
     ensures misled { IsErrOf result (Damaged Pointer) → IfShown K.View lot.now keep.old disk.old (λ old.
-        Misleads lot.now old dir.now (dir_blocks F.ENTRY dir.now.size)) }
+        Misleads lot.now old dir.now (entry_blocks F.ENTRY dir.now.size)) }
     ensures within { AsShown K.View lot.now keep.old disk.old keep.new disk.new (λ old new.
         OnOk result ((b : ℕ) → b ≢ nth_block old dir.now (k / per_block F.ENTRY) → new b ≡ old b)) }
     ensures faults { IfErr result IsLookFault }
@@ -78,7 +78,7 @@ fn remove_row<D: Disk, K: Keep<D>, P: Pool<D, K>, F: Form>(
     requires below { k < dir.size }
     ensures removed { AsShown K.View lot.now keep.old disk.old keep.new disk.new (λ old new.
         inode_of old number ≡ dir → WellMade lot.now F.ENTRY old number
-        → OnOk result (DirSet lot.now F.ENTRY old new number (swap_remove (rows_of F.ENTRY old number) k ([], 0)))) }
+        → OnOk result (DirSet lot.now F.ENTRY old new number (swap_remove (dir_rows_of F.ENTRY old number) k ([], 0)))) }
     ensures texts { AsShown K.View lot.now keep.old disk.old keep.new disk.new (λ old new.
         inode_of old number ≡ dir → WellMade lot.now F.ENTRY old number
         → OnOk result (TextTaken F.ENTRY old new number k)) }
@@ -86,14 +86,14 @@ fn remove_row<D: Disk, K: Keep<D>, P: Pool<D, K>, F: Form>(
         inode_of old number ≡ dir → OnOk result (EntryGone lot.now F.ENTRY old new number)) }
     ensures spent { Spent D.Disk K.View lot.now 8 keep.old disk.old keep.new disk.new }
     ensures zero { IsErrOf result (Damaged Counts) → IfShown K.View lot.now keep.old disk.old (λ old.
-        counted false old + uses_of (dir_blocks F.ENTRY (dir.size - 1)) < uses_of (dir_blocks F.ENTRY dir.size)) }
+        counted false old + uses_of (entry_blocks F.ENTRY (dir.size - 1)) < uses_of (entry_blocks F.ENTRY dir.size)) }
     ensures unused { IsErrOf result (Damaged Bitmap) → IfShown K.View lot.now keep.old disk.old (λ old.
-        FreeOrTwice old (uses old dir (dir_blocks F.ENTRY dir.size))) }
+        FreeOrTwice old (uses old dir (entry_blocks F.ENTRY dir.size))) }
     ensures kept { (rule : Rule) → IsErrOf result (Damaged rule)
         → AsShown K.View lot.now keep.old disk.old keep.new disk.new (λ old new.
         inode_of new number ≡ inode_of old number) }
     ensures misled { IsErrOf result (Damaged Pointer) → IfShown K.View lot.now keep.old disk.old (λ old.
-        Confuses lot.now old dir (dir_blocks F.ENTRY dir.size)) }
+        Confuses lot.now old dir (entry_blocks F.ENTRY dir.size)) }
     ensures faults { IfErr result IsCutFault }
     ensures failed { Caused D.state FaultDisk result disk.old disk.new }
 {
@@ -124,15 +124,15 @@ pub fn take<D: Disk, K: Keep<D>, P: Pool<D, K>, F: Form>(
     requires number { number < 64 * length lot.now.groups }
     requires room { 8 ≤ K.room keep.old }
     ensures found { IfShown K.View lot.now keep.old disk.old (λ old.
-        IfOk result (λ o. o ≡ look_up name.now (rows_of F.ENTRY old number))) }
+        IfOk result (λ o. o ≡ look_up name.now (dir_rows_of F.ENTRY old number))) }
     ensures taken { AsShown K.View lot.now keep.old disk.old keep.new disk.new (λ old new.
         WellMade lot.now F.ENTRY old number
         → IfOk result (λ o. IsSome o
-        → DirSet lot.now F.ENTRY old new number (without name.now (rows_of F.ENTRY old number)))) }
+        → DirSet lot.now F.ENTRY old new number (rows_without name.now (dir_rows_of F.ENTRY old number)))) }
     ensures texts { AsShown K.View lot.now keep.old disk.old keep.new disk.new (λ old new.
         WellMade lot.now F.ENTRY old number
         → IfOk result (λ o. IsSome o
-        → TextTaken F.ENTRY old new number (position_or_len (named name.now) (rows_of F.ENTRY old number)))) }
+        → TextTaken F.ENTRY old new number (position_or_len (named name.now) (dir_rows_of F.ENTRY old number)))) }
     ensures left { AsShown K.View lot.now keep.old disk.old keep.new disk.new (λ old new.
         IfOk result (λ o. IsSome o → EntryGone lot.now F.ENTRY old new number)) }
     ensures absent { IfOk result (λ o. IsNone o
@@ -141,21 +141,21 @@ pub fn take<D: Disk, K: Keep<D>, P: Pool<D, K>, F: Form>(
         OnOk result (IsDirectory lot.now (inode_of old number))) }
     ensures spent { Spent D.Disk K.View lot.now 8 keep.old disk.old keep.new disk.new }
     ensures zero { IsErrOf result (Damaged Counts) → IfShown K.View lot.now keep.old disk.old (λ old.
-        counted false old + uses_of (dir_blocks F.ENTRY ((inode_of old number).size - 1)) < uses_of (dir_blocks F.ENTRY (inode_of old number).size)) }
+        counted false old + uses_of (entry_blocks F.ENTRY ((inode_of old number).size - 1)) < uses_of (entry_blocks F.ENTRY (inode_of old number).size)) }
     ensures kind { IsErrOf result (Damaged Kind) → IfShown K.View lot.now keep.old disk.old (λ old.
         ¬ IsDirectory lot.now (inode_of old number)) }
     ensures unused { IsErrOf result (Damaged Bitmap) → IfShown K.View lot.now keep.old disk.old (λ old.
-        FreeOrTwice old (uses old (inode_of old number) (dir_blocks F.ENTRY (inode_of old number).size))) }
+        FreeOrTwice old (uses old (inode_of old number) (entry_blocks F.ENTRY (inode_of old number).size))) }
     ensures kept { (rule : Rule) → IsErrOf result (Damaged rule)
         → AsShown K.View lot.now keep.old disk.old keep.new disk.new (λ old new.
         inode_of new number ≡ inode_of old number) }
     ensures misled { IsErrOf result (Damaged Pointer) → IfShown K.View lot.now keep.old disk.old (λ old.
-        Confuses lot.now old (inode_of old number) (dir_blocks F.ENTRY (inode_of old number).size)) }
+        Confuses lot.now old (inode_of old number) (entry_blocks F.ENTRY (inode_of old number).size)) }
     ensures is_dir { (rule : Rule) → IsErrOf result (Damaged rule) → rule ≢ Kind
         → IfShown K.View lot.now keep.old disk.old (λ old. IsDirectory lot.now (inode_of old number)) }
     ensures unchanged { IsErrOf result (Damaged Kind)
         → Looked D.Disk K.View lot.now keep.old disk.old keep.new disk.new }
-    ensures faults { IfErr result IsTakeFault }
+    ensures faults { IfErr result IsRemovalFault }
     ensures failed { Caused D.state FaultDisk result disk.old disk.new }
 {
     let dir = dir_inode::<D, K, F>(keep, disk, lot, number)?;

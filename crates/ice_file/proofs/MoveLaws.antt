@@ -15,7 +15,7 @@ use Rattle.ice_map.proofs.MapLaws.{nth-direct, leads-direct, leads-single}
 use Rattle.ice_map.proofs.MarkLaws.{data_not_bitmap, data_not_sub, used-same}
 use Rattle.ice_map.proofs.GrowLaws.{inode_not_data}
 use Rattle.ice_file.specs.Own.{MarksFollow, MadeOf, NoneUnused, Holds}
-use Rattle.ice_file.specs.Writes.{Moved, Reached, content_of}
+use Rattle.ice_file.specs.Writes.{Moved, HadBlock, content_of}
 use Rattle.ice_file.proofs.OwnLaws.{times-one, times-none, times-has, marks-refl, marks-then, marks-same, marks-grow, indirect-none, indirect-one, length-uses, uses-nth, uses-single, single-apart, nth-apart, nth-moves, stays-then}
 
 -- one move after another
@@ -227,7 +227,7 @@ module _ (lot : LotView) (m0 m1 : ℕ → List ℕ) (x y : Inode) (c a : ℕ) (m
         | false ↦ λ t. ap (λ xs. has xs (nth_block m0 x n)) (indirect-none x c (grind (arith, nat_tests))) ∙ has-none (nth_block m0 x n)
       ] refl)
 
-  pub grown-reached : (k : ℕ) → k ≡ c → Reached lot m0 m1 x y c k a
+  pub grown-reached : (k : ℕ) → k ≡ c → HadBlock lot m0 m1 x y c k a
   grown-reached k e = let q : max c (k + 1) ≡ c + 1 = omega arith in record {
     moved = subst (λ d. Moved lot m0 m1 x y c d) (sym q) grown-moved;
     here = ap (nth_block m1 y) e ∙ grown-here;
@@ -235,15 +235,15 @@ module _ (lot : LotView) (m0 m1 : ℕ → List ℕ) (x y : Inode) (c a : ℕ) (m
   }
 
 -- a block that the map has
-pub had-reached : (lot : LotView) (m : ℕ → List ℕ) (x : Inode) (c k at : ℕ) → MadeOf lot m x c → k < c → at ≡ nth_block m x k → Reached lot m m x x c k at
+pub had-reached : (lot : LotView) (m : ℕ → List ℕ) (x : Inode) (c k at : ℕ) → MadeOf lot m x c → k < c → at ≡ nth_block m x k → HadBlock lot m m x x c k at
 had-reached lot m x c k at made h e = let q : max c (k + 1) ≡ c = omega arith in record {
   moved = subst (λ d. Moved lot m m x x c d) (sym q) (moved-refl lot m x c made);
   here = sym e;
   contents = λ n l. refl;
 }
 
-pub reached-from : (lot : LotView) (m0 m1 m2 : ℕ → List ℕ) (x y : Inode) (c k at : ℕ) → m1 ≡ m0 → Reached lot m0 m2 x y c k at → Reached lot m1 m2 x y c k at
-reached-from lot m0 m1 m2 x y c k at e r = subst (λ (m : ℕ → List ℕ). Reached lot m m2 x y c k at) (sym e) r
+pub reached-from : (lot : LotView) (m0 m1 m2 : ℕ → List ℕ) (x y : Inode) (c k at : ℕ) → m1 ≡ m0 → HadBlock lot m0 m2 x y c k at → HadBlock lot m1 m2 x y c k at
+reached-from lot m0 m1 m2 x y c k at e r = subst (λ (m : ℕ → List ℕ). HadBlock lot m m2 x y c k at) (sym e) r
 
 -- each block of a well-made map leads to a data place
 pub made-leads : (lot : LotView) (m : ℕ → List ℕ) (x : Inode) (c k : ℕ) → MadeOf lot m x c → k < c → leads lot m x k ≡ true

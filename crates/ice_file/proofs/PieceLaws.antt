@@ -2,10 +2,10 @@
 use Rattle.std.proofs.Common.{◌≡◌, ◌≢◌, ◌≤◌, ◌<◌, ◌⊎◌, ◌+◌, ◌-◌, max, ℕ, List, length, slice_index, ◌∙◌, sym, ap, arith}
 use Rattle.ice_base.specs.Lots.{LotView}
 use Rattle.ice_map.specs.declared.codec.Inode.{Inode}
-use Rattle.ice_file.specs.Writes.{Reached, PutPiece}
+use Rattle.ice_file.specs.Writes.{HadBlock, PutPiece}
 use Rattle.ice_file.proofs.MoveLaws.{moved-then, put-moved, put-others, put-here}
 
-pub piece-put : (lot : LotView) (m0 m1 m2 : ℕ → List ℕ) (x y : Inode) (c k at start : ℕ) (bytes : List ℕ) → length lot.groups ≤ 64 → Reached lot m0 m1 x y c k at → ((b : ℕ) → b ≢ at → m2 b ≡ m1 b)
+pub piece-put : (lot : LotView) (m0 m1 m2 : ℕ → List ℕ) (x y : Inode) (c k at start : ℕ) (bytes : List ℕ) → length lot.groups ≤ 64 → HadBlock lot m0 m1 x y c k at → ((b : ℕ) → b ≢ at → m2 b ≡ m1 b)
     → ((j : ℕ) → start ≤ j → j < start + length bytes → slice_index (m2 at) j ≡ slice_index bytes (j - start))
     → (k < c → (j : ℕ) → (j < start) ⊎ (start + length bytes ≤ j) → j < 1024 → slice_index (m2 at) j ≡ slice_index (m1 at) j)
     → PutPiece lot m0 m2 x y c k start bytes

@@ -43,10 +43,10 @@ abbrev pub bytes_from : (ℕ → List ℕ) → Inode → ℕ → ℕ → List �
 bytes_from m inode from n = map (byte_of m inode) (range_with_len from n)
 
 -- the faults of a look at a file's inode
-abbrev pub IsKindFault : OpFault → Type 0
-IsKindFault Disk = Unit {0}
-IsKindFault (Damaged Kind) = Unit {0}
-IsKindFault _ = ⊥
+abbrev pub IsFileFault : OpFault → Type 0
+IsFileFault Disk = Unit {0}
+IsFileFault (Damaged Kind) = Unit {0}
+IsFileFault _ = ⊥
 
 -- those of a read
 abbrev pub IsReadFault : OpFault → Type 0

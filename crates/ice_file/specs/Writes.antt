@@ -20,7 +20,7 @@ pub record Moved (lot : LotView) (m0 m1 : ℕ → List ℕ) (x y : Inode) (c d :
   pub size : y.size ≡ x.size
 
 -- block k of a map of c blocks was had at an address, as a new block where the map ended there
-pub record Reached (lot : LotView) (m0 m1 : ℕ → List ℕ) (x y : Inode) (c k at : ℕ) : Type 0 where
+pub record HadBlock (lot : LotView) (m0 m1 : ℕ → List ℕ) (x y : Inode) (c k at : ℕ) : Type 0 where
   pub moved : Moved lot m0 m1 x y c (max c (k + 1))
   pub here : nth_block m1 y k ≡ at
   pub contents : (n : ℕ) → n < c → content_of m1 y n ≡ content_of m0 x n

@@ -7,7 +7,7 @@ ghost use Rattle.ice_base.specs.declared.fault.OpFault.TheVariants.{Disk as Faul
 ghost use Rattle.ice_base.specs.declared.fault.Rule.TheVariants.{Kind};
 ghost use Rattle.ice_map.specs.Inodes.{inode_of};
 ghost use Rattle.ice_map.specs.Maps.{longest};
-ghost use Rattle.ice_file.specs.Files.{longest_file, ReachesTo, IsKindFault};
+ghost use Rattle.ice_file.specs.Files.{longest_file, ReachesTo, IsFileFault};
 ghost use Rattle.ice_file.specs.Own.{blocks_for};
 
 use ice_base::{Disk, Form, Lot, OpFault, Rule, View};
@@ -41,7 +41,7 @@ pub fn file_inode<D: Disk, V: View<D>, F: Form>(
     ensures kind { IsErrOf result (Damaged Kind) → IfShown V.View lot.now view.old disk.old (λ old.
         ¬ ReachesTo at (inode_of old number)) }
     ensures looked { Looked D.Disk V.View lot.now view.old disk.old view.new disk.new }
-    ensures faults { IfErr result IsKindFault }
+    ensures faults { IfErr result IsFileFault }
     ensures failed { Caused D.state FaultDisk result disk.old disk.new }
 {
     let inode = get_inode::<D, V, F>(view, disk, lot, number)?;

@@ -11,7 +11,7 @@ ghost use Rattle.ice_map.specs.Faults.{IsGrowFault};
 ghost use Rattle.ice_map.specs.Maps.{longest, needs, nth_block};
 ghost use Rattle.ice_file.specs.Growth.{Grew, InodesStay, Strays};
 ghost use Rattle.ice_file.specs.Own.{MadeOf};
-ghost use Rattle.ice_file.specs.Writes.{Reached, PutPiece, due};
+ghost use Rattle.ice_file.specs.Writes.{HadBlock, PutPiece, due};
 
 use ice_base::{Disk, Form, Keep, Lot, OpFault, Pool, View, fetch, store};
 use ice_map::{Inode, extend, nth};
@@ -33,7 +33,7 @@ fn reach<D: Disk, K: Keep<D>, P: Pool<D, K>, F: Form>(
     requires short { k < longest }
     ensures reached { AsShown K.View lot.now keep.old disk.old keep.new disk.new (λ old new.
         MadeOf lot.now old inode.old count
-        → IfOk result (Reached lot.now old new inode.old inode.new count k)) }
+        → IfOk result (HadBlock lot.now old new inode.old inode.new count k)) }
     ensures data { IfOk result (λ a. is_data lot.now a ≡ true) }
     ensures grew { AsShown K.View lot.now keep.old disk.old keep.new disk.new (λ old new.
         OnOk result (Grew lot.now old new inode.old inode.new count (max count (k + 1)))) }

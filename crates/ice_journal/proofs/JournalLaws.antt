@@ -11,7 +11,7 @@ use Rattle.ice_base.specs.Lots.{LotView, is_address, is_sited, place, gate_place
 use Rattle.ice_base.proofs.LotLaws.{sited-below, area_below, inside_at}
 use Rattle.ice_layout.specs.Headers.{is_open, slot_targets}
 use Rattle.ice_tables.specs.Journals.{lot_places, replayed, effective_of}
-use Rattle.ice_journal.specs.Shown.{targets_now, shown, source, Same, same_then}
+use Rattle.ice_journal.specs.Shown.{targets_now, shown, source, SameAll, same_then}
 
 pub sited_area : (lot : LotView) (n : ℕ) → is_sited lot n ≡ true → 32 + 256 * lot.slot + 256 ≤ n
 sited_area lot n h = area_below lot n (sited-below lot n h)
@@ -91,7 +91,7 @@ shown_at ts lot i a is = sym (replayed_source (place lot) ts (lot_places lot).bo
 
 -- what a look at the disk leaves of the view
 pub looked_still : {D : Type 0} (state : D → DiskState) (left : D → ℕ → Image → List ℕ → Type 0) (lot : LotView) (v : List ℕ) (e f : D) → Still state left e f
-    → LookedBy state (λ v d lot. shown v lot (state d).now) (λ lot v d. (state d).tells ≡ true) (λ v a. false) (λ v. 0) (λ lot v d w e. Same state left v d w e) lot v e v f
+    → LookedBy state (λ v d lot. shown v lot (state d).now) (λ lot v d. (state d).tells ≡ true) (λ v a. false) (λ v. 0) (λ lot v d w e. SameAll state left v d w e) lot v e v f
 looked_still state left lot v e f still = record {
   map = shown_same v lot (state e).now (state f).now (λ k. still.within.same k (λ n. n));
   shows = λ told. still.within.tells ∙ told;

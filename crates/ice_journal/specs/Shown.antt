@@ -30,13 +30,13 @@ abbrev pub AreNoneOrTargets : LotView → List ℕ → Type 0
 AreNoneOrTargets lot ts = (ts ≡ []) ⊎ AreTargets lot ts
 
 -- the disk is as it was, and so is the view
-pub record Same {V D : Type 0} (state : D → DiskState) (left : D → ℕ → Image → List ℕ → Type 0) (v : V) (old : D) (w : V) (new : D) : Type 0 where
+pub record SameAll {V D : Type 0} (state : D → DiskState) (left : D → ℕ → Image → List ℕ → Type 0) (v : V) (old : D) (w : V) (new : D) : Type 0 where
   pub view : w ≡ v
   pub still : Still state left old new
 
 module _ {V D : Type 0} (state : D → DiskState) (left : D → ℕ → Image → List ℕ → Type 0) where
-  pub same_refl : (v : V) (d : D) → Same state left v d v d
+  pub same_refl : (v : V) (d : D) → SameAll state left v d v d
   same_refl v d = record { view = refl; still = still_refl state left d }
 
-  pub same_then : (u : V) (a : D) (v : V) (b : D) (w : V) (c : D) → Same state left u a v b → Same state left v b w c → Same state left u a w c
+  pub same_then : (u : V) (a : D) (v : V) (b : D) (w : V) (c : D) → SameAll state left u a v b → SameAll state left v b w c → SameAll state left u a w c
   same_then u a v b w c p q = record { view = q.view ∙ p.view; still = still_then state left a b c p.still q.still }

@@ -2,7 +2,7 @@
 ghost use Rattle.std.specs.Prelude.{◌≡◌, true, false};
 ghost use Rattle.ice_base.specs.Lots.{place, inside_out};
 ghost use Rattle.ice_tables.specs.Journals.{lot_places, replayed};
-ghost use Rattle.ice_journal.specs.Shown.{shown, Same, same_refl, same_then};
+ghost use Rattle.ice_journal.specs.Shown.{shown, SameAll, same_refl, same_then};
 
 use crate::Effective;
 use crate::effective::look;
@@ -18,7 +18,7 @@ impl<D: Disk> View<D> for Effective {
 
     ghost room = { λ v. 0 };
 
-    ghost steady = { λ lot v d w e. Same D.state D.left v d w e };
+    ghost steady = { λ lot v d w e. SameAll D.state D.left v d w e };
 
     fn get(
         &mut self,

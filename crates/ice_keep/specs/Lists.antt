@@ -3,7 +3,7 @@ use Rattle.std.specs.Prelude.{◌≢◌, ◌≤◌, ◌<◌, ◌==◌, ℕ, Bool
 use Rattle.ice_keep.specs.declared.list.Entry.{Entry}
 
 -- the held blocks with their addresses, and how many there may be
-pub record Held : Type 0 where
+pub record HeldBlocks : Type 0 where
   pub entries : List Entry
   pub most : ℕ
 
@@ -26,7 +26,7 @@ abbrev pub Differ : List Entry → Type 0
 Differ entries = (i j : ℕ) → i < j → j < length entries → address entries i ≢ address entries j
 
 -- the addresses differ, no more blocks are held than there may be, and there is memory for so many
-pub record HasRoom (held : Held) (memory : ℕ) : Type 0 where
+pub record HasListRoom (held : HeldBlocks) (memory : ℕ) : Type 0 where
   pub differ : Differ held.entries
   pub few : length held.entries ≤ held.most
   pub reserved : held.most ≤ memory

@@ -25,13 +25,13 @@ pub struct ListKeep {
 
 impl Model for ListKeep {
     ghost use Rattle.std.specs.Prelude.{vec_capacity};
-    ghost use Rattle.ice_keep.specs.Lists.{Held, HasRoom};
+    ghost use Rattle.ice_keep.specs.Lists.{HeldBlocks, HasListRoom};
 
-    ghost Value = { Held };
+    ghost Value = { HeldBlocks };
 
     ghost view = { λ k. record { entries = k.entries.items; most = k.most } };
 
-    ghost invariant = { λ k. HasRoom (record { entries = k.entries.items; most = k.most }) (vec_capacity k.entries) };
+    ghost invariant = { λ k. HasListRoom (record { entries = k.entries.items; most = k.most }) (vec_capacity k.entries) };
 }
 
 impl ListKeep {

@@ -1,7 +1,7 @@
 -- Cases of blocks and inodes.
 use Rattle.std.proofs.Common.{◌≡◌, ◌<◌, ◌≤◌, ◌+◌, ◌-◌, ◌*◌, ◌%◌, ◌≢◌, ◌==◌, ℕ, Bool, true, false, cond, not, List, length, subst, sym, ap, ◌∙◌, arith}
 use Rattle.std.proofs.lemmas.Bool.{false≢true}
-use Rattle.ice_base.specs.Bits.{bit_of, count_below, IsLeast, Takes, Gives}
+use Rattle.ice_base.specs.Bits.{bit_of, count_below, IsLeast, Inserts, Deletes}
 use Rattle.ice_base.specs.Fields.{WordSet}
 use Rattle.ice_base.specs.Pools.{Took, Gave}
 use Rattle.ice_base.specs.Lots.{LotView, sub_address}
@@ -11,7 +11,7 @@ use Rattle.ice_base.specs.declared.fault.OpFault.TheVariants.{Disk, Damaged}
 use Rattle.ice_base.specs.declared.fault.Rule.TheVariants.{Counts}
 use Rattle.ice_base.proofs.UsedLaws.{used-at, used-bit, unreserved, bit_moves, bit_keeps}
 use Rattle.ice_base.proofs.CountLaws.{count_below-more, count_below-not, count_below-same, count_below-le}
-use Rattle.ice_pool.specs.Either.{absent, IsTakeFault, IsCountFault}
+use Rattle.ice_pool.specs.Either.{absent, IsTakeFault, IsCountsFault}
 
 pub absent_fault : (inodes : Bool) (e : OpFault) → e ≡ absent inodes → IsTakeFault inodes e
 absent_fault true e h = rw h tt
@@ -21,7 +21,7 @@ pub disk_fault : (inodes : Bool) → IsTakeFault inodes Disk
 disk_fault true = tt
 disk_fault false = tt
 
-pub count_fault : (inodes : Bool) (e : OpFault) → IsCountFault e → IsTakeFault inodes e
+pub count_fault : (inodes : Bool) (e : OpFault) → IsCountsFault e → IsTakeFault inodes e
 count_fault true Disk h = tt
 count_fault false Disk h = tt
 count_fault true (Damaged Counts) h = tt
@@ -75,7 +75,7 @@ bit_used inodes map block i p v was place e =
 -- what a take does, from what it put
 pub took_by : (inodes : Bool) (m0 m1 : ℕ → List ℕ) (block set sub : List ℕ) (i p : ℕ)
     → IsLeast (used inodes m0) i → p ≡ i % bits_of inodes
-    → block ≡ m0 (bitmap_of inodes i) → Takes (bit_of block) (bit_index inodes p) (bit_of set)
+    → block ≡ m0 (bitmap_of inodes i) → Inserts (bit_of block) (bit_index inodes p) (bit_of set)
     → WordSet (m0 sub_address) (count_place inodes) (counted inodes m0 + 1) sub
     → m1 (bitmap_of inodes i) ≡ set → m1 sub_address ≡ sub
     → ((b : ℕ) → b ≢ sub_address → b ≢ bitmap_of inodes i → m1 b ≡ m0 b)
@@ -93,7 +93,7 @@ took_by inodes m0 m1 block set sub i p least place e marks counts at at_sub only
 -- what a give does
 pub gave_by : (inodes : Bool) (m0 m1 : ℕ → List ℕ) (block set sub : List ℕ) (i p : ℕ)
     → bit_of block (bit_index inodes p) ≡ true → p ≡ i % bits_of inodes
-    → block ≡ m0 (bitmap_of inodes i) → Gives (bit_of block) (bit_index inodes p) (bit_of set)
+    → block ≡ m0 (bitmap_of inodes i) → Deletes (bit_of block) (bit_index inodes p) (bit_of set)
     → WordSet (m0 sub_address) (count_place inodes) (counted inodes m0 - 1) sub
     → m1 (bitmap_of inodes i) ≡ set → m1 sub_address ≡ sub
     → ((b : ℕ) → b ≢ sub_address → b ≢ bitmap_of inodes i → m1 b ≡ m0 b)

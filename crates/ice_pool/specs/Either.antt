@@ -20,7 +20,7 @@ IsAbsentFault true e = IsNodesFault e
 IsAbsentFault false e = IsSpaceFault e
 
 -- the faults of a look at the sub-super block's counts
-abbrev pub IsCountFault : OpFault → Type 0
-IsCountFault Disk = Unit {0}
-IsCountFault (Damaged Counts) = Unit {0}
-IsCountFault _ = ⊥
+abbrev pub IsCountsFault : OpFault → Type 0
+IsCountsFault Disk = Unit {0}
+IsCountsFault (Damaged Counts) = Unit {0}
+IsCountsFault _ = ⊥

@@ -11,7 +11,7 @@ ghost use Rattle.ice_base.specs.Pools.{Took, Gave, PutsFor, PutsInOne};
 ghost use Rattle.ice_base.specs.declared.fault.Rule.{Rule};
 ghost use Rattle.ice_base.specs.declared.fault.OpFault.TheVariants.{Disk as FaultDisk, Damaged};
 ghost use Rattle.ice_base.specs.declared.fault.Rule.TheVariants.{Counts, Bitmap};
-ghost use Rattle.ice_pool.specs.Either.{absent, IsTakeFault, IsAbsentFault, IsCountFault};
+ghost use Rattle.ice_pool.specs.Either.{absent, IsTakeFault, IsAbsentFault, IsCountsFault};
 
 use crate::find::find;
 use ice_base::{
@@ -54,7 +54,7 @@ pub fn move_count<D: Disk, V: View<D>>(
     ensures end { IsErrOf result (Damaged Counts) → IfShown V.View lot.now view.old disk.old (λ old.
         counted inodes old ≡ cond up (2 ^ 32 - 1) 0) }
     ensures looked { Looked D.Disk V.View lot.now view.old disk.old view.new disk.new }
-    ensures faults { IfErr result IsCountFault }
+    ensures faults { IfErr result IsCountsFault }
     ensures failed { Caused D.state FaultDisk result disk.old disk.new }
 {
     fetch(view, disk, lot, SUB, sub)?;

@@ -7,7 +7,7 @@ use Rattle.ice_base.specs.Lots.{LotView}
 use Rattle.ice_map.specs.Maps.{times}
 use Rattle.ice_map.proofs.ListLaws.{times-append}
 use Rattle.ice_file.specs.Own.{Own}
-use Rattle.ice_dir.specs.Rows.{Row}
+use Rattle.ice_dir.specs.Rows.{DirRow}
 use Rattle.tree_spec.specs.Trees.{Tree, File, Dir, Entries, Nil, Entry, rows, by_bytes, walk, and_on, found_or_not, Found, NotFound, NotDir, at, over_entry}
 use Rattle.tree_spec.specs.Costs.{Form}
 use Rattle.tree_spec.proofs.Trees.{same_name, find-over, on_some}
@@ -41,7 +41,7 @@ is_some-on g false r = refl
 
 -- the tree's own list is made of those of its parts, at every list that inodes may use
 module _ (f : Form) (o : Table) (mine : ℕ → List ℕ) (k : ℕ) where
-  pub uses-entry : (rs : List Row) (c : List ℕ) (es : Entries) (u : Tree) → find by_bytes c (rows es) ≡ Some u → times (tree_uses f o mine (inode_named c rs) u) k ≤ times (entries_use f o mine rs es) k
+  pub uses-entry : (rs : List DirRow) (c : List ℕ) (es : Entries) (u : Tree) → find by_bytes c (rows es) ≡ Some u → times (tree_uses f o mine (inode_named c rs) u) k ≤ times (entries_use f o mine rs es) k
   uses-entry rs c Nil u h = absurd (None≢Some u h)
   uses-entry rs c (Entry d t es) u h =
       elim (eq_by_cmp by_bytes c d) as (λ b. eq_by_cmp by_bytes c d ≡ b → cond b (Some t) (find by_bytes c (rows es)) ≡ Some u → times (tree_uses f o mine (inode_named c rs) u) k ≤ times (tree_uses f o mine (inode_named d rs) t ++ entries_use f o mine rs es) k) [
@@ -72,7 +72,7 @@ module _ (f : Form) (lot : LotView) where
   }
 
 module _ (f : Form) (lot : LotView) (o : Table) where
-  pub entry_reads : (rs : List Row) (h : ℕ) (c : List ℕ) (es : Entries) (u : Tree) → find by_bytes c (rows es) ≡ Some u → ReadsEach f lot o rs h es → Reads f lot o (inode_named c rs) h u
+  pub entry_reads : (rs : List DirRow) (h : ℕ) (c : List ℕ) (es : Entries) (u : Tree) → find by_bytes c (rows es) ≡ Some u → ReadsEach f lot o rs h es → Reads f lot o (inode_named c rs) h u
   entry_reads rs h c Nil u is r = absurd (None≢Some u is)
   entry_reads rs h c (Entry d t es) u is r =
       elim (eq_by_cmp by_bytes c d) as (λ b. eq_by_cmp by_bytes c d ≡ b → cond b (Some t) (find by_bytes c (rows es)) ≡ Some u → Reads f lot o (inode_named c rs) h u) [
@@ -99,7 +99,7 @@ module _ (f : Form) (lot : LotView) (o : Table) where
 pub record SameOutside (o p : Table) (part whole : List ℕ) : Type 0 where
   pub at : (k : ℕ) → times part k < times whole k → p k ≡ o k
 
-module _ (f : Form) (o p : Table) (rs : List Row) (c d : List ℕ) (t u : Tree) (es : Entries) where
+module _ (f : Form) (o p : Table) (rs : List DirRow) (c d : List ℕ) (t u : Tree) (es : Entries) where
   -- at the entry of the part, the rest of the entries is outside
   rest-outside : c ≡ d → t ≡ u → SameOutside o p (used_inodes f o (inode_named c rs) u) (used_inodes f o (inode_named d rs) t ++ inodes_in f o rs es) → SameAt o p (inodes_in f o rs es)
   rest-outside e is same = record { at = λ k h. same.at k (omega (arith, times-append (used_inodes f o (inode_named d rs) t) (inodes_in f o rs es) k, ap (λ x. times (used_inodes f o (inode_named x rs) u) k) e, ap (λ x. times (used_inodes f o (inode_named d rs) x) k) is)) }
@@ -121,7 +121,7 @@ module _ (f : Form) (o p : Table) (i : ℕ) (c : List ℕ) (q : List (List ℕ))
   each-outside is same = record { at = λ k h. same.at k (omega (arith, h, times-there k i (inodes_in f o (rows_in f (o i)) es), uses-part f o (λ i. i ∷ []) k q (inode_named c (rows_in f (o i))) u s is)) }
 
 module _ (f : Form) (lot : LotView) (o p : Table) where
-  ReadsEach-over : (rs : List Row) (h : ℕ) (c : List ℕ) (g : Tree → Tree) (es : Entries) (u : Tree) → find by_bytes c (rows es) ≡ Some u → ReadsEach f lot o rs h es → Reads f lot p (inode_named c rs) h (g u)
+  ReadsEach-over : (rs : List DirRow) (h : ℕ) (c : List ℕ) (g : Tree → Tree) (es : Entries) (u : Tree) → find by_bytes c (rows es) ≡ Some u → ReadsEach f lot o rs h es → Reads f lot p (inode_named c rs) h (g u)
       → SameOutside o p (used_inodes f o (inode_named c rs) u) (inodes_in f o rs es) → ReadsEach f lot p rs h (over_entry c g es)
   ReadsEach-over rs h c g Nil u is r new same = tt
   ReadsEach-over rs h c g (Entry d t es) u is r new same =
@@ -158,7 +158,7 @@ module _ (f : Form) (lot : LotView) (o p : Table) where
 
 -- how a sum over the used lists moves. `size` is a length, or how often a number stands in a list
 module _ (f : Form) (o p : Table) (mine yours : ℕ → List ℕ) (alike : (k : ℕ) → p k ≡ o k → yours k ≡ mine k) (measure : List ℕ → ℕ) (adds : (xs ys : List ℕ) → measure (xs ++ ys) ≡ measure xs + measure ys) where
-  uses_in-over : (rs : List Row) (c : List ℕ) (g : Tree → Tree) (es : Entries) (u : Tree) → find by_bytes c (rows es) ≡ Some u
+  uses_in-over : (rs : List DirRow) (c : List ℕ) (g : Tree → Tree) (es : Entries) (u : Tree) → find by_bytes c (rows es) ≡ Some u
       → SameOutside o p (used_inodes f o (inode_named c rs) u) (inodes_in f o rs es)
       → measure (entries_use f p yours rs (over_entry c g es)) + measure (tree_uses f o mine (inode_named c rs) u) ≡ measure (tree_uses f p yours (inode_named c rs) (g u)) + measure (entries_use f o mine rs es)
   uses_in-over rs c g Nil u is same = absurd (None≢Some u is)

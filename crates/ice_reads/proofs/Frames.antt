@@ -4,7 +4,7 @@ use Rattle.std.proofs.lemmas.Bool.Decides.{nat_tests}
 use Rattle.ice_base.specs.Lots.{LotView}
 use Rattle.ice_map.specs.Maps.{times}
 use Rattle.ice_map.proofs.ListLaws.{times-append, times-cons}
-use Rattle.ice_dir.specs.Rows.{Row}
+use Rattle.ice_dir.specs.Rows.{DirRow}
 use Rattle.tree_spec.specs.Trees.{Tree, File, Dir, Entries, Nil, Entry}
 use Rattle.tree_spec.specs.Costs.{Form}
 use Rattle.ice_reads.specs.Tables.{Table, rows_in, IsInode, IsFileInode, IsDirInode, inode_named}
@@ -26,7 +26,7 @@ times-other x y xs e = times-cons y x xs ∙ ap (λ b. cond b 1 0 + times xs x) 
 -- ---- two tables that agree
 
 -- the inodes that a directory's entries use
-abbrev pub inodes_in : Form → Table → List Row → Entries → List ℕ
+abbrev pub inodes_in : Form → Table → List DirRow → Entries → List ℕ
 inodes_in f o = entries_use f o (λ i. i ∷ [])
 
 -- two tables agree at the inodes of a list
@@ -54,7 +54,7 @@ module _ (f : Form) (lot : LotView) (o p : Table) where
         let own : IsInode f lot (p i) i h × IsDirInode f lot (p i) es = subst (λ x. IsInode f lot x i h × IsDirInode f lot x es) e (r.0, r.1) in
         (own.0, own.1, subst (λ x. ReadsEach f lot p (rows_in f x) (h + 1) es) e (ReadsEach-frame (rows_in f (o i)) (h + 1) es (tail same) r.2))
 
-    pub ReadsEach-frame : (rs : List Row) (h : ℕ) (es : Entries) → SameAt o p (inodes_in f o rs es) → ReadsEach f lot o rs h es → ReadsEach f lot p rs h es
+    pub ReadsEach-frame : (rs : List DirRow) (h : ℕ) (es : Entries) → SameAt o p (inodes_in f o rs es) → ReadsEach f lot o rs h es → ReadsEach f lot p rs h es
     ReadsEach-frame rs h Nil same r = tt
     ReadsEach-frame rs h (Entry c t es) same r =
         (Reads-frame (inode_named c rs) h t (left (inodes_in f o rs es) same) r.0, ReadsEach-frame rs h es (right (used_inodes f o (inode_named c rs) t) same) r.1)
@@ -67,7 +67,7 @@ module _ (f : Form) (o p : Table) (mine yours : ℕ → List ℕ) (alike : (k : 
     uses-frame i (Dir es) same =
         ap (λ x. yours i ++ entries_use f p yours (rows_in f x) es) (head same) ∙ (λ j. alike i (head same) j ++ uses_in-frame (rows_in f (o i)) es (tail same) j)
 
-    pub uses_in-frame : (rs : List Row) (es : Entries) → SameAt o p (inodes_in f o rs es) → entries_use f p yours rs es ≡ entries_use f o mine rs es
+    pub uses_in-frame : (rs : List DirRow) (es : Entries) → SameAt o p (inodes_in f o rs es) → entries_use f p yours rs es ≡ entries_use f o mine rs es
     uses_in-frame rs Nil same = refl
     uses_in-frame rs (Entry c t es) same =
         λ j. uses-frame (inode_named c rs) t (left (inodes_in f o rs es) same) j ++ uses_in-frame rs es (right (used_inodes f o (inode_named c rs) t) same) j

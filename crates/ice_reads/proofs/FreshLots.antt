@@ -18,7 +18,7 @@ use Rattle.ice_map.specs.Inodes.{inode_of, inode_at}
 use Rattle.ice_map.specs.Maps.{times, uses}
 use Rattle.ice_map.proofs.ListLaws.{has-none}
 use Rattle.ice_file.specs.Own.{map_length, blocks_for, mark}
-use Rattle.ice_dir.specs.Rows.{Row}
+use Rattle.ice_dir.specs.Rows.{DirRow}
 use Rattle.tree_spec.specs.Trees.{Dir, Nil, by_bytes}
 use Rattle.tree_spec.specs.Costs.{form_one}
 use Rattle.ice_reads.specs.Tables.{Map, own_in, rows_in, RestIsZero, IsInode, IsNameOf, IsDirInode}
@@ -53,7 +53,7 @@ module _ (lot : LotView) (m : Map) (fresh : IsFreshLot lot m) where
   no-rows : rows_in form_one (own_in form_one m 0) ≡ []
   no-rows = empty (rows_in form_one (own_in form_one m 0)) (length-rows_in form_one (own_in form_one m 0) ∙ size-is)
     where
-      empty : (rs : List Row) → length rs ≡ 0 → rs ≡ []
+      empty : (rs : List DirRow) → length rs ≡ 0 → rs ≡ []
       empty [] h = refl
       empty (e ∷ rs) h = absurd (omega (arith, h))
 
@@ -86,10 +86,10 @@ module _ (lot : LotView) (m : Map) (fresh : IsFreshLot lot m) where
   root-dir = record {
     is_dir = kind-is;
     within = omega (arith, fresh.some, size-is);
-    fit = subst (All (λ (row : Row). IsNameOf form_one row.0)) (sym no-rows) (All-nil (λ (row : Row). IsNameOf form_one row.0));
-    differ = subst (λ (rs : List Row). IsDistinct (eq_by_cmp by_bytes) (map (λ (row : Row). row.0) rs)) (sym no-rows) distinct-none;
+    fit = subst (All (λ (row : DirRow). IsNameOf form_one row.0)) (sym no-rows) (All-nil (λ (row : DirRow). IsNameOf form_one row.0));
+    differ = subst (λ (rs : List DirRow). IsDistinct (eq_by_cmp by_bytes) (map (λ (row : DirRow). row.0) rs)) (sym no-rows) distinct-none;
     sorted = tt;
-    maps = λ c. ap (λ (rs : List Row). is_some (find by_bytes c rs)) (sym no-rows);
+    maps = λ c. ap (λ (rs : List DirRow). is_some (find by_bytes c rs)) (sym no-rows);
     count = sym size-is;
   }
 

@@ -20,7 +20,7 @@ use Rattle.std.specs.Map.{lookup}
 use Rattle.std.specs.Option.{option_map}
 use Rattle.std.specs.Ordering.{eq_by_cmp}
 use Rattle.ice_base.specs.Lots.{LotView}
-use Rattle.ice_dir.specs.Rows.{Row, named, look_up, without}
+use Rattle.ice_dir.specs.Rows.{DirRow, named, look_up, rows_without}
 use Rattle.tree_spec.specs.Trees.{Tree, Dir, Entries, rows, by_bytes, child, found_or_not, Found, NotFound}
 use Rattle.tree_spec.specs.Costs.{Form}
 use Rattle.tree_spec.specs.Routes.{is_same_name}
@@ -31,14 +31,14 @@ use Rattle.ice_reads.proofs.Focus.{entry_reads, same_Some, None≢Some}
 
 -- ---- the two look-ups are one
 
-first_of : (b : Bool) (e : Row) (r : Option Row) → option_map (λ (row : Row). row.1) (cond b (Some e) r) ≡ cond b (Some e.1) (option_map (λ (row : Row). row.1) r)
+first_of : (b : Bool) (e : DirRow) (r : Option DirRow) → option_map (λ (row : DirRow). row.1) (cond b (Some e) r) ≡ cond b (Some e.1) (option_map (λ (row : DirRow). row.1) r)
 first_of true e r = refl
 first_of false e r = refl
 
-named-same : (c : List ℕ) (e : Row) → named c e ≡ is_same_name c e.0
+named-same : (c : List ℕ) (e : DirRow) → named c e ≡ is_same_name c e.0
 named-same c e = texts_ties e.0 c ∙ is_same_name-sym e.0 c
 
-pub look_up-find : (c : List ℕ) (rs : List Row) → look_up c rs ≡ find by_bytes c rs
+pub look_up-find : (c : List ℕ) (rs : List DirRow) → look_up c rs ≡ find by_bytes c rs
 look_up-find c [] = refl
 look_up-find c (e ∷ rs) =
     first_of (named c e) e (list.find (named c) rs)
@@ -48,7 +48,7 @@ look_up-find c (e ∷ rs) =
 -- ---- look-ups in a directory that stands for entries
 
 module _ (f : Form) (lot : LotView) (o : Table) (i h : ℕ) (c : List ℕ) (es : Entries) where
-  abbrev rs : List Row
+  abbrev rs : List DirRow
   rs = rows_in f (o i)
 
   pub child-found : (j : ℕ) → Reads f lot o i h (Dir es) → look_up c rs ≡ Some j → (s : Tree) × (child c (Dir es) ≡ Found s) × Reads f lot o j (h + 1) s × (inode_named c rs ≡ j)
@@ -70,15 +70,15 @@ module _ (f : Form) (lot : LotView) (o : Table) (i h : ℕ) (c : List ℕ) (es :
 
 -- ---- look-ups are the same in any order of rows whose names differ
 
-abbrev pub names_of : List Row → List (List ℕ)
-names_of rs = map (λ (row : Row). row.0) rs
+abbrev pub names_of : List DirRow → List (List ℕ)
+names_of rs = map (λ (row : DirRow). row.0) rs
 
-find-lookup : (q : List ℕ) (rs : List Row) → find by_bytes q rs ≡ lookup (eq_by_cmp by_bytes q) rs
+find-lookup : (q : List ℕ) (rs : List DirRow) → find by_bytes q rs ≡ lookup (eq_by_cmp by_bytes q) rs
 find-lookup q [] = refl
 find-lookup q (e ∷ rs) = ap (λ r. cond (is_same_name q e.0) (Some e.1) r) (find-lookup q rs)
 
 -- a row that is found is one of them
-found_row : (q : List ℕ) (v : ℕ) (rs : List Row) → find by_bytes q rs ≡ Some v → Contains rs (q, v)
+found_row : (q : List ℕ) (v : ℕ) (rs : List DirRow) → find by_bytes q rs ≡ Some v → Contains rs (q, v)
 found_row q v [] is = absurd (None≢Some v is)
 found_row q v (e ∷ rs) is =
     elim (is_same_name q e.0) as (λ b. is_same_name q e.0 ≡ b → cond b (Some e.1) (find by_bytes q rs) ≡ Some v → Contains (e ∷ rs) (q, v)) [
@@ -86,7 +86,7 @@ found_row q v (e ∷ rs) is =
       | false ↦ λ t k. let r = found_row q v rs k in (suc r.0, omega arith, r.2)
     ] refl is
 
-row_found : (q : List ℕ) (v : ℕ) (rs : List Row) → IsDistinct (eq_by_cmp by_bytes) (names_of rs) → Contains rs (q, v) → find by_bytes q rs ≡ Some v
+row_found : (q : List ℕ) (v : ℕ) (rs : List DirRow) → IsDistinct (eq_by_cmp by_bytes) (names_of rs) → Contains rs (q, v) → find by_bytes q rs ≡ Some v
 row_found q v rs d h = find-lookup q rs ∙ lookup-from_Contains (eq_by_cmp_equiv nat_list_cmp_total) q v rs d h
 
 same_options : {A : Type 0} (x y : Option A) → ((v : A) → x ≡ Some v → y ≡ Some v) → ((v : A) → y ≡ Some v → x ≡ Some v) → x ≡ y
@@ -94,10 +94,10 @@ same_options None None a b = refl
 same_options None (Some w) a b = b w refl
 same_options (Some v) y a b = sym (a v refl)
 
-distinct-moved : (rs ss : List Row) → IsPermutation rs ss → IsDistinct (eq_by_cmp by_bytes) (names_of rs) → IsDistinct (eq_by_cmp by_bytes) (names_of ss)
-distinct-moved rs ss p d = IsDistinct-IsPermutation (eq_by_cmp by_bytes) is_same_name-sym (names_of rs) (names_of ss) (IsPermutation-map (λ (row : Row). row.0) rs ss p) d
+distinct-moved : (rs ss : List DirRow) → IsPermutation rs ss → IsDistinct (eq_by_cmp by_bytes) (names_of rs) → IsDistinct (eq_by_cmp by_bytes) (names_of ss)
+distinct-moved rs ss p d = IsDistinct-IsPermutation (eq_by_cmp by_bytes) is_same_name-sym (names_of rs) (names_of ss) (IsPermutation-map (λ (row : DirRow). row.0) rs ss p) d
 
-find-moved : (rs ss : List Row) (q : List ℕ) → IsPermutation rs ss → IsDistinct (eq_by_cmp by_bytes) (names_of rs) → find by_bytes q ss ≡ find by_bytes q rs
+find-moved : (rs ss : List DirRow) (q : List ℕ) → IsPermutation rs ss → IsDistinct (eq_by_cmp by_bytes) (names_of rs) → find by_bytes q ss ≡ find by_bytes q rs
 find-moved rs ss q p d =
     same_options (find by_bytes q ss) (find by_bytes q rs)
     (λ v is. row_found q v rs d (Contains-permutation ss rs (q, v) (IsPermutation-sym rs ss p) (found_row q v ss is)))
@@ -106,9 +106,9 @@ find-moved rs ss q p d =
 -- ---- the rows without one
 
 -- the rows are those that were, but for the one of this name
-pub record RowGone (f : Form) (c : List ℕ) (rs ss : List Row) : Type 0 where
-  pub fit : All (λ (row : Row). IsNameOf f row.0) ss
-  pub differ : IsDistinct (eq_by_cmp by_bytes) (map (λ (row : Row). row.0) ss)
+pub record RowGone (f : Form) (c : List ℕ) (rs ss : List DirRow) : Type 0 where
+  pub fit : All (λ (row : DirRow). IsNameOf f row.0) ss
+  pub differ : IsDistinct (eq_by_cmp by_bytes) (map (λ (row : DirRow). row.0) ss)
   pub others : (q : List ℕ) → find by_bytes q ss ≡ cond (eq_by_cmp by_bytes c q) None (find by_bytes q rs)
   pub fewer : length ss + 1 ≡ length rs
 
@@ -121,73 +121,73 @@ not_some None e = refl
 not_some (Some x) e = absurd (subst T e tt)
 
 -- past the row of a name no row has it
-find-past : (e : Row) (ss : List Row) → IsDistinct (eq_by_cmp by_bytes) (names_of (e ∷ ss)) → find by_bytes e.0 ss ≡ None
+find-past : (e : DirRow) (ss : List DirRow) → IsDistinct (eq_by_cmp by_bytes) (names_of (e ∷ ss)) → find by_bytes e.0 ss ≡ None
 find-past e ss d = not_some (find by_bytes e.0 ss) (is_some-find by_bytes e.0 ss ∙ none_tied e.0 (names_of ss) (IsDistinct-head (eq_by_cmp by_bytes) e.0 (names_of ss) d))
 
-find-rest : (e : Row) (ss : List Row) (q : List ℕ) → IsDistinct (eq_by_cmp by_bytes) (names_of (e ∷ ss)) → find by_bytes q ss ≡ cond (is_same_name e.0 q) None (find by_bytes q (e ∷ ss))
+find-rest : (e : DirRow) (ss : List DirRow) (q : List ℕ) → IsDistinct (eq_by_cmp by_bytes) (names_of (e ∷ ss)) → find by_bytes q ss ≡ cond (is_same_name e.0 q) None (find by_bytes q (e ∷ ss))
 find-rest e ss q d =
     elim (is_same_name e.0 q) as (λ b. is_same_name e.0 q ≡ b → find by_bytes q ss ≡ cond b None (find by_bytes q (e ∷ ss))) [
       | true ↦ λ t. ap (λ x. find by_bytes x ss) (sym (same_name e.0 q t)) ∙ find-past e ss d
       | false ↦ λ t. ap (λ b. cond b (Some e.1) (find by_bytes q ss)) (sym (is_same_name-sym q e.0 ∙ t))
     ] refl
 
-row-gone : (f : Form) (rs ss : List Row) (e : Row) → IsPermutation rs (e ∷ ss) → IsDistinct (eq_by_cmp by_bytes) (names_of rs) → All (λ (row : Row). IsNameOf f row.0) rs → RowGone f e.0 rs ss
+row-gone : (f : Form) (rs ss : List DirRow) (e : DirRow) → IsPermutation rs (e ∷ ss) → IsDistinct (eq_by_cmp by_bytes) (names_of rs) → All (λ (row : DirRow). IsNameOf f row.0) rs → RowGone f e.0 rs ss
 row-gone f rs ss e p d fit =
     let all = distinct-moved rs (e ∷ ss) p d in
     record {
-      fit = All-tail (λ (row : Row). IsNameOf f row.0) e ss (All-permutation (λ (row : Row). IsNameOf f row.0) rs (e ∷ ss) p fit);
+      fit = All-tail (λ (row : DirRow). IsNameOf f row.0) e ss (All-permutation (λ (row : DirRow). IsNameOf f row.0) rs (e ∷ ss) p fit);
       differ = IsDistinct-tail (eq_by_cmp by_bytes) e.0 (names_of ss) all;
       others = λ q. find-rest e ss q all ∙ ap (λ r. cond (is_same_name e.0 q) None r) (find-moved rs (e ∷ ss) q p d);
       fewer = omega (arith, length_permutation rs (e ∷ ss) p);
     }
 
 -- where the row of a name stands
-module _ (c : List ℕ) (j : ℕ) (rs : List Row) (is : look_up c rs ≡ Some j) where
+module _ (c : List ℕ) (j : ℕ) (rs : List DirRow) (is : look_up c rs ≡ Some j) where
   abbrev at : ℕ
   at = position_or_len (named c) rs
 
-  abbrev gone : Row
+  abbrev gone : DirRow
   gone = get_or rs at ([], 0)
 
   inside : at < length rs
   inside =
-      let low = prefix_len-le-length (λ (row : Row). not (named c row)) rs in
+      let low = prefix_len-le-length (λ (row : DirRow). not (named c row)) rs in
       let none : length rs ≤ at → None ≡ Some j =
-      (λ past. ap (option_map (λ (row : Row). row.1)) (sym (slice_get_past rs at past)) ∙ ap (option_map (λ (row : Row). row.1)) (sym (find_at (named c) rs)) ∙ is) in
+      (λ past. ap (option_map (λ (row : DirRow). row.1)) (sym (slice_get_past rs at past)) ∙ ap (option_map (λ (row : DirRow). row.1)) (sym (find_at (named c) rs)) ∙ is) in
       omega (arith, low, (λ (past : length rs ≤ at). None≢Some j (none past)))
 
   gone-named : gone.0 ≡ c
   gone-named = same_text gone.0 c (sym (passes_at_first (named c) rs ([], 0) inside))
 
-  without-moved : IsPermutation rs (gone ∷ without c rs)
+  without-moved : IsPermutation rs (gone ∷ rows_without c rs)
   without-moved =
       let last : get_or rs (length rs - 1) gone ≡ get_or rs (length rs - 1) ([], 0) = get_or_default rs (length rs - 1) gone ([], 0) (omega (arith, inside)) in
-      subst (λ (x : Row). IsPermutation rs (gone ∷ take (length rs - 1) (slice_set rs at x))) last
+      subst (λ (x : DirRow). IsPermutation rs (gone ∷ take (length rs - 1) (slice_set rs at x))) last
       (IsPermutation-swap_remove rs at gone inside (get_or_default rs at ([], 0) gone inside))
 
-pub dir_without : (f : Form) (c : List ℕ) (j : ℕ) (rs ss : List Row) → ss ≡ without c rs → look_up c rs ≡ Some j → IsDistinct (eq_by_cmp by_bytes) (map (λ (row : Row). row.0) rs) → All (λ (row : Row). IsNameOf f row.0) rs → RowGone f c rs ss
+pub dir_without : (f : Form) (c : List ℕ) (j : ℕ) (rs ss : List DirRow) → ss ≡ rows_without c rs → look_up c rs ≡ Some j → IsDistinct (eq_by_cmp by_bytes) (map (λ (row : DirRow). row.0) rs) → All (λ (row : DirRow). IsNameOf f row.0) rs → RowGone f c rs ss
 dir_without f c j rs ss e is d fit =
     subst (λ xs. RowGone f c rs xs) (sym e)
-    (subst (λ x. RowGone f x rs (without c rs)) (gone-named c j rs is) (row-gone f rs (without c rs) (gone c j rs is) (without-moved c j rs is) d fit))
+    (subst (λ x. RowGone f x rs (rows_without c rs)) (gone-named c j rs is) (row-gone f rs (rows_without c rs) (gone c j rs is) (without-moved c j rs is) d fit))
 
 -- ---- the rows with one more
 
 -- the rows are those that were, and a new one
-pub record RowCame (f : Form) (c : List ℕ) (j : ℕ) (rs ss : List Row) : Type 0 where
-  pub fit : All (λ (row : Row). IsNameOf f row.0) ss
-  pub differ : IsDistinct (eq_by_cmp by_bytes) (map (λ (row : Row). row.0) ss)
+pub record RowCame (f : Form) (c : List ℕ) (j : ℕ) (rs ss : List DirRow) : Type 0 where
+  pub fit : All (λ (row : DirRow). IsNameOf f row.0) ss
+  pub differ : IsDistinct (eq_by_cmp by_bytes) (map (λ (row : DirRow). row.0) ss)
   pub others : (q : List ℕ) → find by_bytes q ss ≡ cond (eq_by_cmp by_bytes q c) (Some j) (find by_bytes q rs)
   pub more : length ss ≡ length rs + 1
 
-names-append : (rs ss : List Row) → names_of (rs ++ ss) ≡ names_of rs ++ names_of ss
+names-append : (rs ss : List DirRow) → names_of (rs ++ ss) ≡ names_of rs ++ names_of ss
 names-append [] ss = refl
 names-append (e ∷ rs) ss = ap (λ xs. e.0 ∷ xs) (names-append rs ss)
 
-pub dir_with : (f : Form) (c : List ℕ) (j : ℕ) (rs ss : List Row) → ss ≡ rs ++ (c, j) ∷ [] → look_up c rs ≡ None → IsNameOf f c → IsDistinct (eq_by_cmp by_bytes) (map (λ (row : Row). row.0) rs) → All (λ (row : Row). IsNameOf f row.0) rs → RowCame f c j rs ss
+pub dir_with : (f : Form) (c : List ℕ) (j : ℕ) (rs ss : List DirRow) → ss ≡ rs ++ (c, j) ∷ [] → look_up c rs ≡ None → IsNameOf f c → IsDistinct (eq_by_cmp by_bytes) (map (λ (row : DirRow). row.0) rs) → All (λ (row : DirRow). IsNameOf f row.0) rs → RowCame f c j rs ss
 dir_with f c j rs ss e is name d fit =
     let none : find by_bytes c rs ≡ None = sym (look_up-find c rs) ∙ is in
     subst (λ xs. RowCame f c j rs xs) (sym e) (record {
-      fit = All-append (λ (row : Row). IsNameOf f row.0) rs ((c, j) ∷ []) fit (All-cons (λ (row : Row). IsNameOf f row.0) (c, j) [] name (All-nil (λ (row : Row). IsNameOf f row.0)));
+      fit = All-append (λ (row : DirRow). IsNameOf f row.0) rs ((c, j) ∷ []) fit (All-cons (λ (row : DirRow). IsNameOf f row.0) (c, j) [] name (All-nil (λ (row : DirRow). IsNameOf f row.0)));
       differ = subst (IsDistinct (eq_by_cmp by_bytes)) (sym (names-append rs ((c, j) ∷ [])))
           (IsDistinct-push (eq_by_cmp_equiv nat_list_cmp_total) (names_of rs) c d (sym (is_some-find by_bytes c rs) ∙ ap is_some none));
       others = λ q. find-append by_bytes nat_list_cmp_total rs c j q none;

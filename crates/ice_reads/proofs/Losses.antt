@@ -8,7 +8,7 @@ use Rattle.std.specs.FinMap.Entries.{is_sorted-where_key}
 use Rattle.std.proofs.lemmas.List.FromFn.{length-map-range_with_len}
 use Rattle.ice_base.specs.Lots.{LotView}
 use Rattle.ice_file.specs.Own.{Own}
-use Rattle.ice_dir.specs.Rows.{Row, dir_rows, look_up}
+use Rattle.ice_dir.specs.Rows.{DirRow, dir_rows, look_up}
 use Rattle.ice_dir.specs.Rows as dir
 use Rattle.tree_spec.specs.Trees.{Tree, File, Dir, Entries, Nil, Entry, rows, from_rows, by_bytes, without, without_entry, height, height_in}
 use Rattle.tree_spec.specs.Costs.{Form}
@@ -32,7 +32,7 @@ module _ (f : Form) (lot : LotView) (o : Table) where
     Reads-shift i h k (File bytes) fits r = (IsInode-shift i h k (omega arith) r.0, r.1)
     Reads-shift i h k (Dir es) fits r = (IsInode-shift i h k (omega arith) r.0, r.1, ReadsEach-shift (rows_in f (o i)) (h + 1) (k + 1) es (omega arith) r.2)
 
-    pub ReadsEach-shift : (rs : List Row) (h k : ℕ) (es : Entries) → k + height_in es ≤ deepest + 1 → ReadsEach f lot o rs h es → ReadsEach f lot o rs k es
+    pub ReadsEach-shift : (rs : List DirRow) (h k : ℕ) (es : Entries) → k + height_in es ≤ deepest + 1 → ReadsEach f lot o rs h es → ReadsEach f lot o rs k es
     ReadsEach-shift rs h k Nil fits r = tt
     ReadsEach-shift rs h k (Entry c t es) fits r = (Reads-shift (inode_named c rs) h k t (omega arith) r.0, ReadsEach-shift rs h k es (omega arith) r.1)
 
@@ -42,7 +42,7 @@ pub record LosesRow (f : Form) (lot : LotView) (x y : Own) (i h : ℕ) (c : List
   pub is_dir : y.inode.kind ≡ 2
   pub within : y.inode.size < 64 * length lot.groups
   pub less : y.inode.size + 1 ≡ x.inode.size
-  pub fit : All (λ (e : Row). IsNameOf f e.0) (rows_in f y)
+  pub fit : All (λ (e : DirRow). IsNameOf f e.0) (rows_in f y)
   pub differ : IsDistinct (eq_by_cmp by_bytes) (map (λ e. e.0) (rows_in f y))
   pub others : (q : List ℕ) → find by_bytes q (rows_in f y) ≡ cond (eq_by_cmp by_bytes c q) None (find by_bytes q (rows_in f x))
 
@@ -82,7 +82,7 @@ second : (a b : Bool) → T (a && b) → T b
 second true b h = h
 second false b h = absurd h
 
-module _ (f : Form) (o : Table) (mine : ℕ → List ℕ) (rs : List Row) (measure : List ℕ → ℕ) (adds : (xs ys : List ℕ) → measure (xs ++ ys) ≡ measure xs + measure ys) where
+module _ (f : Form) (o : Table) (mine : ℕ → List ℕ) (rs : List DirRow) (measure : List ℕ → ℕ) (adds : (xs ys : List ℕ) → measure (xs ++ ys) ≡ measure xs + measure ys) where
   pub uses_in-without : (c : List ℕ) (v : Tree) (es : Entries) → T (is_sorted by_bytes (rows es)) → find by_bytes c (rows es) ≡ Some v → measure (entries_use f o mine rs (without c es)) + measure (tree_uses f o mine (inode_named c rs) v) ≡ measure (entries_use f o mine rs es)
   uses_in-without c v Nil sorted is = absurd (None≢Some v is)
   uses_in-without c v (Entry d t es) sorted is =

@@ -9,7 +9,7 @@ use Rattle.ice_base.specs.Used.{is_data}
 use Rattle.ice_map.specs.Maps.{times}
 use Rattle.ice_map.proofs.ListLaws.{times-append}
 use Rattle.ice_map.proofs.UsesLaws.{times-has}
-use Rattle.ice_dir.specs.Rows.{Row}
+use Rattle.ice_dir.specs.Rows.{DirRow}
 use Rattle.tree_spec.specs.Trees.{Tree, File, Dir, Entries, Nil, Entry, height, height_in}
 use Rattle.tree_spec.specs.Costs.{Form}
 use Rattle.tree_spec.specs.Answers.{deepest}
@@ -25,7 +25,7 @@ module _ (f : Form) (o : Table) (mine : ℕ → List ℕ) where
     uses-flat i (File bytes) = sym (append-nil (mine i))
     uses-flat i (Dir es) = ap (λ xs. mine i ++ xs) (uses_in-flat (rows_in f (o i)) es)
 
-    pub uses_in-flat : (rs : List Row) (es : Entries) → entries_use f o mine rs es ≡ flat_map mine (inodes_in f o rs es)
+    pub uses_in-flat : (rs : List DirRow) (es : Entries) → entries_use f o mine rs es ≡ flat_map mine (inodes_in f o rs es)
     uses_in-flat rs Nil = refl
     uses_in-flat rs (Entry c t es) =
         (λ x. uses-flat (inode_named c rs) t x ++ uses_in-flat rs es x) ∙ sym (flat_map-append mine (used_inodes f o (inode_named c rs) t) (inodes_in f o rs es))
@@ -83,7 +83,7 @@ module _ (f : Form) (lot : LotView) (o : Table) (mine : ℕ → List ℕ) (k : �
     used-all i h (File bytes) r c = each i h r.0 c
     used-all i h (Dir es) r c = ⊎_elim (λ q. each i h r.0 q) (λ q. entries-all (rows_in f (o i)) (h + 1) es r.2 q) (split (mine i) (entries_use f o mine (rows_in f (o i)) es) k c)
 
-    entries-all : (rs : List Row) (h : ℕ) (es : Entries) → ReadsEach f lot o rs h es → 0 < times (entries_use f o mine rs es) k → P
+    entries-all : (rs : List DirRow) (h : ℕ) (es : Entries) → ReadsEach f lot o rs h es → 0 < times (entries_use f o mine rs es) k → P
     entries-all rs h Nil r c = absurd (omega arith)
     entries-all rs h (Entry d t es) r c =
         ⊎_elim (λ q. used-all (inode_named d rs) h t r.0 q) (λ q. entries-all rs h es r.1 q) (split (tree_uses f o mine (inode_named d rs) t) (entries_use f o mine rs es) k c)
@@ -111,6 +111,6 @@ module _ (f : Form) (lot : LotView) (o : Table) where
     Reads-depth i h (File bytes) r = omega (arith, r.0.depth)
     Reads-depth i h (Dir es) r = omega (arith, r.0.depth, ReadsEach-depth (rows_in f (o i)) (h + 1) es (omega (arith, r.0.depth)) r.2)
 
-    pub ReadsEach-depth : (rs : List Row) (h : ℕ) (es : Entries) → h ≤ deepest + 1 → ReadsEach f lot o rs h es → h + height_in es ≤ deepest + 1
+    pub ReadsEach-depth : (rs : List DirRow) (h : ℕ) (es : Entries) → h ≤ deepest + 1 → ReadsEach f lot o rs h es → h + height_in es ≤ deepest + 1
     ReadsEach-depth rs h Nil low r = omega arith
     ReadsEach-depth rs h (Entry d t es) low r = omega (arith, Reads-depth (inode_named d rs) h t r.0, ReadsEach-depth rs h es low r.1)

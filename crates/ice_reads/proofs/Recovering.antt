@@ -21,7 +21,7 @@ use Rattle.tree_spec.specs.Trees.{Tree}
 use Rattle.tree_spec.specs.Costs.{Form}
 use Rattle.ice_reads.specs.Tables.{Map, own_in}
 use Rattle.ice_reads.specs.Reads.{used_blocks, used_inodes}
-use Rattle.ice_reads.specs.Recovers.{Holds, MapRecovers}
+use Rattle.ice_reads.specs.Recovers.{HoldsTree, MapRecovers}
 use Rattle.ice_reads.proofs.Frames.{SameAt, Reads-frame, uses-frame}
 use Rattle.ice_reads.proofs.Numbers.{Reads-number, used-one}
 use Rattle.ice_reads.proofs.Rests.{own-rests}
@@ -94,7 +94,7 @@ module _ (f : Form) (lot : LotView) (m n : Map) (t : Tree)
   counted-rests : (inodes : Bool) → counted inodes n ≡ counted inodes m
   counted-rests inodes = ap (λ (block : List ℕ). word_at block (count_place inodes)) sub
 
-  module _ (h : Holds f lot m t) where
+  module _ (h : HoldsTree f lot m t) where
     same : SameAt (own_in f m) (own_in f n) (used_inodes f (own_in f m) 0 t)
     same = record {
       at = λ k c.
@@ -109,7 +109,7 @@ module _ (f : Form) (lot : LotView) (m n : Map) (t : Tree)
     inodes-rest : used_inodes f (own_in f n) 0 t ≡ used_inodes f (own_in f m) 0 t
     inodes-rest = uses-frame f (own_in f m) (own_in f n) (λ i. i ∷ []) (λ i. i ∷ []) (λ k e. refl) 0 t same
 
-    pub holds_rests : Holds f lot n t
+    pub holds_rests : HoldsTree f lot n t
     holds_rests = record {
       dir = h.dir;
       reads = Reads-frame f lot (own_in f m) (own_in f n) 0 0 t same h.reads;

@@ -14,7 +14,7 @@ use Rattle.std.proofs.lemmas.Map.Keys.{IsDistinct-push}
 use Rattle.ice_base.specs.Lots.{LotView}
 use Rattle.ice_map.specs.Maps.{times}
 use Rattle.ice_file.specs.Own.{Own}
-use Rattle.ice_dir.specs.Rows.{Row}
+use Rattle.ice_dir.specs.Rows.{DirRow}
 use Rattle.tree_spec.specs.Trees.{Tree, Dir, Entries, Nil, Entry, rows, from_rows, by_bytes, walk, Found, at, with_entry}
 use Rattle.tree_spec.specs.Costs.{Form}
 use Rattle.tree_spec.proofs.Trees.{rows-from_rows, from_rows-rows, same_name}
@@ -29,7 +29,7 @@ some_either true t o h = refl
 some_either false t o h = h
 
 -- the rows are asked at the names of the entries alone
-module _ (rs ss : List Row) where
+module _ (rs ss : List DirRow) where
   abbrev pub SameRowsAt : Entries → Type 0
   SameRowsAt es = (d : List ℕ) → is_some (find by_bytes d (rows es)) ≡ true → inode_named d ss ≡ inode_named d rs
 
@@ -48,7 +48,7 @@ module _ (rs ss : List Row) where
   uses_in-rows f o mine Nil same = refl
   uses_in-rows f o mine (Entry c t es) same = λ i. tree_uses f o mine (at_head c t es same i) t ++ uses_in-rows f o mine es (at_tail c t es same) i
 
-module _ (f : Form) (lot : LotView) (o : Table) (rs : List Row) (h : ℕ) where
+module _ (f : Form) (lot : LotView) (o : Table) (rs : List DirRow) (h : ℕ) where
   pub ReadsEach-put : (c : List ℕ) (v : Tree) (es : Entries) → ReadsEach f lot o rs h es → Reads f lot o (inode_named c rs) h v → ReadsEach f lot o rs h (from_rows (put by_bytes c v (rows es)))
   ReadsEach-put c v Nil r new = (new, tt)
   ReadsEach-put c v (Entry d t es) r new =
@@ -66,7 +66,7 @@ module _ (f : Form) (lot : LotView) (o : Table) (rs : List Row) (h : ℕ) where
         | false ↦ ReadsEach-filter keep es r.1
       ]
 
-module _ (f : Form) (o : Table) (mine : ℕ → List ℕ) (rs : List Row) (measure : List ℕ → ℕ) (adds : (xs ys : List ℕ) → measure (xs ++ ys) ≡ measure xs + measure ys) where
+module _ (f : Form) (o : Table) (mine : ℕ → List ℕ) (rs : List DirRow) (measure : List ℕ → ℕ) (adds : (xs ys : List ℕ) → measure (xs ++ ys) ≡ measure xs + measure ys) where
   pub uses_in-put : (c : List ℕ) (v : Tree) (es : Entries) → find by_bytes c (rows es) ≡ None → measure (entries_use f o mine rs (from_rows (put by_bytes c v (rows es)))) ≡ measure (tree_uses f o mine (inode_named c rs) v) + measure (entries_use f o mine rs es)
   uses_in-put c v Nil none = adds (tree_uses f o mine (inode_named c rs) v) []
   uses_in-put c v (Entry d t es) none =
@@ -101,7 +101,7 @@ module _ (f : Form) (lot : LotView) (x y : Own) (i h : ℕ) (c : List ℕ) (j : 
   alike_some true r s e = refl
   alike_some false r s e = e
 
-  map_names : (rs : List Row) → map (λ (e : Row). e.0) (rs ++ (c, j) ∷ []) ≡ map (λ (e : Row). e.0) rs ++ c ∷ []
+  map_names : (rs : List DirRow) → map (λ (e : DirRow). e.0) (rs ++ (c, j) ∷ []) ≡ map (λ (e : DirRow). e.0) rs ++ c ∷ []
   map_names [] = refl
   map_names (e ∷ rs) = ap (λ xs. e.0 ∷ xs) (map_names rs)
 
@@ -109,7 +109,7 @@ module _ (f : Form) (lot : LotView) (x y : Own) (i h : ℕ) (c : List ℕ) (j : 
   IsDirInode-put name none a d = record {
     is_dir = a.is_dir;
     within = a.within;
-    fit = subst (λ rs. All (λ (e : Row). IsNameOf f e.0) rs) (sym a.added) (All-append (λ (e : Row). IsNameOf f e.0) (rows_in f x) ((c, j) ∷ []) d.fit (All-cons (λ (e : Row). IsNameOf f e.0) (c, j) [] name (All-nil (λ (e : Row). IsNameOf f e.0))));
+    fit = subst (λ rs. All (λ (e : DirRow). IsNameOf f e.0) rs) (sym a.added) (All-append (λ (e : DirRow). IsNameOf f e.0) (rows_in f x) ((c, j) ∷ []) d.fit (All-cons (λ (e : DirRow). IsNameOf f e.0) (c, j) [] name (All-nil (λ (e : DirRow). IsNameOf f e.0))));
     differ = subst (λ rs. IsDistinct (eq_by_cmp by_bytes) (map (λ e. e.0) rs)) (sym a.added)
         (subst (IsDistinct (eq_by_cmp by_bytes)) (sym (map_names (rows_in f x)))
         (IsDistinct-push (eq_by_cmp_equiv nat_list_cmp_total) (map (λ e. e.0) (rows_in f x)) c d.differ (sym (is_some-find by_bytes c (rows_in f x)) ∙ ap is_some (no_row d none))));

@@ -4,7 +4,7 @@ use Rattle.std.specs.Prelude.{is_some}
 use Rattle.std.specs.Ordering.{eq_by_cmp}
 use Rattle.std.specs.FinMap.{find}
 use Rattle.ice_base.specs.Lots.{LotView}
-use Rattle.ice_dir.specs.Rows.{Row}
+use Rattle.ice_dir.specs.Rows.{DirRow}
 use Rattle.tree_spec.specs.Trees.{Tree, File, Dir, Entries, Nil, Entry, rows, by_bytes}
 use Rattle.tree_spec.specs.Costs.{Form}
 use Rattle.tree_spec.proofs.Trees.{same_look_ups, same_name}
@@ -32,7 +32,7 @@ module _ (f : Form) (lot : LotView) (o : Table) where
         same_option (find by_bytes q (rows es)) (find by_bytes q (rows fs)) (r.1.maps q ∙ sym (s.1.maps q))
         (λ v w a b. ReadsEach-unique es (rows_in f (o i)) (h + 1) (k + 1) q v w r.2 a (entry_reads f lot o (rows_in f (o i)) (k + 1) q fs w b s.2))))
 
-    ReadsEach-unique : (es : Entries) (rs : List Row) (h k : ℕ) (q : List ℕ) (v w : Tree) → ReadsEach f lot o rs h es → find by_bytes q (rows es) ≡ Some v → Reads f lot o (inode_named q rs) k w → v ≡ w
+    ReadsEach-unique : (es : Entries) (rs : List DirRow) (h k : ℕ) (q : List ℕ) (v w : Tree) → ReadsEach f lot o rs h es → find by_bytes q (rows es) ≡ Some v → Reads f lot o (inode_named q rs) k w → v ≡ w
     ReadsEach-unique Nil rs h k q v w r is s = absurd (None≢Some v is)
     ReadsEach-unique (Entry c t es) rs h k q v w r is s =
         elim (eq_by_cmp by_bytes q c) as (λ b. eq_by_cmp by_bytes q c ≡ b → cond b (Some t) (find by_bytes q (rows es)) ≡ Some v → v ≡ w) [

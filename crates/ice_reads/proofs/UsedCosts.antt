@@ -12,7 +12,7 @@ use Rattle.ice_map.specs.Maps.{indirect_of, longest}
 use Rattle.ice_file.specs.Own.{Own, blocks_for, map_length, file_bytes}
 use Rattle.ice_file.specs.Writes.{uses_of}
 use Rattle.ice_file.proofs.OwnLaws.{length-uses}
-use Rattle.ice_dir.specs.Rows.{Row}
+use Rattle.ice_dir.specs.Rows.{DirRow}
 use Rattle.tree_spec.specs.Trees.{Tree, File, Dir, Entries, Nil, Entry, rows, total_in}
 use Rattle.tree_spec.specs.Costs.{Form, form_one, form_two, form_of, map_cost, file_blocks, dir_blocks, blocks, rounded_up}
 use Rattle.ice_reads.specs.Tables.{Map, Table, rows_in, own_in, own_long_of, indirects_long, nth_long, inode_named, IsFileInode, IsDirInode}
@@ -91,7 +91,7 @@ module _ (f : Form) (lot : LotView) (o : Table) (file : (i : ℕ) (bytes : List 
     used-tree i h (File bytes) r = file i bytes r.1
     used-tree i h (Dir es) r = omega (arith, dir i es r.1, length-append (o i).uses (entries_use f o (λ i. (o i).uses) (rows_in f (o i)) es), used-each (rows_in f (o i)) (h + 1) es r.2)
 
-    used-each : (rs : List Row) (h : ℕ) (es : Entries) → ReadsEach f lot o rs h es → length (entries_use f o (λ i. (o i).uses) rs es) ≡ total_in (λ bytes. map_cost (file_blocks (length bytes))) (λ entries. map_cost (dir_blocks f entries)) es
+    used-each : (rs : List DirRow) (h : ℕ) (es : Entries) → ReadsEach f lot o rs h es → length (entries_use f o (λ i. (o i).uses) rs es) ≡ total_in (λ bytes. map_cost (file_blocks (length bytes))) (λ entries. map_cost (dir_blocks f entries)) es
     used-each rs h Nil r = refl
     used-each rs h (Entry c t es) r =
         omega (arith, length-append (used_blocks f o (inode_named c rs) t) (entries_use f o (λ i. (o i).uses) rs es), used-tree (inode_named c rs) h t r.0, used-each rs h es r.1)

@@ -4,7 +4,7 @@ use Rattle.std.specs.Ordering.{eq_by_cmp}
 use Rattle.std.specs.FinMap.{find}
 use Rattle.ice_map.specs.Maps.{times}
 use Rattle.ice_map.proofs.ListLaws.{times-append}
-use Rattle.ice_dir.specs.Rows.{Row}
+use Rattle.ice_dir.specs.Rows.{DirRow}
 use Rattle.tree_spec.specs.Trees.{Tree, File, Dir, Entries, Nil, Entry, rows, by_bytes, walk, and_on, found_or_not, Found}
 use Rattle.tree_spec.specs.Costs.{Form}
 use Rattle.tree_spec.proofs.Trees.{same_name, is_same_name-sym}
@@ -17,11 +17,11 @@ module _ (f : Form) (o : Table) (mine : ℕ → List ℕ) (k : ℕ) where
   uses-own i (File bytes) = omega arith
   uses-own i (Dir es) = omega (arith, times-append (mine i) (entries_use f o mine (rows_in f (o i)) es) k)
 
-  abbrev Sum : List Row → List ℕ → List ℕ → Tree → Tree → Entries → Type 0
+  abbrev Sum : List DirRow → List ℕ → List ℕ → Tree → Tree → Entries → Type 0
   Sum rs c d u v es = times (tree_uses f o mine (inode_named c rs) u) k + times (tree_uses f o mine (inode_named d rs) v) k ≤ times (entries_use f o mine rs es) k
 
   -- the first entry is c's
-  with_first : (rs : List Row) (c x d : List ℕ) (t u v : Tree) (es : Entries) → c ≡ x → t ≡ u → find by_bytes d (rows es) ≡ Some v → Sum rs c d u v (Entry x t es)
+  with_first : (rs : List DirRow) (c x d : List ℕ) (t u v : Tree) (es : Entries) → c ≡ x → t ≡ u → find by_bytes d (rows es) ≡ Some v → Sum rs c d u v (Entry x t es)
   with_first rs c x d t u v es is same found =
       omega (
         arith,
@@ -31,7 +31,7 @@ module _ (f : Form) (o : Table) (mine : ℕ → List ℕ) (k : ℕ) where
         ap (λ y. times (tree_uses f o mine (inode_named x rs) y) k) same,
       )
 
-  two_entries : (rs : List Row) (c d : List ℕ) (u v : Tree) (es : Entries) → eq_by_cmp by_bytes c d ≡ false → eq_by_cmp by_bytes d c ≡ false → find by_bytes c (rows es) ≡ Some u → find by_bytes d (rows es) ≡ Some v → Sum rs c d u v es
+  two_entries : (rs : List DirRow) (c d : List ℕ) (u v : Tree) (es : Entries) → eq_by_cmp by_bytes c d ≡ false → eq_by_cmp by_bytes d c ≡ false → find by_bytes c (rows es) ≡ Some u → find by_bytes d (rows es) ≡ Some v → Sum rs c d u v es
   two_entries rs c d u v Nil cd dc is js = absurd (None≢Some u is)
   two_entries rs c d u v (Entry x t es) cd dc is js =
       elim (eq_by_cmp by_bytes c x) as (λ b. eq_by_cmp by_bytes c x ≡ b → cond b (Some t) (find by_bytes c (rows es)) ≡ Some u → Sum rs c d u v (Entry x t es)) [

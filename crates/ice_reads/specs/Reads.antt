@@ -1,7 +1,7 @@
 -- That an inode stands for a tree, and what the tree uses.
 use Rattle.std.specs.Prelude.{ℕ, ◌+◌, ⊤, List, [], ◌∷◌, ◌++◌}
 use Rattle.ice_base.specs.Lots.{LotView}
-use Rattle.ice_dir.specs.Rows.{Row}
+use Rattle.ice_dir.specs.Rows.{DirRow}
 use Rattle.tree_spec.specs.Trees.{Tree, File, Dir, Entries, Nil, Entry}
 use Rattle.tree_spec.specs.Costs.{Form}
 use Rattle.ice_reads.specs.Tables.{Table, rows_in, IsInode, IsFileInode, IsDirInode, inode_named}
@@ -13,7 +13,7 @@ abbrev mutual
   Reads f lot o i h (Dir es) = IsInode f lot (o i) i h × IsDirInode f lot (o i) es × ReadsEach f lot o (rows_in f (o i)) (h + 1) es
 
   -- the tree of each name is what the inode in the name's row stands for
-  pub ReadsEach : Form → LotView → Table → List Row → ℕ → Entries → Type 0
+  pub ReadsEach : Form → LotView → Table → List DirRow → ℕ → Entries → Type 0
   ReadsEach f lot o rs h Nil = ⊤
   ReadsEach f lot o rs h (Entry c t es) = Reads f lot o (inode_named c rs) h t × ReadsEach f lot o rs h es
 
@@ -23,7 +23,7 @@ abbrev mutual
   tree_uses f o mine i (File bytes) = mine i
   tree_uses f o mine i (Dir es) = mine i ++ entries_use f o mine (rows_in f (o i)) es
 
-  pub entries_use : Form → Table → (ℕ → List ℕ) → List Row → Entries → List ℕ
+  pub entries_use : Form → Table → (ℕ → List ℕ) → List DirRow → Entries → List ℕ
   entries_use f o mine rs Nil = []
   entries_use f o mine rs (Entry c t es) = tree_uses f o mine (inode_named c rs) t ++ entries_use f o mine rs es
 

@@ -20,7 +20,7 @@ pub record SubSays (f : Form) (strictness slot : ℕ) (bytes : List ℕ) (count 
 
 -- Inode 0 stands for the tree, which is a directory. Each block and inode stands in what the tree uses as often as its bit says, once or never,
 -- so that none is used twice and just the used ones are marked. The two counts are the numbers of used blocks and inodes.
-pub record Holds (f : Form) (lot : LotView) (m : Map) (t : Tree) : Type 0 where
+pub record HoldsTree (f : Form) (lot : LotView) (m : Map) (t : Tree) : Type 0 where
   pub dir : is_dir t ≡ true
   pub reads : Reads f lot (own_in f m) 0 0 t
   pub reserved : Reserved lot m
@@ -32,4 +32,4 @@ pub record Holds (f : Form) (lot : LotView) (m : Map) (t : Tree) : Type 0 where
 -- The map holds the tree, and its sub-super block says the form, the mode and the count.
 pub record MapRecovers (f : Form) (mode : ℕ) (lot : LotView) (m : Map) (t : Tree) (done : ℕ) : Type 0 where
   pub sub : SubSays f mode lot.slot (m sub_address) done
-  pub holds : Holds f lot m t
+  pub holds : HoldsTree f lot m t

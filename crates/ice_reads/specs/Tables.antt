@@ -11,7 +11,7 @@ use Rattle.ice_map.specs.declared.codec.Inode.{Inode}
 use Rattle.ice_map.specs.Inodes.{inode_of}
 use Rattle.ice_map.specs.Maps.{nth_block, indirect_of, longest}
 use Rattle.ice_file.specs.Own.{Own, own, map_length, file_bytes}
-use Rattle.ice_dir.specs.Rows.{Row, dir_rows}
+use Rattle.ice_dir.specs.Rows.{DirRow, dir_rows}
 use Rattle.tree_spec.specs.Trees.{Entries, rows, by_bytes}
 use Rattle.tree_spec.specs.Costs.{Form, rounded_up}
 use Rattle.tree_spec.specs.Names.{is_name}
@@ -53,7 +53,7 @@ own_in f m number =
     else own (entry_bytes f) m number
 
 -- the rows of a directory: names and the inodes that they name, in the order of its entries
-abbrev pub rows_in : Form → Own → List Row
+abbrev pub rows_in : Form → Own → List DirRow
 rows_in f o = dir_rows (entry_bytes f) o
 
 -- the pointers that a map of `count` blocks doesn't use are 0
@@ -84,12 +84,12 @@ pub record IsNameOf (f : Form) (c : List ℕ) : Type 0 where
 pub record IsDirInode (f : Form) (lot : LotView) (o : Own) (es : Entries) : Type 0 where
   pub is_dir : o.inode.kind ≡ 2
   pub within : o.inode.size < 64 * length lot.groups
-  pub fit : All (λ (row : Row). IsNameOf f row.0) (rows_in f o)
-  pub differ : IsDistinct (eq_by_cmp by_bytes) (map (λ (row : Row). row.0) (rows_in f o))
+  pub fit : All (λ (row : DirRow). IsNameOf f row.0) (rows_in f o)
+  pub differ : IsDistinct (eq_by_cmp by_bytes) (map (λ (row : DirRow). row.0) (rows_in f o))
   pub sorted : T (is_sorted by_bytes (rows es))
   pub maps : (c : List ℕ) → is_some (find by_bytes c (rows es)) ≡ is_some (find by_bytes c (rows_in f o))
   pub count : length (rows es) ≡ o.inode.size
 
 -- the inode in the row of this name
-abbrev pub inode_named : List ℕ → List Row → ℕ
+abbrev pub inode_named : List ℕ → List DirRow → ℕ
 inode_named c rs = unwrap_or (find by_bytes c rs) 0

@@ -9,10 +9,10 @@ use Rattle.tree_spec.specs.declared.reply.CubeRow.{CubeRow}
 use Rattle.tree_spec.specs.Lines.{Line, Asks, asked}
 use Rattle.tree_spec.specs.Lines as request
 use Rattle.tree_spec.specs.Replies.{Response, Listed, HasNames}
-use Rattle.tree_spec.specs.World.{World, Step, rows_of, row_at}
+use Rattle.tree_spec.specs.World.{World, Step, cube_rows, cube_row_at}
 use Rattle.ice_text.specs.Text.{text, closings, lines_in}
 use Rattle.ice_text.proofs.Closings.{closings-text-append}
-use Rattle.ice_run.specs.Runs.{Answered, AllNamed, Runs, end, lines_of, texts, IsProperPrefix}
+use Rattle.ice_run.specs.Runs.{Answered, AllNamed, Runs, end, lines_of, reply_texts, IsProperPrefix}
 
 -- one more line
 pub push : List Answered → Line → Response → World → List Answered
@@ -33,14 +33,14 @@ unfolding push
 lines_of-push [] line r v = refl
 lines_of-push (a ∷ rest) line r v = ap (λ (x : List Line). a.line ∷ x) (lines_of-push rest line r v)
 
-pub texts-push : (steps : List Answered) (line : Line) (r : Response) (v : World) → texts (push steps line r v) ≡ texts steps ++ text r
+pub texts-push : (steps : List Answered) (line : Line) (r : Response) (v : World) → reply_texts (push steps line r v) ≡ reply_texts steps ++ text r
 unfolding push
 texts-push [] line r v = append_nil (text r)
   where
     append_nil : (xs : List ℕ) → xs ++ [] ≡ xs
     append_nil [] = refl
     append_nil (x ∷ xs) = ap (λ (y : List ℕ). x ∷ y) (append_nil xs)
-texts-push (a ∷ rest) line r v = ap (λ (x : List ℕ). text a.reply ++ x) (texts-push rest line r v) ∙ sym (append_assoc (text a.reply) (texts rest) (text r))
+texts-push (a ∷ rest) line r v = ap (λ (x : List ℕ). text a.reply ++ x) (texts-push rest line r v) ∙ sym (append_assoc (text a.reply) (reply_texts rest) (text r))
 
 pub named-push : (steps : List Answered) (line : Line) (r : Response) (v : World) → AllNamed steps → HasNames r → AllNamed (push steps line r v)
 unfolding push
@@ -58,22 +58,22 @@ unfolding lines_in
 closings-none = refl
 
 -- as many closing lines as whole replies
-pub closings-texts : (steps : List Answered) (tail : List ℕ) → AllNamed steps → closings tail ≡ 0 → closings (texts steps ++ tail) ≡ length steps
+pub closings-texts : (steps : List Answered) (tail : List ℕ) → AllNamed steps → closings tail ≡ 0 → closings (reply_texts steps ++ tail) ≡ length steps
 closings-texts [] tail named none = none
 closings-texts (a ∷ rest) tail named none =
-    ap closings (append_assoc (text a.reply) (texts rest) tail) ∙ closings-text-append a.reply (texts rest ++ tail) named.0 ∙ ap suc (closings-texts rest tail named.1 none)
+    ap closings (append_assoc (text a.reply) (reply_texts rest) tail) ∙ closings-text-append a.reply (reply_texts rest ++ tail) named.0 ∙ ap suc (closings-texts rest tail named.1 none)
 
 -- a front of a text that is shorter than it
 pub front : (xs : List ℕ) (m : ℕ) → m < length xs → IsProperPrefix (take m xs) xs
 front xs m less = (drop m xs, omega (arith, length-drop m xs), sym (take-append-drop m xs))
 
 -- a volume without cubes lists none
-none_listed : (w : World) (slots : List ℕ) → ((slot : ℕ) → w.cube slot ≡ None) → flat_map (λ slot. row_at slot (w.cube slot)) slots ≡ []
+none_listed : (w : World) (slots : List ℕ) → ((slot : ℕ) → w.cube slot ≡ None) → flat_map (λ slot. cube_row_at slot (w.cube slot)) slots ≡ []
 none_listed w [] free = refl
 none_listed w (slot ∷ slots) free = rw (free slot) (none_listed w slots free)
 
-pub rows_of-none : (w : World) → ((slot : ℕ) → w.cube slot ≡ None) → rows_of w ≡ []
-unfolding rows_of
+pub rows_of-none : (w : World) → ((slot : ℕ) → w.cube slot ≡ None) → cube_rows w ≡ []
+unfolding cube_rows
 rows_of-none w free = none_listed w (range_with_len 0 w.slots) free
 
 -- the listing of a volume without cubes

@@ -6,7 +6,7 @@ use Rattle.std.proofs.lemmas.List.{map-append, length-take}
 use Rattle.tree_spec.specs.Lines.{Line}
 use Rattle.ice_script.specs.Grammar.{line_of}
 use Rattle.ice_script.proofs.Kept.{line_of-take, take-take-push}
-use Rattle.ice_run.specs.Scripts.{Cut, add_byte, cut_of, closed, ended_lines, script_lines}
+use Rattle.ice_run.specs.Scripts.{LinesAndRest, add_byte, cut_of, closed, ended_lines, script_lines}
 
 fold-append : {A X : Type 0} (f : A → X → A) (a : A) (xs ys : List X) → fold f a (xs ++ ys) ≡ fold f (fold f a xs) ys
 fold-append f a [] ys = refl
@@ -25,13 +25,13 @@ is_lf : (b : ℕ) → b ≡ 10 → nat_eq b 10 ≡ true
 is_lf b is = grind (arith, nat_tests, is)
 
 -- what was ended stays ended, whatever comes behind
-grows_by : (c : Cut) (bytes : List ℕ) → (more : List (List ℕ)) × (closed (fold add_byte c bytes) ≡ c.lines ++ more)
+grows_by : (c : LinesAndRest) (bytes : List ℕ) → (more : List (List ℕ)) × (closed (fold add_byte c bytes) ≡ c.lines ++ more)
 grows_by c [] = byte_cases
     (λ b. (more : List (List ℕ)) × ((if b then c.lines else c.lines ++ c.rest ∷ []) ≡ c.lines ++ more))
     (nat_eq (length c.rest) 0) ([], sym (nil_append c.lines)) (c.rest ∷ [], refl)
 grows_by c (b ∷ bytes) =
-    let ended : Cut = record { lines = c.lines ++ c.rest ∷ []; rest = [] } in
-    let longer : Cut = record { lines = c.lines; rest = c.rest ++ b ∷ [] } in
+    let ended : LinesAndRest = record { lines = c.lines ++ c.rest ∷ []; rest = [] } in
+    let longer : LinesAndRest = record { lines = c.lines; rest = c.rest ++ b ∷ [] } in
     let then_ = grows_by ended bytes in
     byte_cases
     (λ t. (more : List (List ℕ)) × (closed (fold add_byte (if t then ended else longer) bytes) ≡ c.lines ++ more))
@@ -56,11 +56,11 @@ pub next_line : (input taken ahead text : List ℕ) (b : ℕ) → b ≡ 10 → i
 unfolding cut_of
 next_line input taken ahead text b lf is holds =
     let c = cut_of taken in
-    let ended : Cut = record { lines = c.lines ++ c.rest ∷ []; rest = [] } in
+    let ended : LinesAndRest = record { lines = c.lines ++ c.rest ∷ []; rest = [] } in
     let grown = grows_by ended ahead in
     let line : line_of text ≡ line_of c.rest = ap line_of holds ∙ line_of-take c.rest in
     let first : add_byte c b ≡ ended = ap (λ (t : Bool). if t then ended else record { lines = c.lines; rest = c.rest ++ b ∷ [] }) (is_lf b lf) in
-    let whole : closed (cut_of input) ≡ (c.lines ++ c.rest ∷ []) ++ grown.0 = ap (λ (x : List ℕ). closed (cut_of x)) is ∙ ap closed (fold-append add_byte _ taken (b ∷ ahead)) ∙ ap (λ (x : Cut). closed (fold add_byte x ahead)) first ∙ grown.1 in (
+    let whole : closed (cut_of input) ≡ (c.lines ++ c.rest ∷ []) ++ grown.0 = ap (λ (x : List ℕ). closed (cut_of x)) is ∙ ap closed (fold-append add_byte _ taken (b ∷ ahead)) ∙ ap (λ (x : LinesAndRest). closed (fold add_byte x ahead)) first ∙ grown.1 in (
       map line_of grown.0,
       ap (λ (x : List (List ℕ)). map line_of x) whole ∙ map-append line_of (c.lines ++ c.rest ∷ []) grown.0 ∙ ap (λ (x : List Line). x ++ map line_of grown.0) (map-append line_of c.lines (c.rest ∷ []))
           ∙ append_assoc (map line_of c.lines) (line_of c.rest ∷ []) (map line_of grown.0) ∙ ap (λ (x : Line). map line_of c.lines ++ x ∷ map line_of grown.0) (sym line),
@@ -69,19 +69,19 @@ next_line input taken ahead text b lf is holds =
 -- and then it is ended
 pub ended_lines-ended : (taken text : List ℕ) (b : ℕ) → b ≡ 10 → text ≡ take 40001 (cut_of taken).rest → ended_lines (taken ++ b ∷ []) ≡ ended_lines taken ++ line_of text ∷ []
 ended_lines-ended taken text b is_lf holds =
-    ap (λ (c : Cut). map line_of c.lines) (cut_of-ended taken b is_lf) ∙ map-append line_of (cut_of taken).lines ((cut_of taken).rest ∷ [])
+    ap (λ (c : LinesAndRest). map line_of c.lines) (cut_of-ended taken b is_lf) ∙ map-append line_of (cut_of taken).lines ((cut_of taken).rest ∷ [])
     ∙ ap (λ (x : Line). map line_of (cut_of taken).lines ++ x ∷ []) (sym (ap line_of holds ∙ line_of-take (cut_of taken).rest))
 
 pub rest-ended : (taken : List ℕ) (b : ℕ) → b ≡ 10 → [] ≡ take 40001 (cut_of (taken ++ b ∷ [])).rest
-rest-ended taken b is_lf = sym (ap (λ (c : Cut). take 40001 c.rest) (cut_of-ended taken b is_lf))
+rest-ended taken b is_lf = sym (ap (λ (c : LinesAndRest). take 40001 c.rest) (cut_of-ended taken b is_lf))
 
 -- another byte ends no line
 pub ended_lines-other : (taken : List ℕ) (b : ℕ) → nat_eq b 10 ≡ false → ended_lines (taken ++ b ∷ []) ≡ ended_lines taken
-ended_lines-other taken b other = ap (λ (c : Cut). map line_of c.lines) (cut_of-other taken b other)
+ended_lines-other taken b other = ap (λ (c : LinesAndRest). map line_of c.lines) (cut_of-other taken b other)
 
 pub rest-other : (taken old new : List ℕ) (b : ℕ) → nat_eq b 10 ≡ false → old ≡ take 40001 (cut_of taken).rest → new ≡ take 40001 (old ++ b ∷ []) → new ≡ take 40001 (cut_of (taken ++ b ∷ [])).rest
 rest-other taken old new b other holds is =
-    is ∙ ap (λ (x : List ℕ). take 40001 (x ++ b ∷ [])) holds ∙ take-take-push (cut_of taken).rest b 40001 ∙ sym (ap (λ (c : Cut). take 40001 c.rest) (cut_of-other taken b other))
+    is ∙ ap (λ (x : List ℕ). take 40001 (x ++ b ∷ [])) holds ∙ take-take-push (cut_of taken).rest b 40001 ∙ sym (ap (λ (c : LinesAndRest). take 40001 c.rest) (cut_of-other taken b other))
 
 -- nothing stands behind the last LF where the reader holds nothing
 same_emptiness : (rest text : List ℕ) → text ≡ take 40001 rest → nat_eq (length rest) 0 ≡ nat_eq (length text) 0
@@ -104,6 +104,6 @@ unfolding cut_of
 lines_ahead input taken ahead is =
     let grown = grows_by (cut_of taken) ahead in (
       map line_of grown.0,
-      ap (λ (x : List ℕ). map line_of (closed (cut_of x))) is ∙ ap (λ (x : Cut). map line_of (closed x)) (fold-append add_byte _ taken ahead)
+      ap (λ (x : List ℕ). map line_of (closed (cut_of x))) is ∙ ap (λ (x : LinesAndRest). map line_of (closed x)) (fold-append add_byte _ taken ahead)
           ∙ ap (λ (x : List (List ℕ)). map line_of x) grown.1 ∙ map-append line_of (cut_of taken).lines grown.0,
     )

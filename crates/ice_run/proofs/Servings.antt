@@ -9,11 +9,11 @@ use Rattle.tree_spec.specs.Lines.{Line}
 use Rattle.tree_spec.specs.World.{World}
 use Rattle.ice_script.specs.Reading.{Gathered}
 use Rattle.ice_text.specs.Text.{closings}
-use Rattle.ice_run.specs.Images.{Fits, Stands}
-use Rattle.ice_run.specs.Runs.{end, texts, Left}
+use Rattle.ice_run.specs.Images.{IsVolumeOf, Stands}
+use Rattle.ice_run.specs.Runs.{end, reply_texts, LeftByRun}
 use Rattle.ice_run.specs.Scripts.{script_lines, ended_lines, longest_script, cut_of}
 use Rattle.ice_run.specs.Pieces.{TookOnly, TookPiece}
-use Rattle.ice_run.specs.Sessions.{Gave, SoFar, CutShort, Serving}
+use Rattle.ice_run.specs.Sessions.{GaveReplies, SoFar, CutShort, Serving}
 use Rattle.ice_run.specs.Servings.{Fed, Served}
 use Rattle.ice_run.proofs.Runs.{closings-texts, closings-none}
 use Rattle.ice_run.proofs.Scripts.{lines_ahead}
@@ -23,25 +23,25 @@ append_nil [] = refl
 append_nil (x ∷ xs) = ap (λ (y : List ℕ). x ∷ y) (append_nil xs)
 
 -- whole replies were given, and the image is a volume of the world that they lead to
-pub between_lines : (w : World) (script lines ahead : List Line) (old mid : DiskState) (image : Image) (out : List ℕ) → Gave w lines [] old mid → script ≡ lines ++ ahead → Fits w image → out ≡ mid.streams.aside
-    → Left old.streams.aside w script image out
+pub between_lines : (w : World) (script lines ahead : List Line) (old mid : DiskState) (image : Image) (out : List ℕ) → GaveReplies w lines [] old mid → script ≡ lines ++ ahead → IsVolumeOf w image → out ≡ mid.streams.aside
+    → LeftByRun old.streams.aside w script image out
 between_lines w script lines ahead old mid image out gave is fits same = (
-  texts gave.steps,
-  same ∙ gave.gives ∙ append_nil (old.streams.aside ++ texts gave.steps),
+  reply_texts gave.steps,
+  same ∙ gave.gives ∙ append_nil (old.streams.aside ++ reply_texts gave.steps),
   record {
     steps = gave.steps;
     runs = record { runs = gave.runs; ahead = ahead; lines = is ∙ ap (λ (x : List Line). x ++ ahead) (sym gave.asked) };
     tail = [];
-    gives = sym (append_nil (texts gave.steps));
-    count = ap closings (sym (append_nil (texts gave.steps))) ∙ closings-texts gave.steps [] gave.named closings-none;
+    gives = sym (append_nil (reply_texts gave.steps));
+    count = ap closings (sym (append_nil (reply_texts gave.steps))) ∙ closings-texts gave.steps [] gave.named closings-none;
     front = inl refl;
     world = end w gave.steps;
     reached = inl refl;
-    holds = subst (λ v. Fits v image) (sym gave.stays) fits;
+    holds = subst (λ v. IsVolumeOf v image) (sym gave.stays) fits;
   },
 )
 
-gave_still : (w : World) (lines : List Line) (tail : List ℕ) (old mid new : DiskState) → Gave w lines tail old mid → new.streams.aside ≡ mid.streams.aside → Gave w lines tail old new
+gave_still : (w : World) (lines : List Line) (tail : List ℕ) (old mid new : DiskState) → GaveReplies w lines tail old mid → new.streams.aside ≡ mid.streams.aside → GaveReplies w lines tail old new
 gave_still w lines tail old mid new gave same = record { steps = gave.steps; runs = gave.runs; asked = gave.asked; named = gave.named; gives = same ∙ gave.gives; stays = gave.stays }
 
 module _ {D : Type 0} (state : D → DiskState) (left : D → ℕ → Image → List ℕ → Type 0) (w : World) where
@@ -62,7 +62,7 @@ module _ {D : Type 0} (state : D → DiskState) (left : D → ℕ → Image → 
     crash = record {
       each = λ t image out l. ⊎_elim
           (λ before. so_far.crash.each t image out before)
-          (λ here. inr (between_lines w script lines ahead (state start) (state mid) image out so_far.gave is (every_kept Everywhere (Fits w) (state start) (state mid) so_far.kept stands.fits image here.0) here.1))
+          (λ here. inr (between_lines w script lines ahead (state start) (state mid) image out so_far.gave is (every_kept Everywhere (IsVolumeOf w) (state start) (state mid) so_far.kept stands.fits image here.0) here.1))
           (leaves.left_new t image out l);
     };
   }

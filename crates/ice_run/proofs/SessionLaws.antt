@@ -10,9 +10,9 @@ use Rattle.tree_spec.specs.Replies.{Response, HasNames}
 use Rattle.tree_spec.specs.World.{World, Step}
 use Rattle.ice_text.specs.Text.{text, closings}
 use Rattle.ice_text.proofs.Closings.{closings-part}
-use Rattle.ice_run.specs.Images.{Fits, Stands}
-use Rattle.ice_run.specs.Runs.{Answered, end, lines_of, texts, Left}
-use Rattle.ice_run.specs.Sessions.{Gave, SoFar, CutShort}
+use Rattle.ice_run.specs.Images.{IsVolumeOf, Stands}
+use Rattle.ice_run.specs.Runs.{Answered, end, lines_of, reply_texts, LeftByRun}
+use Rattle.ice_run.specs.Sessions.{GaveReplies, SoFar, CutShort}
 use Rattle.ice_run.proofs.Runs.{push, named-push, closings-texts, closings-none, runs-push, end-push, lines_of-push, texts-push, front}
 
 pub on_ok : {T E P Q : Type 0} (r : Result T E) → (P → Q) → OnOk r P → OnOk r Q
@@ -41,7 +41,7 @@ take_same xs n is = grind (arith, take_all)
 same_or_less : (m n : ℕ) → m ≤ n → (m < n) ⊎ (m ≡ n)
 same_or_less m n le = grind arith
 
-module _ (w : World) (script lines ahead : List Line) (line : Line) (r : Response) (old mid : DiskState) (gave : Gave w lines [] old mid) (is : script ≡ lines ++ line ∷ ahead) (step : Step w line r w) (names : HasNames r) where
+module _ (w : World) (script lines ahead : List Line) (line : Line) (r : Response) (old mid : DiskState) (gave : GaveReplies w lines [] old mid) (is : script ≡ lines ++ line ∷ ahead) (step : Step w line r w) (names : HasNames r) where
   more_steps : List Answered
   more_steps = push gave.steps line r w
 
@@ -52,33 +52,33 @@ module _ (w : World) (script lines ahead : List Line) (line : Line) (r : Respons
   step_on = subst (λ v. Step v line r w) (sym gave.stays) step
 
   -- all of the reply was given
-  pub gave_more : (new : DiskState) → new.streams.aside ≡ mid.streams.aside ++ text r → Gave w (lines ++ line ∷ []) [] old new
+  pub gave_more : (new : DiskState) → new.streams.aside ≡ mid.streams.aside ++ text r → GaveReplies w (lines ++ line ∷ []) [] old new
   unfolding more_steps
   gave_more new all = record {
     steps = more_steps;
     runs = runs-push w gave.steps line r w gave.runs step_on;
     named = named-push gave.steps line r w gave.named names;
     asked = lines_of-push gave.steps line r w ∙ ap (λ (x : List Line). x ++ line ∷ []) gave.asked;
-    gives = shifted old.streams.aside (texts gave.steps) mid.streams.aside (text r) new.streams.aside gave.gives all
-        ∙ ap (λ (x : List ℕ). old.streams.aside ++ x) (sym (texts-push gave.steps line r w)) ∙ sym (append_nil (old.streams.aside ++ texts more_steps));
+    gives = shifted old.streams.aside (reply_texts gave.steps) mid.streams.aside (text r) new.streams.aside gave.gives all
+        ∙ ap (λ (x : List ℕ). old.streams.aside ++ x) (sym (texts-push gave.steps line r w)) ∙ sym (append_nil (old.streams.aside ++ reply_texts more_steps));
     stays = end-push w gave.steps line r w;
   }
 
   -- a front of the reply was given
-  pub gave_part : (new : DiskState) (m : ℕ) → new.streams.aside ≡ mid.streams.aside ++ take m (text r) → Gave w lines (take m (text r)) old new
+  pub gave_part : (new : DiskState) (m : ℕ) → new.streams.aside ≡ mid.streams.aside ++ take m (text r) → GaveReplies w lines (take m (text r)) old new
   gave_part new m part = record {
     steps = gave.steps;
     runs = gave.runs;
     asked = gave.asked;
     named = gave.named;
-    gives = shifted old.streams.aside (texts gave.steps) mid.streams.aside (take m (text r)) new.streams.aside gave.gives part ∙ sym (append_assoc old.streams.aside (texts gave.steps) (take m (text r)));
+    gives = shifted old.streams.aside (reply_texts gave.steps) mid.streams.aside (take m (text r)) new.streams.aside gave.gives part ∙ sym (append_assoc old.streams.aside (reply_texts gave.steps) (take m (text r)));
     stays = gave.stays;
   }
 
-  left_part : (image : Image) (out : List ℕ) (m : ℕ) → Fits w image → m < length (text r) → out ≡ mid.streams.aside ++ take m (text r) → Left old.streams.aside w script image out
+  left_part : (image : Image) (out : List ℕ) (m : ℕ) → IsVolumeOf w image → m < length (text r) → out ≡ mid.streams.aside ++ take m (text r) → LeftByRun old.streams.aside w script image out
   left_part image out m fits less part = (
-    texts gave.steps ++ take m (text r),
-    shifted old.streams.aside (texts gave.steps) mid.streams.aside (take m (text r)) out gave.gives part,
+    reply_texts gave.steps ++ take m (text r),
+    shifted old.streams.aside (reply_texts gave.steps) mid.streams.aside (take m (text r)) out gave.gives part,
     record {
       steps = gave.steps;
       runs = record { runs = gave.runs; ahead = line ∷ ahead; lines = first_lines };
@@ -88,15 +88,15 @@ module _ (w : World) (script lines ahead : List Line) (line : Line) (r : Respons
       front = inr (r, w, record { line = line; ahead = ahead; lines = first_lines; step = step_on }, front (text r) m less);
       world = end w gave.steps;
       reached = inl refl;
-      holds = subst (λ v. Fits v image) (sym gave.stays) fits;
+      holds = subst (λ v. IsVolumeOf v image) (sym gave.stays) fits;
     },
   )
 
-  left_whole : (image : Image) (out : List ℕ) → Fits w image → out ≡ mid.streams.aside ++ text r → Left old.streams.aside w script image out
+  left_whole : (image : Image) (out : List ℕ) → IsVolumeOf w image → out ≡ mid.streams.aside ++ text r → LeftByRun old.streams.aside w script image out
   unfolding more_steps
   left_whole image out fits all = (
-    texts more_steps,
-    shifted old.streams.aside (texts gave.steps) mid.streams.aside (text r) out gave.gives all ∙ ap (λ (x : List ℕ). old.streams.aside ++ x) (sym (texts-push gave.steps line r w)),
+    reply_texts more_steps,
+    shifted old.streams.aside (reply_texts gave.steps) mid.streams.aside (text r) out gave.gives all ∙ ap (λ (x : List ℕ). old.streams.aside ++ x) (sym (texts-push gave.steps line r w)),
     record {
       steps = more_steps;
       runs = record {
@@ -105,17 +105,17 @@ module _ (w : World) (script lines ahead : List Line) (line : Line) (r : Respons
         lines = first_lines ∙ sym (append_assoc (lines_of gave.steps) (line ∷ []) ahead) ∙ ap (λ (x : List Line). x ++ ahead) (sym (lines_of-push gave.steps line r w));
       };
       tail = [];
-      gives = sym (append_nil (texts more_steps));
-      count = ap closings (sym (append_nil (texts more_steps))) ∙ closings-texts more_steps [] (named-push gave.steps line r w gave.named names) closings-none;
+      gives = sym (append_nil (reply_texts more_steps));
+      count = ap closings (sym (append_nil (reply_texts more_steps))) ∙ closings-texts more_steps [] (named-push gave.steps line r w gave.named names) closings-none;
       front = inl refl;
       world = end w more_steps;
       reached = inl refl;
-      holds = subst (λ v. Fits v image) (sym (end-push w gave.steps line r w)) fits;
+      holds = subst (λ v. IsVolumeOf v image) (sym (end-push w gave.steps line r w)) fits;
     },
   )
 
   -- each crash while the reply is given leaves what a run may leave
-  pub left_in_reply : (image : Image) (out : List ℕ) → Fits w image → FirstOf mid.streams.aside (text r) (length (text r)) out → Left old.streams.aside w script image out
+  pub left_in_reply : (image : Image) (out : List ℕ) → IsVolumeOf w image → FirstOf mid.streams.aside (text r) (length (text r)) out → LeftByRun old.streams.aside w script image out
   left_in_reply image out fits first = ⊎_elim
       (λ less. left_part image out first.0 fits less first.2)
       (λ same. left_whole image out fits (first.2 ∙ ap (λ (x : List ℕ). mid.streams.aside ++ x) (take_same (text r) first.0 same)))
@@ -124,12 +124,12 @@ module _ (w : World) (script lines ahead : List Line) (line : Line) (r : Respons
 module _ {D : Type 0} (state : D → DiskState) (left : D → ℕ → Image → List ℕ → Type 0) (w : World) (script lines ahead : List Line) (line : Line) (r : Response) (start mid new : D)
     (stands : Stands w (state start)) (so_far : SoFar state left w script lines start mid) (is : script ≡ lines ++ line ∷ ahead) (step : Step w line r w) (names : HasNames r)
     (same : SameDisk (state mid) (state new)) (leaves : Leaves state left (FirstOf (state mid).streams.aside (text r) (length (text r))) mid new) where
-  crash_more : LeavesOnly left start new (Left (state start).streams.aside w script)
+  crash_more : LeavesOnly left start new (LeftByRun (state start).streams.aside w script)
   crash_more = record {
     each = λ t image out l. ⊎_elim
         (λ before. so_far.crash.each t image out before)
         (λ here. inr (left_in_reply w script lines ahead line r (state start) (state mid) so_far.gave is step names image out
-        (every_kept Everywhere (Fits w) (state start) (state mid) so_far.kept stands.fits image here.0) here.1))
+        (every_kept Everywhere (IsVolumeOf w) (state start) (state mid) so_far.kept stands.fits image here.0) here.1))
         (leaves.left_new t image out l);
   }
 

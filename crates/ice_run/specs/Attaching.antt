@@ -4,14 +4,14 @@ use Rattle.ice_base.specs.Disk.{Image, DiskState, block, Rose}
 use Rattle.ice_layout.specs.Geometry.{zero_block}
 use Rattle.ice_layout.specs.Supers.{IsSuper, super_fault}
 use Rattle.ice_layout.specs.declared.superblock.Super.{Super}
-use Rattle.ice_run.specs.Images.{IsTable, IsEmptyVolume, NoVolume, TooSmall}
+use Rattle.ice_run.specs.Images.{IsTableBlock, IsEmptyVolume, NoVolume, TooSmall}
 use Rattle.ice_run.specs.declared.attach.AttachFault.{AttachFault}
 use Rattle.ice_run.specs.declared.attach.AttachFault.TheVariants.{Small, Layout, Disk}
 
 -- the gate and the tables are all zeros, or one of their blocks is not
-abbrev pub Tables : Bool → Image → Type 0
-Tables true image = (k : ℕ) → IsTable k → block image k ≡ zero_block
-Tables false image = (k : ℕ) × IsTable k × (block image k ≡ zero_block → ⊥)
+abbrev pub TablesAreZero : Bool → Image → Type 0
+TablesAreZero true image = (k : ℕ) → IsTableBlock k → block image k ≡ zero_block
+TablesAreZero false image = (k : ℕ) × IsTableBlock k × (block image k ≡ zero_block → ⊥)
 
 -- Disk comes only where the count rose
 abbrev pub AttachCause : AttachFault → DiskState → DiskState → Type 0

@@ -9,19 +9,19 @@ use Rattle.tree_spec.specs.World.{World}
 use Rattle.ice_text.specs.Text.{text}
 use Rattle.ice_run.specs.Scripts.{ended_lines, script_lines, longest_script}
 use Rattle.ice_run.specs.Runs.{IsProperPrefix, Next}
-use Rattle.ice_run.specs.Sessions.{Gave}
+use Rattle.ice_run.specs.Sessions.{GaveReplies}
 
 -- these bytes were taken
-abbrev pub Took : Streams → Streams → List ℕ → Type 0
-Took old new taken = old.intake ≡ taken ++ new.intake
+abbrev pub TookBytes : Streams → Streams → List ℕ → Type 0
+TookBytes old new taken = old.intake ≡ taken ++ new.intake
 
 -- Which lines are answered at the end: `whole` says of lines that they are, and `cut` that the reply after some was given in part.
 -- At Disk, where the volume did not attach, and at Memory nothing was taken or given. The other statuses don't come where the image opens.
 abbrev pub EndsBy : (whole : List Line → Type 0) (cut : Type 0) → Status → Streams → Streams → Type 0
-EndsBy whole cut Done old new = (taken : List ℕ) × Took old new taken × (new.intake ≡ []) × (length taken ≤ longest_script) × whole (script_lines taken)
-EndsBy whole cut Source old new = (taken : List ℕ) × Took old new taken × (length taken ≤ longest_script) × whole (ended_lines taken)
-EndsBy whole cut Sink old new = (taken : List ℕ) × Took old new taken × (length taken ≤ longest_script) × cut
-EndsBy whole cut Script old new = (taken : List ℕ) × Took old new taken × (length taken ≡ longest_script + 1) × whole (ended_lines (take longest_script taken))
+EndsBy whole cut Done old new = (taken : List ℕ) × TookBytes old new taken × (new.intake ≡ []) × (length taken ≤ longest_script) × whole (script_lines taken)
+EndsBy whole cut Source old new = (taken : List ℕ) × TookBytes old new taken × (length taken ≤ longest_script) × whole (ended_lines taken)
+EndsBy whole cut Sink old new = (taken : List ℕ) × TookBytes old new taken × (length taken ≤ longest_script) × cut
+EndsBy whole cut Script old new = (taken : List ℕ) × TookBytes old new taken × (length taken ≡ longest_script + 1) × whole (ended_lines (take longest_script taken))
 EndsBy whole cut Disk old new = (new.intake ≡ old.intake) × (new.aside ≡ old.aside)
 EndsBy whole cut Memory old new = (new.intake ≡ old.intake) × (new.aside ≡ old.aside)
 EndsBy whole cut Usage old new = ⊥
@@ -32,7 +32,7 @@ EndsBy whole cut Small old new = ⊥
 pub record PartOf (w : World) (script : List Line) (old new : DiskState) : Type 0 where
   pub lines : List Line
   pub tail : List ℕ
-  pub gave : Gave w lines tail old new
+  pub gave : GaveReplies w lines tail old new
   pub reply : Response
   pub then : World
   pub next : Next w script gave.steps reply then
@@ -40,4 +40,4 @@ pub record PartOf (w : World) (script : List Line) (old new : DiskState) : Type 
 
 -- what was given is the text of the replies of a run of the script's first lines, as many as the status says, and at Sink the front of a further one
 abbrev pub EndsAs : Status → World → DiskState → DiskState → Type 0
-EndsAs status w old new = EndsBy (λ lines. Gave w lines [] old new) (PartOf w (script_lines old.streams.intake) old new) status old.streams new.streams
+EndsAs status w old new = EndsBy (λ lines. GaveReplies w lines [] old new) (PartOf w (script_lines old.streams.intake) old new) status old.streams new.streams

@@ -5,7 +5,7 @@ use Rattle.tree_spec.specs.Lines.{Line}
 use Rattle.tree_spec.specs.Replies.{Response, HasNames}
 use Rattle.tree_spec.specs.World.{World, Step}
 use Rattle.ice_text.specs.Text.{text, closings}
-use Rattle.ice_run.specs.Images.{Fits}
+use Rattle.ice_run.specs.Images.{IsVolumeOf}
 
 -- a line with its reply and the world after it
 pub record Answered : Type 0 where
@@ -28,9 +28,9 @@ abbrev pub lines_of : List Answered → List Line
 lines_of steps = map (λ (a : Answered). a.line) steps
 
 -- the text of its replies
-abbrev pub texts : List Answered → List ℕ
-texts [] = []
-texts (a ∷ rest) = text a.reply ++ texts rest
+abbrev pub reply_texts : List Answered → List ℕ
+reply_texts [] = []
+reply_texts (a ∷ rest) = text a.reply ++ reply_texts rest
 
 -- the names in the replies are names
 abbrev pub AllNamed : List Answered → Type 0
@@ -59,8 +59,8 @@ abbrev pub IsFront : World → List Line → List Answered → List ℕ → Type
 IsFront w script steps tail = (tail ≡ []) ⊎ ((r : Response) × (v : World) × Next w script steps r v × IsProperPrefix tail (text r))
 
 -- the world after these lines, or one after the line in work, of which an Ok reply begins with these bytes
-abbrev pub Reached : World → List Line → List Answered → List ℕ → World → Type 0
-Reached w script steps tail v = (v ≡ end w steps) ⊎ ((r : Response) × Next w script steps r v × IsOk r × IsProperPrefix tail (text r))
+abbrev pub StandsAfter : World → List Line → List Answered → List ℕ → World → Type 0
+StandsAfter w script steps tail v = (v ≡ end w steps) ⊎ ((r : Response) × Next w script steps r v × IsOk r × IsProperPrefix tail (text r))
 
 -- What was given is the text of as many replies as it has closing lines, those of a run of the first lines, and the front of a further one.
 -- The world after these lines, or one after the line in work, fits.
@@ -68,13 +68,13 @@ pub record After (fits : World → Type 0) (w : World) (script : List Line) (out
   pub steps : List Answered
   pub runs : RunsFirst w script steps
   pub tail : List ℕ
-  pub gives : out ≡ texts steps ++ tail
+  pub gives : out ≡ reply_texts steps ++ tail
   pub count : closings out ≡ length steps
   pub front : IsFront w script steps tail
   pub world : World
-  pub reached : Reached w script steps tail world
+  pub reached : StandsAfter w script steps tail world
   pub holds : fits world
 
 -- what a crash in a run may leave, where these bytes had been given before
-abbrev pub Left : List ℕ → World → List Line → Image → List ℕ → Type 0
-Left aside w script image given = (out : List ℕ) × (given ≡ aside ++ out) × After (λ v. Fits v image) w script out
+abbrev pub LeftByRun : List ℕ → World → List Line → Image → List ℕ → Type 0
+LeftByRun aside w script image given = (out : List ℕ) × (given ≡ aside ++ out) × After (λ v. IsVolumeOf v image) w script out

@@ -3,7 +3,7 @@ ghost use Rattle.std.specs.Prelude.{◌≡◌, ◌≤◌, ◌<◌, ◌↔◌, tr
 ghost use Rattle.ice_base.specs.Disk.{Nowhere, Everywhere, HasCause, block};
 ghost use Rattle.ice_base.specs.Frames.{Within, Settled};
 ghost use Rattle.ice_layout.specs.Geometry.{total_blocks, zero_block};
-ghost use Rattle.ice_run.specs.Attaching.{AttachGives, AttachCause, ReadGives, Tables};
+ghost use Rattle.ice_run.specs.Attaching.{AttachGives, AttachCause, ReadGives, TablesAreZero};
 
 use ice_base::{Block, Disk, DiskFault};
 use ice_layout::{Super, read_super, total};
@@ -41,7 +41,7 @@ fn tables_are_free<D: Disk>(disk: &mut D) -> Result<bool, DiskFault>
     requires { 32 ≤ (D.state disk.old).size }
     ensures within { Within D.state D.left Nowhere disk.old disk.new }
     ensures cause { HasCause (D.state disk.old) (D.state disk.new) result }
-    ensures free { (D.state disk.old).tells ≡ true → IfOk result (λ free. Tables free (D.state disk.old).now) }
+    ensures free { (D.state disk.old).tells ≡ true → IfOk result (λ free. TablesAreZero free (D.state disk.old).now) }
 {
     if !is_free(disk, 1)? {
         return Ok(false);

@@ -8,10 +8,10 @@ ghost use Rattle.ice_layout.specs.declared.superblock.Super.{Super as Geometry};
 ghost use Rattle.tree_spec.specs.World.{World};
 ghost use Rattle.ice_run.specs.Causes.{SessionCause, FormatCause, HasAttached};
 ghost use Rattle.ice_run.specs.Endings.{EndsAs};
-ghost use Rattle.ice_run.specs.Forms.{form_of, Formats, Runs};
+ghost use Rattle.ice_run.specs.Forms.{request_of, Formats, Runs};
 ghost use Rattle.ice_images.specs.Opening.{Opens, empty_world};
 ghost use Rattle.ice_run.specs.Images.{Starts, Stands, IsEmptyVolume};
-ghost use Rattle.ice_run.specs.Runs.{Left};
+ghost use Rattle.ice_run.specs.Runs.{LeftByRun};
 ghost use Rattle.ice_run.specs.Scripts.{script_lines};
 ghost use Rattle.ice_run.specs.Tops.{FormatsImage, RunsSession};
 
@@ -55,7 +55,7 @@ fn run_session<H: Host>(alloc: Global, host: &mut H) -> Status
     ensures output { (w : World) → Starts (H.state host.old) w → EndsAs result w (H.state host.old) (H.state host.new) }
     ensures exit { (w : World) → Starts (H.state host.old) w → result ≡ Status.Done → Stands w (H.state host.new) }
     ensures crash { (w : World) → Starts (H.state host.old) w → (image : Image) (out : List ℕ) → H.left host.new (H.state host.old).clock image out
-        → Left (H.state host.old).streams.aside w (script_lines (H.state host.old).streams.intake) image out }
+        → LeftByRun (H.state host.old).streams.aside w (script_lines (H.state host.old).streams.intake) image out }
 {
     let mut session = match Session::new(alloc) {
         Ok(session) => session,
@@ -75,14 +75,14 @@ fn run_session<H: Host>(alloc: Global, host: &mut H) -> Status
 /// `run IMAGE` opens the volume and answers the script. The reply to a line is given whole before the next line is looked at.
 /// Other words are `Usage`. `Usage` and `Memory` come before any call on the host.
 pub fn run<H: Host>(alloc: Global, words: &Words, host: &mut H) -> Status
-    ensures usage { (result ≡ Status.Usage) ↔ (form_of words.now ≡ None) }
+    ensures usage { (result ≡ Status.Usage) ↔ (request_of words.now ≡ None) }
     ensures untouched { (result ≡ Status.Usage) ⊎ (result ≡ Status.Memory) → host.new ≡ host.old }
-    ensures format { (image : List ℕ) (sup : Geometry) → form_of words.now ≡ Some (Formats image sup) → FormatsImage H.state H.left sup result host.old host.new }
-    ensures session { (image : List ℕ) → form_of words.now ≡ Some (Runs image) → RunsSession H.state H.left result host.old host.new }
-    ensures output { (image : List ℕ) (w : World) → form_of words.now ≡ Some (Runs image) → Starts (H.state host.old) w → EndsAs result w (H.state host.old) (H.state host.new) }
-    ensures crash { (image : List ℕ) (w : World) → form_of words.now ≡ Some (Runs image) → Starts (H.state host.old) w → (crashed : Image) (out : List ℕ) → H.left host.new (H.state host.old).clock crashed out
-        → Left (H.state host.old).streams.aside w (script_lines (H.state host.old).streams.intake) crashed out }
-    ensures exit { (image : List ℕ) (w : World) → form_of words.now ≡ Some (Runs image) → Starts (H.state host.old) w → result ≡ Status.Done → Stands w (H.state host.new) }
+    ensures format { (image : List ℕ) (sup : Geometry) → request_of words.now ≡ Some (Formats image sup) → FormatsImage H.state H.left sup result host.old host.new }
+    ensures session { (image : List ℕ) → request_of words.now ≡ Some (Runs image) → RunsSession H.state H.left result host.old host.new }
+    ensures output { (image : List ℕ) (w : World) → request_of words.now ≡ Some (Runs image) → Starts (H.state host.old) w → EndsAs result w (H.state host.old) (H.state host.new) }
+    ensures crash { (image : List ℕ) (w : World) → request_of words.now ≡ Some (Runs image) → Starts (H.state host.old) w → (crashed : Image) (out : List ℕ) → H.left host.new (H.state host.old).clock crashed out
+        → LeftByRun (H.state host.old).streams.aside w (script_lines (H.state host.old).streams.intake) crashed out }
+    ensures exit { (image : List ℕ) (w : World) → request_of words.now ≡ Some (Runs image) → Starts (H.state host.old) w → result ≡ Status.Done → Stands w (H.state host.new) }
 {
     match read_form(words) {
         Some(Form::Format { image: _, sup }) => format_image(host, &sup),

@@ -3,7 +3,7 @@ ghost use Rattle.std.specs.Prelude.{◌≡◌, length, true, IfSome};
 ghost use Rattle.std.specs.Str.{bytes_eq};
 ghost use Rattle.ice_layout.specs.Supers.{is_geometry};
 ghost use Rattle.ice_script.specs.Grammar.{number_of};
-ghost use Rattle.ice_run.specs.Forms.{is_image, number_in, geometry_of, form_of, format_form, run_form, ImageGives};
+ghost use Rattle.ice_run.specs.Forms.{is_image, number_in, geometry_of, request_of, format_form, run_form, ImageGives};
 ghost use Rattle.ice_run.specs.Readings.{FormGives};
 
 use ice_base::{Image, ImageFault, Words};
@@ -84,10 +84,10 @@ fn read_run(words: &Words) -> Option<Form<'_>>
     }
 }
 
-#[tactic(auto, unfolding(crate::specs::Forms::form_of))]
+#[tactic(auto, unfolding(crate::specs::Forms::request_of))]
 /// The form of the words, or none.
 pub(crate) fn read_form(words: &Words) -> Option<Form<'_>>
-    ensures { FormGives (form_of words.entry.now) result }
+    ensures { FormGives (request_of words.entry.now) result }
 {
     match words.len() {
         6 => read_format(words),

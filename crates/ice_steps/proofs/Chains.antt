@@ -9,7 +9,7 @@ use Rattle.ice_map.specs.declared.codec.Inode.{Inode}
 use Rattle.ice_map.specs.Inodes.{inode_of, InodeSet}
 use Rattle.ice_file.specs.Own.{own}
 use Rattle.ice_file.specs.Files.{FileSet}
-use Rattle.ice_dir.specs.Rows.{rows_of, without}
+use Rattle.ice_dir.specs.Rows.{dir_rows_of, rows_without}
 use Rattle.ice_dir.specs.Changes.{DirSet}
 use Rattle.tree_spec.specs.Trees.{Tree, File, Dir, Entries, Nil, rows, by_bytes, walk, Found, at, with_entry, without_entry, height}
 use Rattle.tree_spec.specs.Costs.{form_one}
@@ -31,7 +31,7 @@ use Rattle.ice_steps.proofs.Takes.{took_inode, gave_inode, took_stays}
 module _ (mode : ℕ) (lot : LotView) (m0 m1 m2 m3 : Map) (t : Tree) (k : ℕ) (q : List (List ℕ)) (c : List ℕ) (j : ℕ) (es : Entries) (inode : Inode) (few : length lot.groups ≤ 64)
     (r : MapRecovers form_one mode lot m0 t k) (took : TookInode m0 m1 j) (small : j < 64 * length lot.groups) (taken : OnlyAt (sub_address ∷ bitmap_of true j ∷ []) m0 m1)
     (put : InodeSet m1 m2 j inode) (there : OnlyAt (inode_address j ∷ []) m1 m2) (found : walk q t ≡ Found (Dir es)) (free : find by_bytes c (rows es) ≡ None) (name : IsNameOf form_one c) (deep : length q + 1 ≤ deepest)
-    (set : DirSet lot 64 m2 m3 (inode_on form_one (own 64 m0) 0 q) (rows_of 64 m2 (inode_on form_one (own 64 m0) 0 q) ++ (c, j) ∷ [])) where
+    (set : DirSet lot 64 m2 m3 (inode_on form_one (own 64 m0) 0 q) (dir_rows_of 64 m2 (inode_on form_one (own 64 m0) 0 q) ++ (c, j) ∷ [])) where
   b1 : Beside form_one mode lot m1 t k [] (j ∷ [])
   b1 = took_inode mode lot m0 m1 t k [] j few (recovers_beside form_one mode lot m0 t k r) took small taken
 
@@ -43,8 +43,8 @@ module _ (mode : ℕ) (lot : LotView) (m0 m1 m2 m3 : Map) (t : Tree) (k : ℕ) (
       stays_walk m1 m2 t (put_stays mode lot m1 m2 t k [] j inode b1 put there) q (Dir es) found
       ∙ stays_walk m0 m1 t (took_stays mode lot m0 m1 t k [] [] j few (recovers_beside form_one mode lot m0 t k r) taken) q (Dir es) found
 
-  here-set : DirSet lot 64 m2 m3 (inode_on form_one (own 64 m2) 0 q) (rows_of 64 m2 (inode_on form_one (own 64 m2) 0 q) ++ (c, j) ∷ [])
-  here-set = subst (λ p. DirSet lot 64 m2 m3 p (rows_of 64 m2 p ++ (c, j) ∷ [])) (sym place) set
+  here-set : DirSet lot 64 m2 m3 (inode_on form_one (own 64 m2) 0 q) (dir_rows_of 64 m2 (inode_on form_one (own 64 m2) 0 q) ++ (c, j) ∷ [])
+  here-set = subst (λ p. DirSet lot 64 m2 m3 p (dir_rows_of 64 m2 p ++ (c, j) ∷ [])) (sym place) set
 
   pub dir_made : IsFresh 2 inode → MapRecovers form_one mode lot m3 (at q (with_entry c (Dir Nil)) t) k
   dir_made fresh =
@@ -61,20 +61,20 @@ module _ (mode : ℕ) (lot : LotView) (m0 m1 m2 m3 : Map) (t : Tree) (k : ℕ) (
 -- a row was taken away
 module _ (mode : ℕ) (lot : LotView) (m0 m1 : Map) (t : Tree) (k : ℕ) (q : List (List ℕ)) (c : List ℕ) (v : Tree) (es : Entries) (few : length lot.groups ≤ 64)
     (r : MapRecovers form_one mode lot m0 t k) (found : walk q t ≡ Found (Dir es)) (is : find by_bytes c (rows es) ≡ Some v)
-    (set : DirSet lot 64 m0 m1 (inode_on form_one (own 64 m0) 0 q) (without c (rows_of 64 m0 (inode_on form_one (own 64 m0) 0 q)))) where
+    (set : DirSet lot 64 m0 m1 (inode_on form_one (own 64 m0) 0 q) (rows_without c (dir_rows_of 64 m0 (inode_on form_one (own 64 m0) 0 q)))) where
   abbrev gone : ℕ
-  gone = inode_named c (rows_of 64 m0 (inode_on form_one (own 64 m0) 0 q))
+  gone = inode_named c (dir_rows_of 64 m0 (inode_on form_one (own 64 m0) 0 q))
 
   -- and added to a directory of what is left
   pub row_moved : (m2 : Map) (to : List (List ℕ)) (d : List ℕ) (fs : Entries) → walk to (at q (without_entry c) t) ≡ Found (Dir fs) → find by_bytes d (rows fs) ≡ None → IsNameOf form_one d → length to + 1 + height v ≤ deepest
-      → DirSet lot 64 m1 m2 (inode_on form_one (own 64 m0) 0 to) (rows_of 64 m1 (inode_on form_one (own 64 m0) 0 to) ++ (d, gone) ∷ []) → MapRecovers form_one mode lot m2 (at to (with_entry d v) (at q (without_entry c) t)) k
+      → DirSet lot 64 m1 m2 (inode_on form_one (own 64 m0) 0 to) (dir_rows_of 64 m1 (inode_on form_one (own 64 m0) 0 to) ++ (d, gone) ∷ []) → MapRecovers form_one mode lot m2 (at to (with_entry d v) (at q (without_entry c) t)) k
   row_moved m2 to d fs there free name fits put =
       let l = loses_row mode lot m0 m1 t k q c v es r found is set in
       let place = walk_left mode lot m0 m1 t k q c v es r found is set to (Dir fs) there in
       beside_recovers form_one mode lot m2 (at to (with_entry d v) (at q (without_entry c) t)) k
       (gains_row mode lot m1 m2 (at q (without_entry c) t) k to d gone v fs l.0 there free name
       (Reads-shift form_one lot (own_in form_one m1) gone (length q + 1) (length to + 1) v fits l.1)
-      (subst (λ p. DirSet lot 64 m1 m2 p (rows_of 64 m1 p ++ (d, gone) ∷ [])) (sym place) put))
+      (subst (λ p. DirSet lot 64 m1 m2 p (dir_rows_of 64 m1 p ++ (d, gone) ∷ [])) (sym place) put))
 
   -- what it named stands loose
   abbrev Gone : Tree → Type 0

@@ -9,7 +9,7 @@ use Rattle.ice_map.specs.Inodes.{inode_of}
 use Rattle.ice_map.proofs.ListLaws.{count_none}
 use Rattle.ice_file.specs.Own.{own, blocks_for}
 use Rattle.ice_file.specs.Writes.{uses_of, blocks_with}
-use Rattle.ice_dir.specs.Changes.{dir_blocks}
+use Rattle.ice_dir.specs.Changes.{entry_blocks}
 use Rattle.ice_dir.proofs.PutLaws.{dir-sixteenth}
 use Rattle.tree_spec.specs.Trees.{Tree, File, Dir, Entries, rows, by_bytes, walk, Found, at, with_entry}
 use Rattle.tree_spec.specs.Costs.{form_one, map_cost, file_blocks, blocks, nodes, node_quota, block_quota}
@@ -32,17 +32,17 @@ uses-more c d h = grind (arith, nat_tests)
 file-few : (n : ℕ) → n ≤ 274432 → blocks_for n ≤ 268
 file-few n h = let d = div-add-mod' (n + 1023) 1024 in omega arith
 
-dir-few : (n : ℕ) → n ≤ 4096 → dir_blocks 64 n ≤ 256
+dir-few : (n : ℕ) → n ≤ 4096 → entry_blocks 64 n ≤ 256
 dir-few n h = let e = dir-sixteenth 64 n refl in let d = div-add-mod' (n + 15) 16 in omega arith
 
 -- the blocks of a map are what the tree's map costs
 pub file_cost : (n : ℕ) → n ≤ 274432 → uses_of (blocks_for n) ≡ map_cost (file_blocks n)
 file_cost n h = uses-cost (blocks_for n) (file-few n h) ∙ ap map_cost (let e : (n + 1023) / 1024 ≡ (n + 1024 - 1) / 1024 = ap (λ x. x / 1024) (omega arith) in e)
 
-pub dir_cost : (n : ℕ) → n ≤ 4096 → uses_of (dir_blocks 64 n) ≡ map_cost (tree.dir_blocks form_one n)
+pub dir_cost : (n : ℕ) → n ≤ 4096 → uses_of (entry_blocks 64 n) ≡ map_cost (tree.dir_blocks form_one n)
 dir_cost n h =
     let f = dir-few n h in
-    uses-cost (dir_blocks 64 n) (omega arith) ∙ ap map_cost (dir-sixteenth 64 n refl ∙ (let e : (n + 15) / 16 ≡ (n + 16 - 1) / 16 = ap (λ x. x / 16) (omega arith) in e))
+    uses-cost (entry_blocks 64 n) (omega arith) ∙ ap map_cost (dir-sixteenth 64 n refl ∙ (let e : (n + 15) / 16 ≡ (n + 16 - 1) / 16 = ap (λ x. x / 16) (omega arith) in e))
 
 module _ (mode : ℕ) (lot : LotView) (m : Map) (t : Tree) (k : ℕ) (few : length lot.groups ≤ 64) where
   module _ (xs is : List ℕ) (b : Beside form_one mode lot m t k xs is) where
@@ -62,15 +62,15 @@ module _ (mode : ℕ) (lot : LotView) (m : Map) (t : Tree) (k : ℕ) (few : leng
 
       -- a row can be counted, and given back
       module _ (es : Entries) (found : walk q t ≡ Found (Dir es)) where
-        pub add_counts : ¬ (2 ^ 32 + uses_of (dir_blocks 64 (inode_of m here).size) ≤ counted false m + uses_of (dir_blocks 64 ((inode_of m here).size + 1)))
+        pub add_counts : ¬ (2 ^ 32 + uses_of (entry_blocks 64 (inode_of m here).size) ≤ counted false m + uses_of (entry_blocks 64 ((inode_of m here).size + 1)))
         add_counts h =
             let c = (beside_counts mode lot m t k xs is b).0 in
             let s = (beside_dir mode lot m t k xs is b q es found).is.few in
             let f = dir-few ((inode_of m here).size + 1) (omega arith) in
-            let u = uses-few (dir_blocks 64 ((inode_of m here).size + 1)) in
+            let u = uses-few (entry_blocks 64 ((inode_of m here).size + 1)) in
             omega arith
 
-        pub take_counts : ¬ (counted false m + uses_of (dir_blocks 64 ((inode_of m here).size - 1)) < uses_of (dir_blocks 64 (inode_of m here).size))
+        pub take_counts : ¬ (counted false m + uses_of (entry_blocks 64 ((inode_of m here).size - 1)) < uses_of (entry_blocks 64 (inode_of m here).size))
         take_counts h =
             let c = beside_counted mode lot m t k xs is b q (Dir es) found in
             let u = dir_uses m here (beside_dir mode lot m t k xs is b q es found).is.kind in
@@ -118,7 +118,7 @@ module _ (mode : ℕ) (lot : LotView) (m : Map) (t : Tree) (k : ℕ) (few : leng
 
     -- there is room for a row that names the loose tree where the next tree meets the quota
     pub add_fits : (q : List (List ℕ)) (c : List ℕ) (es : Entries) → walk q t ≡ Found (Dir es) → find by_bytes c (rows es) ≡ None → blocks form_one (at q (with_entry c v) t) ≤ block_quota (length lot.groups)
-        → ¬ (free_count false lot m + uses_of (dir_blocks 64 (inode_of m (inode_on form_one (own 64 m) 0 q)).size) < uses_of (dir_blocks 64 ((inode_of m (inode_on form_one (own 64 m) 0 q)).size + 1)))
+        → ¬ (free_count false lot m + uses_of (entry_blocks 64 (inode_of m (inode_on form_one (own 64 m) 0 q)).size) < uses_of (entry_blocks 64 ((inode_of m (inode_on form_one (own 64 m) 0 q)).size + 1)))
     add_fits q c es found none fits l =
         let d = beside_dir mode lot m t k (used_blocks form_one (own 64 m) j v) is b q es found in
         let s = d.size in

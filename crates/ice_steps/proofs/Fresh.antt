@@ -19,7 +19,7 @@ use Rattle.ice_map.proofs.GrowLaws.{inode_not_bitmap, inode_not_sub}
 use Rattle.ice_file.specs.Own.{own, mark, map_length, blocks_for, WellMade}
 use Rattle.ice_file.specs.Files.{bytes_from}
 use Rattle.ice_file.proofs.ByteLaws.{all_bytes}
-use Rattle.ice_dir.specs.Rows.{Row}
+use Rattle.ice_dir.specs.Rows.{DirRow}
 use Rattle.tree_spec.specs.Trees.{Tree, File, Dir, Nil, by_bytes}
 use Rattle.tree_spec.specs.Costs.{form_one}
 use Rattle.tree_spec.specs.Answers.{deepest}
@@ -88,8 +88,8 @@ module _ (lot : LotView) (m : Map) (j h : ℕ) (deep : h ≤ deepest) (small : j
         record {
           is_dir = f.is;
           within = let e = f.none in omega arith;
-          fit = subst (All (λ (row : Row). IsNameOf form_one row.0)) (sym none) (All-nil (λ (row : Row). IsNameOf form_one row.0));
-          differ = subst (λ rs. IsDistinct (eq_by_cmp by_bytes) (map (λ (row : Row). row.0) rs)) (sym none) IsDistinct-nil;
+          fit = subst (All (λ (row : DirRow). IsNameOf form_one row.0)) (sym none) (All-nil (λ (row : DirRow). IsNameOf form_one row.0));
+          differ = subst (λ rs. IsDistinct (eq_by_cmp by_bytes) (map (λ (row : DirRow). row.0) rs)) (sym none) IsDistinct-nil;
           sorted = tt;
           maps = λ c. ap (λ rs. is_some (find by_bytes c rs)) (sym none);
           count = sym f.none;

@@ -7,7 +7,7 @@ use Rattle.ice_map.specs.Inodes.{inode_of}
 use Rattle.ice_file.specs.Own.{own, map_length}
 use Rattle.ice_file.specs.Writes.{uses_of}
 use Rattle.ice_file.proofs.ByteLaws.{file_length, all_bytes}
-use Rattle.ice_dir.specs.Rows.{Row}
+use Rattle.ice_dir.specs.Rows.{DirRow}
 use Rattle.ice_dir.proofs.DirLaws.{dir-length}
 use Rattle.std.proofs.lemmas.List.FromFn.{length-map-range_with_len}
 use Rattle.ice_file.specs.Files.{byte_of}
@@ -24,7 +24,7 @@ module _ (f : Form) (o : Table) where
     length-inodes i (File bytes) = refl
     length-inodes i (Dir es) = let r = length-inodes_in (rows_in f (o i)) es in omega arith
 
-    length-inodes_in : (rs : List Row) (es : Entries) → length (entries_use f o (λ i. i ∷ []) rs es) ≡ total_in (λ _. 1) (λ _. 1) es
+    length-inodes_in : (rs : List DirRow) (es : Entries) → length (entries_use f o (λ i. i ∷ []) rs es) ≡ total_in (λ _. 1) (λ _. 1) es
     length-inodes_in rs Nil = refl
     length-inodes_in rs (Entry c t es) =
         let a = length-append (used_inodes f o (inode_named c rs) t) (entries_use f o (λ i. i ∷ []) rs es) in

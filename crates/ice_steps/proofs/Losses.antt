@@ -8,7 +8,7 @@ use Rattle.ice_base.specs.Lots.{LotView}
 use Rattle.ice_map.specs.Maps.{times}
 use Rattle.ice_map.proofs.ListLaws.{times-append, has-times}
 use Rattle.ice_file.specs.Own.{own}
-use Rattle.ice_dir.specs.Rows.{rows_of, look_up, without}
+use Rattle.ice_dir.specs.Rows.{dir_rows_of, look_up, rows_without}
 use Rattle.ice_dir.specs.Changes.{DirSet}
 use Rattle.tree_spec.specs.Trees.{Tree, File, Dir, Entries, rows, by_bytes, Found, walk, and_on, found_or_not, at, without_entry}
 use Rattle.tree_spec.specs.Costs.{Form, form_one}
@@ -67,12 +67,12 @@ module _ (f : Form) (lot : LotView) (o p : Table) (here : ℕ) (c : List ℕ) (o
 
 module _ (mode : ℕ) (lot : LotView) (m m' : Map) (t : Tree) (k : ℕ) (q : List (List ℕ)) (c : List ℕ) (v : Tree) (es : Entries)
     (r : MapRecovers form_one mode lot m t k) (found : walk q t ≡ Found (Dir es)) (is : find by_bytes c (rows es) ≡ Some v)
-    (set : DirSet lot 64 m m' (inode_on form_one (own 64 m) 0 q) (without c (rows_of 64 m (inode_on form_one (own 64 m) 0 q)))) where
+    (set : DirSet lot 64 m m' (inode_on form_one (own 64 m) 0 q) (rows_without c (dir_rows_of 64 m (inode_on form_one (own 64 m) 0 q)))) where
   abbrev here : ℕ
   here = inode_on form_one (own 64 m) 0 q
 
   abbrev gone : ℕ
-  gone = inode_named c (rows_of 64 m (inode_on form_one (own 64 m) 0 q))
+  gone = inode_named c (dir_rows_of 64 m (inode_on form_one (own 64 m) 0 q))
 
   b : Beside form_one mode lot m t k [] []
   b = recovers_beside form_one mode lot m t k r
@@ -95,8 +95,8 @@ module _ (mode : ℕ) (lot : LotView) (m m' : Map) (t : Tree) (k : ℕ) (q : Lis
   is-dir : IsDirInode form_one lot (own 64 m here) es
   is-dir = (beside_part mode lot m t k [] [] b q (Dir es) found).1
 
-  named : look_up c (rows_of 64 m here) ≡ Some gone
-  named = look_up-find c (rows_of 64 m here) ∙ some_value (find by_bytes c (rows_of 64 m here)) (sym (is-dir.maps c) ∙ ap is_some is)
+  named : look_up c (dir_rows_of 64 m here) ≡ Some gone
+  named = look_up-find c (dir_rows_of 64 m here) ∙ some_value (find by_bytes c (dir_rows_of 64 m here)) (sym (is-dir.maps c) ∙ ap is_some is)
 
   loses : LosesRow form_one lot (own 64 m here) (own 64 m' here) here (length q) c
   loses = law.loses_row form_one lot (own 64 m here) (own 64 m' here) here (length q) (set-inode lot m m' here (length q) set.set) set.is.kind set.is.few c gone es is-dir named set.rows

@@ -9,7 +9,7 @@ use Rattle.ice_file.specs.Files.{ReachesTo}
 use Rattle.ice_file.specs.Writes.{uses_of}
 use Rattle.ice_file.proofs.ByteLaws.{file_length}
 use Rattle.ice_file.proofs.OwnLaws.{length-uses}
-use Rattle.ice_dir.specs.Changes.{HasRoom, dir_blocks}
+use Rattle.ice_dir.specs.Changes.{HasEntryRoom, entry_blocks}
 use Rattle.tree_spec.specs.Trees.{Tree, File, Dir, Entries, Nil, Entry, rows, walk, Found, at, total_in}
 use Rattle.tree_spec.specs.Costs.{form_one, nodes}
 use Rattle.tree_spec.proofs.Sums.{total-at}
@@ -45,7 +45,7 @@ pub loose_some : (m : Map) (j : ℕ) (v : Tree) → 1 ≤ length (used_inodes fo
 loose_some m j v = let e = length-inodes form_one (own_in form_one m) j v in let n = nodes-some v in omega arith
 
 -- where inodes stand loose, each directory has room for one entry more
-pub beside_room : (mode : ℕ) (lot : LotView) (m : Map) (t : Tree) (k : ℕ) (xs is : List ℕ) → Beside form_one mode lot m t k xs is → 1 ≤ length is → (q : List (List ℕ)) (es : Entries) → walk q t ≡ Found (Dir es) → HasRoom lot (inode_of m (inode_on form_one (own 64 m) 0 q))
+pub beside_room : (mode : ℕ) (lot : LotView) (m : Map) (t : Tree) (k : ℕ) (xs is : List ℕ) → Beside form_one mode lot m t k xs is → 1 ≤ length is → (q : List (List ℕ)) (es : Entries) → walk q t ≡ Found (Dir es) → HasEntryRoom lot (inode_of m (inode_on form_one (own 64 m) 0 q))
 beside_room mode lot m t k xs is b some q es found =
     let d = beside_dir mode lot m t k xs is b q es found in
     let n = beside_free_nodes mode lot m t k xs is b in
@@ -79,10 +79,10 @@ loose_blocks_counted mode lot m t k j v is b =
 pub file_uses : (m : Map) (i : ℕ) → (inode_of m i).kind ≡ 1 → length (own 64 m i).uses ≡ uses_of (blocks_for (inode_of m i).size)
 file_uses m i e = length-uses m (inode_of m i) (map_length 64 (inode_of m i)) ∙ ap uses_of (file_length 64 (inode_of m i) e)
 
-pub dir_uses : (m : Map) (i : ℕ) → (inode_of m i).kind ≡ 2 → length (own 64 m i).uses ≡ uses_of (dir_blocks 64 (inode_of m i).size)
+pub dir_uses : (m : Map) (i : ℕ) → (inode_of m i).kind ≡ 2 → length (own 64 m i).uses ≡ uses_of (entry_blocks 64 (inode_of m i).size)
 dir_uses m i e = length-uses m (inode_of m i) (map_length 64 (inode_of m i)) ∙ ap uses_of (of-dir (inode_of m i) e)
   where
-    of-dir : (x : Inode) → x.kind ≡ 2 → map_length 64 x ≡ dir_blocks 64 x.size
+    of-dir : (x : Inode) → x.kind ≡ 2 → map_length 64 x ≡ entry_blocks 64 x.size
     of-dir x e = rw e refl
 
 -- the reserved places are marked

@@ -5,7 +5,7 @@ use Rattle.ice_base.specs.Lots.{LotView}
 use Rattle.ice_map.specs.Maps.{times}
 use Rattle.ice_map.proofs.ListLaws.{times-append, has-none}
 use Rattle.ice_file.specs.Own.{own}
-use Rattle.ice_dir.specs.Rows.{rows_of}
+use Rattle.ice_dir.specs.Rows.{dir_rows_of}
 use Rattle.ice_dir.specs.Changes.{DirSet}
 use Rattle.tree_spec.specs.Trees.{Tree, Dir, Entries, rows, by_bytes, Found, walk, at, with_entry}
 use Rattle.tree_spec.specs.Costs.{form_one}
@@ -23,7 +23,7 @@ use Rattle.ice_steps.proofs.Sets.{Adds, set-inode, dir-after, beside-set}
 module _ (mode : ℕ) (lot : LotView) (m m' : Map) (t : Tree) (k : ℕ) (q : List (List ℕ)) (c : List ℕ) (j : ℕ) (v : Tree) (es : Entries)
     (b : Beside form_one mode lot m t k (used_blocks form_one (own 64 m) j v) (used_inodes form_one (own 64 m) j v)) (found : walk q t ≡ Found (Dir es)) (free : find by_bytes c (rows es) ≡ None)
     (name : IsNameOf form_one c) (r : Reads form_one lot (own 64 m) j (length q + 1) v)
-    (set : DirSet lot 64 m m' (inode_on form_one (own 64 m) 0 q) (rows_of 64 m (inode_on form_one (own 64 m) 0 q) ++ (c, j) ∷ [])) where
+    (set : DirSet lot 64 m m' (inode_on form_one (own 64 m) 0 q) (dir_rows_of 64 m (inode_on form_one (own 64 m) 0 q) ++ (c, j) ∷ [])) where
   abbrev here : ℕ
   here = inode_on form_one (own 64 m) 0 q
 

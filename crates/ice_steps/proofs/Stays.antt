@@ -3,7 +3,7 @@ use Rattle.std.proofs.Common.{◌≡◌, ◌<◌, ℕ, List, [], ◌∷◌, None
 use Rattle.std.specs.FinMap.{find}
 use Rattle.ice_map.specs.Maps.{times}
 use Rattle.ice_file.specs.Own.{own}
-use Rattle.ice_dir.specs.Rows.{rows_of}
+use Rattle.ice_dir.specs.Rows.{dir_rows_of}
 use Rattle.tree_spec.specs.Trees.{Tree, File, Dir, rows, by_bytes, walk, and_on, found_or_not, Found}
 use Rattle.tree_spec.specs.Costs.{Form, form_one}
 use Rattle.ice_reads.specs.Tables.{Map, Table, own_in, rows_in, inode_named}
@@ -35,5 +35,5 @@ module _ (m m' : Map) (t : Tree) (same : SameAt (own 64 m) (own 64 m') (used_ino
       let n = inode-first form_one (own_in form_one m) (inode_on form_one (own 64 m) 0 q) s in
       omega arith)
 
-  pub stays_rows : rows_of 64 m' (inode_on form_one (own 64 m) 0 q) ≡ rows_of 64 m (inode_on form_one (own 64 m) 0 q)
+  pub stays_rows : dir_rows_of 64 m' (inode_on form_one (own 64 m) 0 q) ≡ dir_rows_of 64 m (inode_on form_one (own 64 m) 0 q)
   stays_rows = ap (λ o. rows_in form_one o) stays_own

@@ -16,7 +16,7 @@ use Rattle.ice_map.specs.Maps.{leads}
 use Rattle.ice_map.specs.declared.codec.Inode.{Inode}
 use Rattle.ice_file.specs.Own.{map_length}
 use Rattle.ice_dir.specs.Faults.{IsEntryFault, IsFindFault}
-use Rattle.ice_dir.specs.Rows.{Row, IsDirectory, HasEntry, look_up, named, rows_of, row_of, per_block}
+use Rattle.ice_dir.specs.Rows.{DirRow, IsDirectory, HasEntry, look_up, named, dir_rows_of, row_of, per_block}
 use Rattle.ice_dir.proofs.DirLaws.{row-below, get-row, dir-length, per-sixteen}
 use Rattle.tree_spec.specs.Names.{is_name}
 use Rattle.ice_tree.specs.Broken.{BadEntry, IsBrokenBy}
@@ -28,9 +28,9 @@ use Rattle.ice_tree.specs.declared.place.Place.TheVariants.{File, Dir, Missing, 
 slice-has : {X : Type 0} (xs : List X) (k : ℕ) (x : X) → slice_get xs k ≡ Some x → Contains xs x
 slice-has xs k x is = subst (Contains xs) (get_or_from_slice_get xs k x x is) (Contains-get_or xs k x (slice_get_within xs k x is))
 
-named-row : (rows : List Row) (c : List ℕ) (j : ℕ) → look_up c rows ≡ Some j → (row : Row) × Contains rows row × (row.1 ≡ j)
+named-row : (rows : List DirRow) (c : List ℕ) (j : ℕ) → look_up c rows ≡ Some j → (row : DirRow) × Contains rows row × (row.1 ≡ j)
 named-row rows c j is =
-    elim (find (named c) rows) as (λ o. find (named c) rows ≡ o → option_map (λ (row : Row). row.1) o ≡ Some j → (row : Row) × Contains rows row × (row.1 ≡ j)) [
+    elim (find (named c) rows) as (λ o. find (named c) rows ≡ o → option_map (λ (row : DirRow). row.1) o ≡ Some j → (row : DirRow) × Contains rows row × (row.1 ≡ j)) [
       | None ↦ λ e h. absurd (none h)
       | Some row ↦ λ e h. (row, slice-has rows (position_or_len (named c) rows) row (sym (find_at (named c) rows) ∙ e), some row.1 h)
     ] refl is
@@ -51,23 +51,23 @@ block-below entry x n e kind h =
     omega (arith, l, b, s, small)
 
 -- an inode that row k of a directory names
-pub row-reached : (entry : ℕ) (lot : LotView) (m : ℕ → List ℕ) (i k : ℕ) (c : List ℕ) (j : ℕ) → IsReached entry lot m i → IsDirectory lot (inode_of m i) → slice_get (rows_of entry m i) k ≡ Some (c, j) → Reached entry lot m j
-row-reached entry lot m i k c j r dir is = Named i j c r.by dir (slice-has (rows_of entry m i) k (c, j) is)
+pub row-reached : (entry : ℕ) (lot : LotView) (m : ℕ → List ℕ) (i k : ℕ) (c : List ℕ) (j : ℕ) → IsReached entry lot m i → IsDirectory lot (inode_of m i) → slice_get (dir_rows_of entry m i) k ≡ Some (c, j) → Reached entry lot m j
+row-reached entry lot m i k c j r dir is = Named i j c r.by dir (slice-has (dir_rows_of entry m i) k (c, j) is)
 
 -- an inode that a name leads to
-pub named-reached : (entry : ℕ) (lot : LotView) (m : ℕ → List ℕ) (i : ℕ) (c : List ℕ) (j : ℕ) → IsReached entry lot m i → IsDirectory lot (inode_of m i) → look_up c (rows_of entry m i) ≡ Some j → Reached entry lot m j
+pub named-reached : (entry : ℕ) (lot : LotView) (m : ℕ → List ℕ) (i : ℕ) (c : List ℕ) (j : ℕ) → IsReached entry lot m i → IsDirectory lot (inode_of m i) → look_up c (dir_rows_of entry m i) ≡ Some j → Reached entry lot m j
 named-reached entry lot m i c j r dir is =
-    let x = named-row (rows_of entry m i) c j is in
+    let x = named-row (dir_rows_of entry m i) c j is in
     subst (Reached entry lot m) x.2 (Named i x.0.1 x.0.0 r.by dir x.1)
 
 -- what row k of a directory leads to
-pub entry-is : (entry : ℕ) (lot : LotView) (m : ℕ → List ℕ) (dir k : ℕ) (c : List ℕ) (j : ℕ) → slice_get (rows_of entry m dir) k ≡ Some (c, j) → (r : Result Place OpFault)
+pub entry-is : (entry : ℕ) (lot : LotView) (m : ℕ → List ℕ) (dir k : ℕ) (c : List ℕ) (j : ℕ) → slice_get (dir_rows_of entry m dir) k ≡ Some (c, j) → (r : Result Place OpFault)
     → IfOk r (PlaceOf j) → IfOk r (PlaceIs m) → IfOk r (PlaceReached entry lot m) → IfOk r (IsEntry entry lot m dir k)
 entry-is entry lot m dir k c j row (Ok p) at is by = record { name = c; inode = j; row = row; is = is; reached = by; at = at }
 entry-is entry lot m dir k c j row (Err e) at is by = tt
 
 -- what a name of a directory leads to
-pub place-named : (entry : ℕ) (m : ℕ → List ℕ) (dir entries : ℕ) (c : List ℕ) (j : ℕ) → look_up c (rows_of entry m dir) ≡ Some j → (p : Place) → PlaceOf j p → PlaceNamed entry m (Dir dir entries) c p
+pub place-named : (entry : ℕ) (m : ℕ → List ℕ) (dir entries : ℕ) (c : List ℕ) (j : ℕ) → look_up c (dir_rows_of entry m dir) ≡ Some j → (p : Place) → PlaceOf j p → PlaceNamed entry m (Dir dir entries) c p
 place-named entry m dir entries c j is (File number size) at = is ∙ ap (λ x. Some x) (sym at)
 place-named entry m dir entries c j is (Dir number size) at = is ∙ ap (λ x. Some x) (sym at)
 place-named entry m dir entries c j is Missing at = tt
@@ -75,14 +75,14 @@ place-named entry m dir entries c j is Blocked at = tt
 
 module _ (entry : ℕ) (e64 : entry ≡ 64) (lot : LotView) (m : ℕ → List ℕ) (i : ℕ) (reached : IsReached entry lot m i) where
   -- a name that leads to the root or to no inode of the lot
-  pub named-broken : IsDirectory lot (inode_of m i) → (c : List ℕ) (j : ℕ) → look_up c (rows_of entry m i) ≡ Some j → (j ≡ 0) ⊎ (64 * length lot.groups ≤ j) → BadEntry entry lot m
+  pub named-broken : IsDirectory lot (inode_of m i) → (c : List ℕ) (j : ℕ) → look_up c (dir_rows_of entry m i) ≡ Some j → (j ≡ 0) ⊎ (64 * length lot.groups ≤ j) → BadEntry entry lot m
   named-broken dir c j is past =
-      let x = named-row (rows_of entry m i) c j is in
+      let x = named-row (dir_rows_of entry m i) c j is in
       record { number = i; row = x.0; reached = reached; dir = dir; has = x.1; bad = subst (λ n. (n ≡ 0) ⊎ (64 * length lot.groups ≤ n)) (sym x.2) past }
 
   -- so does row k
-  pub row-broken : IsDirectory lot (inode_of m i) → (k : ℕ) (c : List ℕ) (j : ℕ) → slice_get (rows_of entry m i) k ≡ Some (c, j) → (j ≡ 0) ⊎ (64 * length lot.groups ≤ j) → BadEntry entry lot m
-  row-broken dir k c j is past = record { number = i; row = (c, j); reached = reached; dir = dir; has = slice-has (rows_of entry m i) k (c, j) is; bad = past }
+  pub row-broken : IsDirectory lot (inode_of m i) → (k : ℕ) (c : List ℕ) (j : ℕ) → slice_get (dir_rows_of entry m i) k ≡ Some (c, j) → (j ≡ 0) ⊎ (64 * length lot.groups ≤ j) → BadEntry entry lot m
+  row-broken dir k c j is past = record { number = i; row = (c, j); reached = reached; dir = dir; has = slice-has (dir_rows_of entry m i) k (c, j) is; bad = past }
 
   -- a search for a name
   pub find-broken : (e : OpFault) → IsFindFault e → (e ≡ Damaged Kind → ¬ IsDirectory lot (inode_of m i)) → IsNode lot (inode_of m i) → (inode_of m i).kind ≡ 2
@@ -100,7 +100,7 @@ module _ (entry : ℕ) (e64 : entry ≡ 64) (lot : LotView) (m : ℕ → List �
 
   -- a read of an entry
   pub entry-broken : (k : ℕ) → HasEntry lot k (inode_of m i) → (e : OpFault) → IsEntryFault e → (e ≡ Damaged Kind → HasEntry lot k (inode_of m i) → ⊥)
-      → (e ≡ Damaged Pointer → leads lot m (inode_of m i) (k / per_block entry) ≡ false) → (e ≡ Damaged BadNameRule → IfSome (slice_get (rows_of entry m i) k) (λ row. is_name row.0 ≡ false)) → IsBrokenBy entry lot m e
+      → (e ≡ Damaged Pointer → leads lot m (inode_of m i) (k / per_block entry) ≡ false) → (e ≡ Damaged BadNameRule → IfSome (slice_get (dir_rows_of entry m i) k) (λ row. is_name row.0 ≡ false)) → IsBrokenBy entry lot m e
   entry-broken k has Disk h kind p n = tt
   entry-broken k has (Damaged Kind) h kind p n = absurd (kind refl has)
   entry-broken k has (Damaged Pointer) h kind p n =
@@ -117,7 +117,7 @@ module _ (entry : ℕ) (e64 : entry ≡ 64) (lot : LotView) (m : ℕ → List �
         row = row_of entry m (inode_of m i) k;
         reached = reached;
         dir = has.is;
-        has = slice-has (rows_of entry m i) k (row_of entry m (inode_of m i) k) row;
+        has = slice-has (dir_rows_of entry m i) k (row_of entry m (inode_of m i) k) row;
         bad = subst (λ o. IfSome o (λ row. is_name row.0 ≡ false)) row (n refl);
       }
   entry-broken k has _ h kind p n = absurd h

@@ -6,7 +6,7 @@ use Rattle.tree_spec.specs.Why as why
 use Rattle.tree_spec.specs.Trees.{Tree, File, Dir, Walk, Found, NotFound, NotDir, walk, parent_walk}
 use Rattle.tree_spec.specs.Costs.{Form, nodes, blocks, node_quota, block_quota}
 use Rattle.tree_spec.specs.Operations.{Mkdir, Make, Write, Read, Trunc, Remove, Rename, ListDir, Stat}
-use Rattle.tree_spec.specs.Answers.{refusal, next, most_done, has_long_name, has_deep_path, is_root, is_found, is_not_found, is_not_dir, is_file_found, is_dir_found, is_full_found, bytes_found, moves_too_deep, is_taken, moves_into_itself}
+use Rattle.tree_spec.specs.Answers.{refusal, next_tree, most_done, has_long_name, has_deep_path, is_root, is_found, is_not_found, is_not_dir, is_file_found, is_dir_found, is_full_found, bytes_found, moves_too_deep, is_taken, moves_into_itself}
 use Rattle.ice_tree.specs.Stages.{or_else, paths_refusal, walk_refusal, file_refusal, dir_refusal, quota_refusal}
 
 abbrev Names : Type 0
@@ -151,40 +151,40 @@ module _ (t : Tree) (k n : ℕ) (f : Form) where
   pub refusal_mkdir : (p : Names)
       → refusal t k n f (Mkdir p)
       ≡ or_else (paths_refusal f (p ∷ [])) (or_else (walk_refusal (parent_walk p t)) (or_else (if is_root p then Some why.IsRoot else None) (
-      or_else (if is_found (walk p t) then Some why.Exists else None) (quota_refusal n f k (next (Mkdir p) t)))))
+      or_else (if is_found (walk p t) then Some why.Exists else None) (quota_refusal n f k (next_tree (Mkdir p) t)))))
   unfolding refusal
-  refusal_mkdir p = let op = Mkdir p in let u = next op t in new_by (has_long_name f op) (has_deep_path op) (parent_walk p t) (is_root p) (is_found (walk p t)) (few u) (full u) spent
+  refusal_mkdir p = let op = Mkdir p in let u = next_tree op t in new_by (has_long_name f op) (has_deep_path op) (parent_walk p t) (is_root p) (is_found (walk p t)) (few u) (full u) spent
 
   pub refusal_make : (p : Names)
       → refusal t k n f (Make p)
       ≡ or_else (paths_refusal f (p ∷ [])) (or_else (walk_refusal (parent_walk p t)) (or_else (if is_root p then Some why.IsRoot else None) (
-      or_else (if is_found (walk p t) then Some why.Exists else None) (quota_refusal n f k (next (Make p) t)))))
+      or_else (if is_found (walk p t) then Some why.Exists else None) (quota_refusal n f k (next_tree (Make p) t)))))
   unfolding refusal
-  refusal_make p = let op = Make p in let u = next op t in new_by (has_long_name f op) (has_deep_path op) (parent_walk p t) (is_root p) (is_found (walk p t)) (few u) (full u) spent
+  refusal_make p = let op = Make p in let u = next_tree op t in new_by (has_long_name f op) (has_deep_path op) (parent_walk p t) (is_root p) (is_found (walk p t)) (few u) (full u) spent
 
   pub refusal_write : (p : Names) (at : ℕ) (bytes : List ℕ)
       → refusal t k n f (Write p at bytes)
       ≡ or_else (paths_refusal f (p ∷ [])) (or_else (file_refusal (walk p t)) (or_else (if nat_lt (length (bytes_found (walk p t))) at then Some why.BeyondEnd else None) (
-      or_else (if nat_lt f.longest_file (at + length bytes) then Some why.FileBig else None) (quota_refusal n f k (next (Write p at bytes) t)))))
+      or_else (if nat_lt f.longest_file (at + length bytes) then Some why.FileBig else None) (quota_refusal n f k (next_tree (Write p at bytes) t)))))
   unfolding refusal
   refusal_write p at bytes =
       let op = Write p at bytes in
-      let u = next op t in
+      let u = next_tree op t in
       write_by (has_long_name f op) (has_deep_path op) (walk p t) (nat_lt (length (bytes_found (walk p t))) at) (nat_lt f.longest_file (at + length bytes)) (few u) (full u) spent
 
   pub refusal_trunc : (p : Names) (len : ℕ)
       → refusal t k n f (Trunc p len)
       ≡ or_else (paths_refusal f (p ∷ [])) (or_else (file_refusal (walk p t)) (or_else (if nat_lt (length (bytes_found (walk p t))) len then Some why.BeyondEnd else None) (
-      quota_refusal n f k (next (Trunc p len) t))))
+      quota_refusal n f k (next_tree (Trunc p len) t))))
   unfolding refusal
-  refusal_trunc p len = let op = Trunc p len in let u = next op t in trunc_by (has_long_name f op) (has_deep_path op) (walk p t) (nat_lt (length (bytes_found (walk p t))) len) (few u) (full u) spent
+  refusal_trunc p len = let op = Trunc p len in let u = next_tree op t in trunc_by (has_long_name f op) (has_deep_path op) (walk p t) (nat_lt (length (bytes_found (walk p t))) len) (few u) (full u) spent
 
   pub refusal_remove : (p : Names)
       → refusal t k n f (Remove p)
       ≡ or_else (paths_refusal f (p ∷ [])) (or_else (walk_refusal (walk p t)) (or_else (if is_root p then Some why.IsRoot else None) (
-      or_else (if is_full_found (walk p t) then Some why.NotEmpty else None) (quota_refusal n f k (next (Remove p) t)))))
+      or_else (if is_full_found (walk p t) then Some why.NotEmpty else None) (quota_refusal n f k (next_tree (Remove p) t)))))
   unfolding refusal
-  refusal_remove p = let op = Remove p in let u = next op t in remove_by (has_long_name f op) (has_deep_path op) (walk p t) (is_root p) (is_full_found (walk p t)) (few u) (full u) spent
+  refusal_remove p = let op = Remove p in let u = next_tree op t in remove_by (has_long_name f op) (has_deep_path op) (walk p t) (is_root p) (is_full_found (walk p t)) (few u) (full u) spent
 
   pub refusal_rename : (p q : Names)
       → refusal t k n f (Rename p q)
@@ -192,9 +192,9 @@ module _ (t : Tree) (k n : ℕ) (f : Form) where
       or_else (if is_not_found (walk p t) || is_not_found (parent_walk q t) then Some why.NotFound else None) (
       or_else (if is_not_dir (walk p t) || is_not_dir (parent_walk q t) then Some why.NotDir else None) (
       or_else (if is_root p || is_root q then Some why.IsRoot else None) (or_else (if is_taken (Rename p q) t then Some why.Exists else None) (
-      or_else (if moves_into_itself (Rename p q) then Some why.IntoItself else None) (quota_refusal n f k (next (Rename p q) t))))))))
+      or_else (if moves_into_itself (Rename p q) then Some why.IntoItself else None) (quota_refusal n f k (next_tree (Rename p q) t))))))))
   unfolding refusal
   refusal_rename p q =
       let op = Rename p q in
-      let u = next op t in
+      let u = next_tree op t in
       rename_by (has_long_name f op) (has_deep_path op) (moves_too_deep op t) (walk p t) (parent_walk q t) (is_root p || is_root q) (is_taken op t) (moves_into_itself op) (few u) (full u) spent

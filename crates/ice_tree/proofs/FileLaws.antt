@@ -18,7 +18,7 @@ use Rattle.tree_spec.specs.Why as why
 use Rattle.tree_spec.specs.Trees.{Tree, File, Dir, Entries, Nil, Entry, rows, by_bytes, walk, and_on, found_or_not, Found, at, over_entry}
 use Rattle.tree_spec.specs.Costs.{Form, form_one, blocks, map_cost, file_blocks, dir_blocks}
 use Rattle.tree_spec.specs.Operations.{Operation, Write, Trunc}
-use Rattle.tree_spec.specs.Answers.{next, refusal, written, bytes_of, bytes_found}
+use Rattle.tree_spec.specs.Answers.{next_tree, refusal, written, bytes_of, bytes_found}
 use Rattle.tree_spec.specs.Replies.{Refused}
 use Rattle.tree_spec.proofs.Accepted.{WritesFile, accepted-write, CutsFile, accepted-trunc}
 use Rattle.tree_spec.proofs.Changes.{total-file}
@@ -54,11 +54,11 @@ beyond p at t = if nat_lt (length (bytes_found (walk p t))) at then Some why.Bey
 abbrev pub big : Form → ℕ → List ℕ → Option Why
 big f at bytes = if nat_lt f.longest_file (at + length bytes) then Some why.FileBig else None
 
-pub write-stages : (t : Tree) (k n : ℕ) (f : Form) (p : Names) (at : ℕ) (bytes : List ℕ) → refusal t k n f (Write p at bytes) ≡ or_else (reach_refusal f p at t) (or_else (big f at bytes) (quota_refusal n f k (next (Write p at bytes) t)))
-write-stages t k n f p at bytes = refusal_write t k n f p at bytes ∙ chained (paths_refusal f (p ∷ [])) (file_refusal (walk p t)) (beyond p at t) (or_else (big f at bytes) (quota_refusal n f k (next (Write p at bytes) t)))
+pub write-stages : (t : Tree) (k n : ℕ) (f : Form) (p : Names) (at : ℕ) (bytes : List ℕ) → refusal t k n f (Write p at bytes) ≡ or_else (reach_refusal f p at t) (or_else (big f at bytes) (quota_refusal n f k (next_tree (Write p at bytes) t)))
+write-stages t k n f p at bytes = refusal_write t k n f p at bytes ∙ chained (paths_refusal f (p ∷ [])) (file_refusal (walk p t)) (beyond p at t) (or_else (big f at bytes) (quota_refusal n f k (next_tree (Write p at bytes) t)))
 
-pub trunc-stages : (t : Tree) (k n : ℕ) (f : Form) (p : Names) (len : ℕ) → refusal t k n f (Trunc p len) ≡ or_else (reach_refusal f p len t) (quota_refusal n f k (next (Trunc p len) t))
-trunc-stages t k n f p len = refusal_trunc t k n f p len ∙ chained (paths_refusal f (p ∷ [])) (file_refusal (walk p t)) (beyond p len t) (quota_refusal n f k (next (Trunc p len) t))
+pub trunc-stages : (t : Tree) (k n : ℕ) (f : Form) (p : Names) (len : ℕ) → refusal t k n f (Trunc p len) ≡ or_else (reach_refusal f p len t) (quota_refusal n f k (next_tree (Trunc p len) t))
+trunc-stages t k n f p len = refusal_trunc t k n f p len ∙ chained (paths_refusal f (p ∷ [])) (file_refusal (walk p t)) (beyond p len t) (quota_refusal n f k (next_tree (Trunc p len) t))
 
 module _ (f : Form) (p : Names) (at : ℕ) (t : Tree) (names : paths_refusal f (p ∷ []) ≡ None) where
   -- the walk refuses
@@ -97,16 +97,16 @@ set-needs f p g t old found b c size new s n more less =
     record { nodes_move = omega arith; blocks_move = omega arith }
 
 pub write-needs : (f : Form) (p : Names) (t : Tree) (old : List ℕ) (off : ℕ) (bytes : List ℕ) → walk p t ≡ Found (File old) → off ≤ length old → (size new : ℕ) (need : Need) → size ≡ length old → new ≡ max size (off + length bytes)
-    → need ≡ record { nodes = 0; lost = 0; blocks = map_cost (file_blocks new); freed = map_cost (file_blocks size) } → Needs f t (next (Write p off bytes) t) need
+    → need ≡ record { nodes = 0; lost = 0; blocks = map_cost (file_blocks new); freed = map_cost (file_blocks size) } → Needs f t (next_tree (Write p off bytes) t) need
 write-needs f p t old off bytes found within size new need s n is =
     let long = length-written old off bytes within in
-    subst (Needs f t (next (Write p off bytes) t)) (sym is) (set-needs f p (λ u. written (bytes_of u) off bytes) t old found _ _ size new s (omega arith) refl refl)
+    subst (Needs f t (next_tree (Write p off bytes) t)) (sym is) (set-needs f p (λ u. written (bytes_of u) off bytes) t old found _ _ size new s (omega arith) refl refl)
 
 pub trunc-needs : (f : Form) (p : Names) (t : Tree) (old : List ℕ) (len : ℕ) → walk p t ≡ Found (File old) → len ≤ length old → (size : ℕ) (need : Need) → size ≡ length old
-    → need ≡ record { nodes = 0; lost = 0; blocks = map_cost (file_blocks len); freed = map_cost (file_blocks size) } → Needs f t (next (Trunc p len) t) need
+    → need ≡ record { nodes = 0; lost = 0; blocks = map_cost (file_blocks len); freed = map_cost (file_blocks size) } → Needs f t (next_tree (Trunc p len) t) need
 trunc-needs f p t old len found within size need s is =
     let long = length-take len old in
-    subst (Needs f t (next (Trunc p len) t)) (sym is) (set-needs f p (λ u. take len (bytes_of u)) t old found _ _ size len s (omega arith) refl refl)
+    subst (Needs f t (next_tree (Trunc p len) t)) (sym is) (set-needs f p (λ u. take len (bytes_of u)) t old found _ _ size len s (omega arith) refl refl)
 
 -- ---- a change of one place, by what it makes of the tree that stands there
 
@@ -198,8 +198,8 @@ module _ (f : Form) (one : f ≡ form_one) (entry : ℕ) (sized : entry ≡ 64) 
         let d = file mode lot m t k p number few write-takes.recovers write-takes.number_is writes.old writes.found in
         let l = long in let a = d.size in let b = d.within in let c = writes.small in omega arith
 
-    pub write-recovers : (m' : Map) → FileSet lot entry m m' number (overwritten (file_bytes (own entry m number)) off bytes) → MapRecovers f mode lot m' (next (Write p off bytes) t) k
-    write-recovers m' set = subst (λ g. MapRecovers g mode lot m' (next (Write p off bytes) t) k) (sym one)
+    pub write-recovers : (m' : Map) → FileSet lot entry m m' number (overwritten (file_bytes (own entry m number)) off bytes) → MapRecovers f mode lot m' (next_tree (Write p off bytes) t) k
+    write-recovers m' set = subst (λ g. MapRecovers g mode lot m' (next_tree (Write p off bytes) t) k) (sym one)
         (put mode lot m t k p number few write-takes.recovers write-takes.number_is writes.old writes.found m' (λ u. written u off bytes) short
         (subst (λ s. FileSet lot s m m' number (overwritten (file_bytes (own s m number)) off bytes)) sized set))
 
@@ -232,8 +232,8 @@ module _ (f : Form) (one : f ≡ form_one) (entry : ℕ) (sized : entry ≡ 64) 
     pub cut-made : WellMade lot entry m number
     cut-made = subst (λ s. WellMade lot s m number) (sym sized) (made mode lot m t k p number few cut-takes.recovers cut-takes.number_is cuts.old cuts.found)
 
-    pub cut-recovers : (m' : Map) → FileSet lot entry m m' number (take len (file_bytes (own entry m number))) → MapRecovers f mode lot m' (next (Trunc p len) t) k
-    cut-recovers m' set = subst (λ g. MapRecovers g mode lot m' (next (Trunc p len) t) k) (sym one)
+    pub cut-recovers : (m' : Map) → FileSet lot entry m m' number (take len (file_bytes (own entry m number))) → MapRecovers f mode lot m' (next_tree (Trunc p len) t) k
+    cut-recovers m' set = subst (λ g. MapRecovers g mode lot m' (next_tree (Trunc p len) t) k) (sym one)
         (put mode lot m t k p number few cut-takes.recovers cut-takes.number_is cuts.old cuts.found m' (λ u. take len u)
         (let d = file mode lot m t k p number few cut-takes.recovers cut-takes.number_is cuts.old cuts.found in let l = length-take len cuts.old in let a = d.size in let b = d.within in omega arith)
         (subst (λ s. FileSet lot s m m' number (take len (file_bytes (own s m number)))) sized set))

@@ -9,7 +9,7 @@ use Rattle.tree_spec.specs.Trees.{Tree, Entries, Nil, Entry, rows, by_bytes, Wal
 use Rattle.tree_spec.specs.Trees as tree
 use Rattle.tree_spec.specs.Costs.{Form, form_one, nodes, blocks, map_cost, file_blocks, dir_blocks}
 use Rattle.tree_spec.specs.Operations.{Remove}
-use Rattle.tree_spec.specs.Answers.{next, is_root, is_full_found, bytes_of, bytes_found}
+use Rattle.tree_spec.specs.Answers.{next_tree, is_root, is_full_found, bytes_of, bytes_found}
 use Rattle.tree_spec.specs.Replies.{refused_of}
 use Rattle.tree_spec.specs.declared.reply.Refusal.{Refusal}
 use Rattle.tree_spec.specs.declared.reply.Refusal.TheVariants as code
@@ -213,7 +213,7 @@ its-blocks (tree.Dir (Entry c t es)) e = absurd (subst T e tt)
 
 -- what its removal needs
 pub gone-needs : (f : Form) → f ≡ form_one → (mode : ℕ) (lot : LotView) (m : Map) (t : Tree) (k : ℕ) (p : Names) (gone : Gone) (need : Need) → MapRecovers f mode lot m t k → IsGone f (own_in f m) p t gone → gone_refusal p t ≡ None
-    → need.nodes ≡ 0 → need.lost ≡ 1 → need.blocks ≡ map_cost (dir_blocks f (gone.spot.entries - 1)) → need.freed ≡ map_cost (dir_blocks f gone.spot.entries) + map_cost (file_blocks gone.bytes) → Needs f t (next (Remove p) t) need
+    → need.nodes ≡ 0 → need.lost ≡ 1 → need.blocks ≡ map_cost (dir_blocks f (gone.spot.entries - 1)) → need.freed ≡ map_cost (dir_blocks f gone.spot.entries) + map_cost (file_blocks gone.bytes) → Needs f t (next_tree (Remove p) t) need
 gone-needs f one mode lot m t k p gone need r is none n l b d =
     let g = removable p t none in
     let o : T (is_ordered t) = Reads-ordered f lot (own_in f m) 0 0 t r.holds.reads in

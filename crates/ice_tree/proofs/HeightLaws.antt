@@ -6,7 +6,7 @@ use Rattle.std.specs.Prelude.{IfSome}
 use Rattle.ice_map.specs.declared.codec.Inode.{Inode}
 use Rattle.ice_map.specs.Inodes.{inode_of}
 use Rattle.ice_map.specs.Maps.{leads}
-use Rattle.ice_dir.specs.Rows.{HasEntry, rows_of, per_block}
+use Rattle.ice_dir.specs.Rows.{HasEntry, dir_rows_of, per_block}
 use Rattle.ice_dir.proofs.DirLaws.{per-sixteen}
 use Rattle.tree_spec.specs.Names.{is_name}
 use Rattle.tree_spec.specs.Costs.{form_one}
@@ -36,7 +36,7 @@ use Rattle.ice_base.specs.declared.fault.OpFault.{OpFault}
 use Rattle.ice_base.specs.declared.fault.OpFault.TheVariants.{Disk, Damaged}
 use Rattle.ice_base.specs.declared.fault.Rule.TheVariants.{Kind, Pointer, Name}
 use Rattle.ice_dir.specs.Faults.{IsEntryFault}
-use Rattle.ice_dir.specs.Rows.{Row}
+use Rattle.ice_dir.specs.Rows.{DirRow}
 use Rattle.tree_spec.specs.Trees.{Tree, Entries, Nil, Entry, rows, by_bytes, child, found_or_not, Walk, Found, NotFound, without, height, height_in, total_in}
 use Rattle.tree_spec.specs.Trees as tree
 use Rattle.tree_spec.specs.Costs.{Form, nodes}
@@ -56,23 +56,23 @@ abbrev pub many_of : Option Tree → ℕ
 many_of None = 0
 many_of (Some t) = nodes t
 
-abbrev pub high : Entries → Row → ℕ
+abbrev pub high : Entries → DirRow → ℕ
 high es row = high_of (find by_bytes row.0 (rows es))
 
-abbrev pub many : Entries → Row → ℕ
+abbrev pub many : Entries → DirRow → ℕ
 many es row = many_of (find by_bytes row.0 (rows es))
 
-abbrev names : List Row → List (List ℕ)
-names rs = map (λ (row : Row). row.0) rs
+abbrev names : List DirRow → List (List ℕ)
+names rs = map (λ (row : DirRow). row.0) rs
 
 -- ---- nodes
 
-sum-none : (rs : List Row) → sum_by (many Nil) rs ≡ 0
+sum-none : (rs : List DirRow) → sum_by (many Nil) rs ≡ 0
 sum-none [] = refl
 sum-none (r ∷ rs) = let e = sum_by-cons (many Nil) r rs in let n = sum-none rs in omega arith
 
 -- rows of other names don't see the first entry
-sum-past : (c : List ℕ) (t : Tree) (es : Entries) (rs : List Row) → AllByRecursion (λ y. eq_by_cmp by_bytes c y ≡ false) (names rs) → sum_by (many (Entry c t es)) rs ≡ sum_by (many es) rs
+sum-past : (c : List ℕ) (t : Tree) (es : Entries) (rs : List DirRow) → AllByRecursion (λ y. eq_by_cmp by_bytes c y ≡ false) (names rs) → sum_by (many (Entry c t es)) rs ≡ sum_by (many es) rs
 sum-past c t es [] d = refl
 sum-past c t es (r ∷ rs) d =
     let e : eq_by_cmp by_bytes r.0 c ≡ false = is_same_name-sym r.0 c ∙ d.0 in
@@ -82,7 +82,7 @@ sum-past c t es (r ∷ rs) d =
     let y = sum_by-cons (many es) r rs in
     omega arith
 
-sum-first : (c : List ℕ) (t : Tree) (es : Entries) (rs : List Row) → IsDistinct (eq_by_cmp by_bytes) (names rs) → sum_by (many (Entry c t es)) rs ≤ nodes t + sum_by (many es) rs
+sum-first : (c : List ℕ) (t : Tree) (es : Entries) (rs : List DirRow) → IsDistinct (eq_by_cmp by_bytes) (names rs) → sum_by (many (Entry c t es)) rs ≤ nodes t + sum_by (many es) rs
 sum-first c t es [] d = omega arith
 sum-first c t es (r ∷ rs) d =
     let x = sum_by-cons (many (Entry c t es)) r rs in
@@ -98,7 +98,7 @@ sum-first c t es (r ∷ rs) d =
     omega arith
 
 -- the rows of different names have no more nodes than the entries
-pub sum-many : (es : Entries) (rs : List Row) → IsDistinct (eq_by_cmp by_bytes) (names rs) → sum_by (many es) rs ≤ total_in (λ _. 1) (λ _. 1) es
+pub sum-many : (es : Entries) (rs : List DirRow) → IsDistinct (eq_by_cmp by_bytes) (names rs) → sum_by (many es) rs ≤ total_in (λ _. 1) (λ _. 1) es
 sum-many Nil rs d = let e = sum-none rs in omega arith
 sum-many (Entry c t es) rs d = let e = sum-first c t es rs d in let s = sum-many es rs d in omega arith
 
@@ -131,7 +131,7 @@ low-entries n (Entry c t es) sorted low =
           | false ↦ λ e. is
         ] refl
 
-find-lookup : (q : List ℕ) (rs : List Row) → find by_bytes q rs ≡ lookup (eq_by_cmp by_bytes q) rs
+find-lookup : (q : List ℕ) (rs : List DirRow) → find by_bytes q rs ≡ lookup (eq_by_cmp by_bytes q) rs
 find-lookup q [] = refl
 find-lookup q (e ∷ rs) = ap (λ r. cond (eq_by_cmp by_bytes q e.0) (Some e.1) r) (find-lookup q rs)
 
@@ -140,16 +140,16 @@ some_value None e = absurd (subst T (sym e) tt)
 some_value (Some j) e = refl
 
 module _ (f : Form) (lot : LotView) (o : Table) (i h : ℕ) (es : Entries) (r : Reads f lot o i h (tree.Dir es)) where
-  abbrev rs : List Row
+  abbrev rs : List DirRow
   rs = rows_in f (o i)
 
   -- what each row shows bounds the height of the directory
-  pub low-rows : (n : ℕ) → All (λ (row : Row). high es row ≤ n) (rows_in f (o i)) → height (tree.Dir es) ≤ n
+  pub low-rows : (n : ℕ) → All (λ (row : DirRow). high es row ≤ n) (rows_in f (o i)) → height (tree.Dir es) ≤ n
   low-rows n low = low-entries n es r.1.sorted (λ c t is.
       let some : is_some (find by_bytes c rs) ≡ true = sym (r.1.maps c) ∙ ap is_some is in
       let row : lookup (eq_by_cmp by_bytes c) rs ≡ Some (unwrap_or (find by_bytes c rs) 0) = sym (find-lookup c rs) ∙ some_value (find by_bytes c rs) some in
       let has : Contains rs (c, unwrap_or (find by_bytes c rs) 0) = Contains-from_lookup same_name c (unwrap_or (find by_bytes c rs) 0) rs row in
-      let at : high es (c, unwrap_or (find by_bytes c rs) 0) ≤ n = All-contains (λ (row : Row). high es row ≤ n) rs (c, unwrap_or (find by_bytes c rs) 0) low has in
+      let at : high es (c, unwrap_or (find by_bytes c rs) 0) ≤ n = All-contains (λ (row : DirRow). high es row ≤ n) rs (c, unwrap_or (find by_bytes c rs) 0) low has in
       let e = ap high_of is in
       omega arith)
 
@@ -200,20 +200,20 @@ module _ (f : Form) (one : f ≡ form_one) (lot : LotView) (m : Map) (i h : ℕ)
       let low : k / 16 * 16 < (inode_of m i).size = omega (arith, div-add-mod' k 16) in
       rw (per-sixteen entry is) low)
 
-  row-here : rows_in f (own_in f m i) ≡ rows_of entry m i
-  row-here = ap (λ g. rows_in g (own_in g m i)) one ∙ ap (λ x. rows_of x m i) (sym is)
+  row-here : rows_in f (own_in f m i) ≡ dir_rows_of entry m i
+  row-here = ap (λ g. rows_in g (own_in g m i)) one ∙ ap (λ x. dir_rows_of x m i) (sym is)
 
-  dir-named : IfSome (slice_get (rows_of entry m i) k) (λ row. is_name row.0 ≡ false) → ⊥
+  dir-named : IfSome (slice_get (dir_rows_of entry m i) k) (λ row. is_name row.0 ≡ false) → ⊥
   dir-named wrong =
       let inside : k < length (rows_in f (own_in f m i)) = (let c = r.1.count in let l = length-rows_in f (own_in f m i) in omega arith) in
-      let good : is_name (get_or (rows_in f (own_in f m i)) k ([], 0)).0 ≡ true = (All-get_or (λ (row : Row). IsNameOf f row.0) (rows_in f (own_in f m i)) k ([], 0) inside r.1.fit).is in
+      let good : is_name (get_or (rows_in f (own_in f m i)) k ([], 0)).0 ≡ true = (All-get_or (λ (row : DirRow). IsNameOf f row.0) (rows_in f (own_in f m i)) k ([], 0) inside r.1.fit).is in
       let bad : is_name (get_or (rows_in f (own_in f m i)) k ([], 0)).0 ≡ false =
-      subst (λ o. IfSome o (λ (row : Row). is_name row.0 ≡ false)) (ap (λ rs. slice_get rs k) (sym row-here) ∙ slice_get-get_or (rows_in f (own_in f m i)) k ([], 0) inside) wrong in
+      subst (λ o. IfSome o (λ (row : DirRow). is_name row.0 ≡ false)) (ap (λ rs. slice_get rs k) (sym row-here) ∙ slice_get-get_or (rows_in f (own_in f m i)) k ([], 0) inside) wrong in
       absurd (subst T (sym good ∙ bad) tt)
 
   -- it fails by the disk alone
   pub entry-fails : (e : OpFault) → IsEntryFault e → (e ≡ Damaged Kind → ¬ HasEntry lot k (inode_of m i)) → (e ≡ Damaged Pointer → leads lot m (inode_of m i) (k / per_block entry) ≡ false)
-      → (e ≡ Damaged Name → IfSome (slice_get (rows_of entry m i) k) (λ row. is_name row.0 ≡ false)) → e ≡ Disk
+      → (e ≡ Damaged Name → IfSome (slice_get (dir_rows_of entry m i) k) (λ row. is_name row.0 ≡ false)) → e ≡ Disk
   entry-fails Disk h kind pointer name = refl
   entry-fails (Damaged Kind) h kind pointer name = absurd (kind refl dir-has)
   entry-fails (Damaged Pointer) h kind pointer name = absurd (subst T (sym dir-lead ∙ pointer refl) tt)
@@ -221,10 +221,10 @@ module _ (f : Form) (one : f ≡ form_one) (lot : LotView) (m : Map) (i h : ℕ)
   entry-fails _ h kind pointer name = absurd h
 
   -- and gives a row that names a tree of the directory
-  pub entry-child : (c : List ℕ) (j : ℕ) → slice_get (rows_of entry m i) k ≡ Some (c, j) → RowChild f lot (own_in f m) i h es r c j
+  pub entry-child : (c : List ℕ) (j : ℕ) → slice_get (dir_rows_of entry m i) k ≡ Some (c, j) → RowChild f lot (own_in f m) i h es r c j
   entry-child c j row = row-child f lot (own_in f m) i h es r k c j (ap (λ rs. slice_get rs k) row-here ∙ row)
 
-  pub entry-row : (c : List ℕ) (j : ℕ) → slice_get (rows_of entry m i) k ≡ Some (c, j) → slice_get (rows_in f (own_in f m i)) k ≡ Some (c, j)
+  pub entry-row : (c : List ℕ) (j : ℕ) → slice_get (dir_rows_of entry m i) k ≡ Some (c, j) → slice_get (rows_in f (own_in f m i)) k ≡ Some (c, j)
   entry-row c j row = ap (λ rs. slice_get rs k) row-here ∙ row
 
 -- ---- one row more
@@ -261,9 +261,9 @@ module _ (f : Form) (lot : LotView) (o : Table) (i h k : ℕ) (es : Entries) (r 
   pub child-left : (first now : ℕ) → first + sum_by (many es) (drop k (rows_in f (o i))) ≤ now + sum_by (many es) (rows_in f (o i)) → first + 1 ≤ now + nodes (tree.Dir es)
   child-left first now spent = let s = fits-rows f lot o i h es r in omega arith
 
-  pub child-low : (n : ℕ) → All (λ (row : Row). high es row ≤ n + 1) (take k (rows_in f (o i))) → nat_lt n (height c.tree) ≡ false → All (λ (row : Row). high es row ≤ n + 1) (take (k + 1) (rows_in f (o i)))
+  pub child-low : (n : ℕ) → All (λ (row : DirRow). high es row ≤ n + 1) (take k (rows_in f (o i))) → nat_lt n (height c.tree) ≡ false → All (λ (row : DirRow). high es row ≤ n + 1) (take (k + 1) (rows_in f (o i)))
   child-low n low is =
-      All-more (λ (row : Row). high es row ≤ n + 1) (rows_in f (o i)) k ([], 0) child-inside low (
+      All-more (λ (row : DirRow). high es row ≤ n + 1) (rows_in f (o i)) k ([], 0) child-inside low (
       let b : height c.tree ≤ n = grind (arith, nat_tests) in
       let e = child-high in
       omega arith)
@@ -277,12 +277,12 @@ module _ (f : Form) (lot : LotView) (o : Table) (i h k : ℕ) (es : Entries) (r 
 
 -- after the last row
 module _ (f : Form) (lot : LotView) (o : Table) (i h : ℕ) (es : Entries) (r : Reads f lot o i h (tree.Dir es)) (size : ℕ) (is : size ≡ length (rows es)) where
-  pub all-low : (n k : ℕ) → size ≤ k → All (λ (row : Row). high es row ≤ n) (take k (rows_in f (o i))) → nat_lt n (height (tree.Dir es)) ≡ false
+  pub all-low : (n k : ℕ) → size ≤ k → All (λ (row : DirRow). high es row ≤ n) (take k (rows_in f (o i))) → nat_lt n (height (tree.Dir es)) ≡ false
   all-low n k past low =
       let c = r.1.count in
       let l = length-rows_in f (o i) in
       let whole : take k (rows_in f (o i)) ≡ rows_in f (o i) = take_all k (rows_in f (o i)) (omega arith) in
-      let b = low-rows f lot o i h es r n (subst (All (λ (row : Row). high es row ≤ n)) whole low) in
+      let b = low-rows f lot o i h es r n (subst (All (λ (row : DirRow). high es row ≤ n)) whole low) in
       grind (arith, nat_tests)
 
   pub all-spent : (first now k : ℕ) → first + sum_by (many es) (drop k (rows_in f (o i))) ≤ now + sum_by (many es) (rows_in f (o i)) → first + 1 ≤ now + nodes (tree.Dir es)

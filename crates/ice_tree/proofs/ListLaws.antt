@@ -25,7 +25,7 @@ use Rattle.ice_base.specs.declared.fault.Rule.TheVariants.{Kind, Pointer, Name a
 use Rattle.ice_map.specs.declared.codec.Inode.{Inode}
 use Rattle.ice_map.specs.Inodes.{inode_of}
 use Rattle.ice_map.specs.Maps.{leads}
-use Rattle.ice_dir.specs.Rows.{Row, HasEntry, per_block, row_of, rows_of}
+use Rattle.ice_dir.specs.Rows.{DirRow, HasEntry, per_block, row_of, dir_rows_of}
 use Rattle.ice_dir.specs.Faults.{IsEntryFault}
 use Rattle.ice_dir.proofs.DirLaws.{get-row, length-rows, per-sixteen}
 use Rattle.tree_spec.specs.Answers.{listed, tree_found, is_dir}
@@ -155,18 +155,18 @@ module _ (es : Entries) where
   abbrev kind_under : List ℕ → Bool
   kind_under c = is_dir (tree_found (child c (Dir es)))
 
-  abbrev tagged : Row → Tagged
+  abbrev tagged : DirRow → Tagged
   tagged row = (row.0, kind_under row.0)
 
-  kinds-rows : (rs : List Row) → map kind_of (map (listed_as es) rs) ≡ map tagged rs
+  kinds-rows : (rs : List DirRow) → map kind_of (map (listed_as es) rs) ≡ map tagged rs
   kinds-rows [] = refl
   kinds-rows (e ∷ rs) = ap (λ xs. tagged e ∷ xs) (kinds-rows rs)
 
-  keys-tagged : (rs : List Row) → keys (map tagged rs) ≡ map (λ (row : Row). row.0) rs
+  keys-tagged : (rs : List DirRow) → keys (map tagged rs) ≡ map (λ (row : DirRow). row.0) rs
   keys-tagged [] = refl
   keys-tagged (e ∷ rs) = ap (λ xs. e.0 ∷ xs) (keys-tagged rs)
 
-  find-tagged : (q : List ℕ) (rs : List Row) → find by_bytes q (map tagged rs) ≡ cond (is_some (find by_bytes q rs)) (Some (kind_under q)) None
+  find-tagged : (q : List ℕ) (rs : List DirRow) → find by_bytes q (map tagged rs) ≡ cond (is_some (find by_bytes q rs)) (Some (kind_under q)) None
   find-tagged q [] = refl
   find-tagged q (e ∷ rs) =
       elim (eq_by_cmp by_bytes q e.0) as (λ b. eq_by_cmp by_bytes q e.0 ≡ b → cond b (Some (kind_under e.0)) (find by_bytes q (map tagged rs)) ≡ cond (is_some (cond b (Some e.1) (find by_bytes q rs))) (Some (kind_under q)) None) [
@@ -190,7 +190,7 @@ find-kinds q (e ∷ xs) =
     ]
 
 -- the rows of a directory, each with the kind of its tree and then sorted by name, are the tree's own entries
-pub sorted-listing : (es : Entries) (rs : List Row) (found : List Entry) → T (is_sorted by_bytes (rows es)) → IsDistinct (eq_by_cmp by_bytes) (map (λ (row : Row). row.0) rs)
+pub sorted-listing : (es : Entries) (rs : List DirRow) (found : List Entry) → T (is_sorted by_bytes (rows es)) → IsDistinct (eq_by_cmp by_bytes) (map (λ (row : DirRow). row.0) rs)
     → ((c : List ℕ) → is_some (find by_bytes c (rows es)) ≡ is_some (find by_bytes c rs)) → IsPermutation (map (listed_as es) rs) found → IsSorted by_name found → found ≡ map listed (rows es)
 sorted-listing es rs found order differ maps moved sorted =
     let p : IsPermutation (map (tagged es) rs) (map kind_of found) = subst (λ xs. IsPermutation xs (map kind_of found)) (kinds-rows es rs) (IsPermutation-map kind_of (map (listed_as es) rs) found moved) in
@@ -228,7 +228,7 @@ pub shows-file : (p : Place) (j : ℕ) (s : Tree) (b : Bool) → p ≡ place_by 
 shows-file p j (tree.File bytes) b at not t = t
 shows-file p j (Dir es) b at not t = absurd (not j (length (rows es)) at)
 
-pub listed-row : (es : Entries) (row : Row) (c : List ℕ) (j : ℕ) (s : Tree) (e : Entry) → row ≡ (c, j) → child c (Dir es) ≡ Found s → e.name ≡ c → e.dir ≡ is_dir s → e ≡ listed_as es row
+pub listed-row : (es : Entries) (row : DirRow) (c : List ℕ) (j : ℕ) (s : Tree) (e : Entry) → row ≡ (c, j) → child c (Dir es) ≡ Found s → e.name ≡ c → e.dir ≡ is_dir s → e ≡ listed_as es row
 listed-row es row c j s e is found name kind =
     (λ i. entry_of (name i, kind i)) ∙ ap (λ w. entry_of (c, is_dir (tree_found w))) (sym found) ∙ ap (listed_as es) (sym is)
 
@@ -258,18 +258,18 @@ module _ (f : Form) (one : f ≡ form_one) (lot : LotView) (m : Map) (i h : ℕ)
 
   -- an entry of a directory that stands for a tree fails by the disk alone
   pub entry-fails : (k entry : ℕ) → k < length (rows es) → entry ≡ 64 → (e : OpFault) → IsEntryFault e → (e ≡ Damaged Kind → HasEntry lot k (inode_of m i) → ⊥)
-      → (e ≡ Damaged Pointer → leads lot m (inode_of m i) (k / per_block entry) ≡ false) → (e ≡ Damaged BadName → IfSome (slice_get (rows_of entry m i) k) (λ row. is_name row.0 ≡ false)) → e ≡ Disk
+      → (e ≡ Damaged Pointer → leads lot m (inode_of m i) (k / per_block entry) ≡ false) → (e ≡ Damaged BadName → IfSome (slice_get (dir_rows_of entry m i) k) (λ row. is_name row.0 ≡ false)) → e ≡ Disk
   entry-fails k entry below en e faults kind pointer name =
       let has = entry-is k below in
       entry-faults e faults (λ q. kind q has)
       (λ q. true_false (leads lot m (inode_of m i) (k / per_block entry)) (dir-leads f one lot m i h (Dir es) r entry (k / per_block entry) en has.is.kind (block-below k entry en has.below)) (pointer q))
       (λ q.
       let row = get-row entry m i k en has.is.kind has.below in
-      let same = ap (λ (xs : List Row). slice_get xs k) (rows-own f one lot m i h entry en) ∙ row in
+      let same = ap (λ (xs : List DirRow). slice_get xs k) (rows-own f one lot m i h entry en) ∙ row in
       let long = ap length (rows-own f one lot m i h entry en) ∙ length-rows entry m i in
       let has_below = has.below in
       let fits : IsNameOf f (row_of entry m (inode_of m i) k).0 =
-      subst (λ (x : Row). IsNameOf f x.0) (get_or_from_slice_get (rows_in f (own_in f m i)) k (row_of entry m (inode_of m i) k) ([], 0) same) (r.1.fit k ([], 0) (omega arith)) in
+      subst (λ (x : DirRow). IsNameOf f x.0) (get_or_from_slice_get (rows_in f (own_in f m i)) k (row_of entry m (inode_of m i) k) ([], 0) same) (r.1.fit k ([], 0) (omega arith)) in
       true_false (is_name (row_of entry m (inode_of m i) k).0) fits.is (subst (λ o. IfSome o (λ row. is_name row.0 ≡ false)) row (name q)))
 
   -- as many rows as entries
@@ -277,7 +277,7 @@ module _ (f : Form) (one : f ≡ form_one) (lot : LotView) (m : Map) (i h : ℕ)
   rows-long entry e = ap length (rows-own f one lot m i h entry e) ∙ length-rows entry m i ∙ ap (λ (x : Inode). x.size) (sym (inode-own f one lot m i h)) ∙ sym r.1.count
 
 -- one entry more in the room
-pub listed-more : (es : Entries) (rs : List Row) (k : ℕ) (old new : List Entry) → k < length rs → old ≡ map (listed_as es) (take k rs) → ((row : Row) → slice_get rs k ≡ Some row → new ≡ old ++ listed_as es row ∷ [])
+pub listed-more : (es : Entries) (rs : List DirRow) (k : ℕ) (old new : List Entry) → k < length rs → old ≡ map (listed_as es) (take k rs) → ((row : DirRow) → slice_get rs k ≡ Some row → new ≡ old ++ listed_as es row ∷ [])
     → new ≡ map (listed_as es) (take (k + 1) rs)
 listed-more es rs k old new below was more =
     more (get_or rs k ([], 0)) (slice_get-get_or rs k ([], 0) below)

@@ -17,7 +17,7 @@ use Rattle.ice_file.specs.Own.{blocks_for, map_length}
 use Rattle.ice_file.specs.Writes.{uses_of}
 use Rattle.ice_file.proofs.OwnLaws.{length-uses, uses-single}
 use Rattle.ice_map.proofs.CutLaws.{same-run}
-use Rattle.ice_dir.specs.Changes.{dir_blocks, dir_uses, EntryGone}
+use Rattle.ice_dir.specs.Changes.{entry_blocks, dir_uses, EntryGone}
 use Rattle.ice_dir.specs.Rows.{IsDirectory}
 use Rattle.ice_tree.specs.Broken.{IsBrokenBy, IsFaultBy, BadPointer, FreeBlock, TwiceUsed, FewCounted, node_uses}
 use Rattle.ice_tree.specs.Grounds.{LooseBroken}
@@ -100,12 +100,12 @@ few-two entry lot m one other c d r s x y long long_too apart few = record {
 
 -- an entry of a directory was taken
 module _ (entry : ℕ) (lot : LotView) (m0 m1 : ℕ → List ℕ) (dir : ℕ) (reached : IsReached entry lot m0 dir) (is : IsDirectory lot (inode_of m0 dir)) (gone : EntryGone lot entry m0 m1 dir) where
-  long : map_length entry (inode_of m0 dir) ≡ dir_blocks entry (inode_of m0 dir).size
+  long : map_length entry (inode_of m0 dir) ≡ entry_blocks entry (inode_of m0 dir).size
   long = map-dir entry (inode_of m0 dir) is.kind
 
   -- the directory uses a block twice
   pub dir-twice : HasTwice (dir_uses entry m0 dir) → TwiceUsed entry lot m0
-  dir-twice t = twice-used entry lot m0 dir (dir_blocks entry (inode_of m0 dir).size) reached (inr is) long t
+  dir-twice t = twice-used entry lot m0 dir (entry_blocks entry (inode_of m0 dir).size) reached (inr is) long t
 
   -- what is damaged of a file that stands loose now, or of an empty directory
   module _ (number : ℕ) (there : IsReached entry lot m0 number) where
@@ -126,13 +126,13 @@ module _ (entry : ℕ) (lot : LotView) (m0 m1 : ℕ → List ℕ) (dir : ℕ) (r
       length-is = map-file entry (inode_of m0 number) file
 
       both : (b : ℕ) → has (dir_uses entry m0 dir) b ≡ true → has (uses m0 (inode_of m0 number) (blocks_for (inode_of m0 number).size)) b ≡ true → TwiceUsed entry lot m0
-      both b h g = shared entry lot m0 number dir (blocks_for (inode_of m0 number).size) (dir_blocks entry (inode_of m0 dir).size) b there reached node (inr is) length-is long (apart kind) g h
+      both b h g = shared entry lot m0 number dir (blocks_for (inode_of m0 number).size) (entry_blocks entry (inode_of m0 dir).size) b there reached node (inr is) length-is long (apart kind) g h
 
       file-few : counted false m1 < uses_of (blocks_for (inode_of m1 number).size) → FewCounted entry lot m0
       file-few few =
           let s = ap (λ (i : Inode). uses_of (blocks_for i.size)) same in
           let c = gone.counts in
-          few-two entry lot m0 number dir (blocks_for (inode_of m0 number).size) (dir_blocks entry (inode_of m0 dir).size) there reached node (inr is) length-is long (apart kind) (omega arith)
+          few-two entry lot m0 number dir (blocks_for (inode_of m0 number).size) (entry_blocks entry (inode_of m0 dir).size) there reached node (inr is) length-is long (apart kind) (omega arith)
 
       file-misled : Misleads lot m1 (inode_of m1 number) (blocks_for (inode_of m1 number).size) → BadPointer entry lot m0 ⊎ TwiceUsed entry lot m0
       file-misled bad =

@@ -11,15 +11,15 @@ use Rattle.ice_base.specs.declared.fault.Rule.TheVariants.{Counts, Kind, Pointer
 use Rattle.ice_map.specs.Inodes.{inode_of, InodeSet}
 use Rattle.ice_file.specs.Own.{own, WellMade}
 use Rattle.ice_file.specs.Writes.{uses_of}
-use Rattle.ice_dir.specs.Changes.{DirSet, HasRoom, dir_blocks}
+use Rattle.ice_dir.specs.Changes.{DirSet, HasEntryRoom, entry_blocks}
 use Rattle.ice_dir.specs.Faults.{IsAddFault}
-use Rattle.ice_dir.specs.Rows.{rows_of}
+use Rattle.ice_dir.specs.Rows.{dir_rows_of}
 use Rattle.tree_spec.specs.Names.{is_name}
 use Rattle.tree_spec.specs.Why as why
 use Rattle.tree_spec.specs.Trees.{Tree, File, Dir, Nil, parent, last_name, at, with_entry}
 use Rattle.tree_spec.specs.Costs.{Form, form_one, nodes, blocks, node_quota, block_quota}
 use Rattle.tree_spec.specs.Operations.{Mkdir, Make, is_change}
-use Rattle.tree_spec.specs.Answers.{next, refusal, deepest}
+use Rattle.tree_spec.specs.Answers.{next_tree, refusal, deepest}
 use Rattle.tree_spec.proofs.Accepted.{HasPlace, accepted-mkdir, accepted-make, length-parent, at_most, first_false}
 use Rattle.tree_spec.proofs.Changes.{total-placed}
 use Rattle.tree_spec.proofs.Refusals.{refusal-none, nodes-next, blocks-next}
@@ -70,7 +70,7 @@ abbrev pub made : Bool → Tree
 made true = Dir Nil
 made false = File []
 
-pub next-made : (dir : Bool) (p : Names) (t : Tree) → next (new_operation dir p) t ≡ at (parent p) (with_entry (last_name p) (made dir)) t
+pub next-made : (dir : Bool) (p : Names) (t : Tree) → next_tree (new_operation dir p) t ≡ at (parent p) (with_entry (last_name p) (made dir)) t
 next-made true p t = refl
 next-made false p t = refl
 
@@ -154,37 +154,37 @@ module _ (mode : ℕ) (lot : LotView) (m0 : Map) (t : Tree) (k : ℕ) (p : Names
     spot_made : WellMade lot 64 m2 spot.number
     spot_made = subst (WellMade lot 64 m2) here (beside_made mode lot m2 t k [] (j ∷ []) beside-put few (parent p) (Dir place.entries) place.there)
 
-    spot_room : HasRoom lot (inode_of m2 spot.number)
-    spot_room = subst (λ i. HasRoom lot (inode_of m2 i)) here (beside_room mode lot m2 t k [] (j ∷ []) beside-put (omega arith) (parent p) place.entries place.there)
+    spot_room : HasEntryRoom lot (inode_of m2 spot.number)
+    spot_room = subst (λ i. HasEntryRoom lot (inode_of m2 i)) here (beside_room mode lot m2 t k [] (j ∷ []) beside-put (omega arith) (parent p) place.entries place.there)
 
     -- no row can be added, or none can be counted
     add_fault : (e : OpFault) → IsAddFault e
-        → (e ≡ NoSpace → free_count false lot m2 + uses_of (dir_blocks 64 (inode_of m2 spot.number).size) < uses_of (dir_blocks 64 ((inode_of m2 spot.number).size + 1)))
-        → (e ≡ Damaged Counts → 2 ^ 32 + uses_of (dir_blocks 64 (inode_of m2 spot.number).size) ≤ counted false m2 + uses_of (dir_blocks 64 ((inode_of m2 spot.number).size + 1)))
-        → (e ≡ Damaged Kind → ¬ HasRoom lot (inode_of m2 spot.number)) → (e ≡ Damaged Pointer → ¬ WellMade lot 64 m2 spot.number) → (e ≡ Damaged Bitmap → ¬ Reserved lot m2) → e ≡ Disk
+        → (e ≡ NoSpace → free_count false lot m2 + uses_of (entry_blocks 64 (inode_of m2 spot.number).size) < uses_of (entry_blocks 64 ((inode_of m2 spot.number).size + 1)))
+        → (e ≡ Damaged Counts → 2 ^ 32 + uses_of (entry_blocks 64 (inode_of m2 spot.number).size) ≤ counted false m2 + uses_of (entry_blocks 64 ((inode_of m2 spot.number).size + 1)))
+        → (e ≡ Damaged Kind → ¬ HasEntryRoom lot (inode_of m2 spot.number)) → (e ≡ Damaged Pointer → ¬ WellMade lot 64 m2 spot.number) → (e ≡ Damaged Bitmap → ¬ Reserved lot m2) → e ≡ Disk
     add_fault e h none full kind pointer unreserved = add-fails e h
-        (λ q. subst (λ i. ¬ (free_count false lot m2 + uses_of (dir_blocks 64 (inode_of m2 i).size) < uses_of (dir_blocks 64 ((inode_of m2 i).size + 1)))) here
+        (λ q. subst (λ i. ¬ (free_count false lot m2 + uses_of (entry_blocks 64 (inode_of m2 i).size) < uses_of (entry_blocks 64 ((inode_of m2 i).size + 1)))) here
         (add_fits mode lot m2 t k few j (length (parent p) + 1) (made dir) (used_inodes form_one (own 64 m2) j (made dir)) (made-beside mode lot m2 t k j dir beside-put n.put.value) (made-reads lot m2 j (length (parent p) + 1) dir deep n.small n.put.value)
         (parent p) (last_name p) place.entries place.there place.free (blocks_left t k (length lot.groups) p dir x.accepted)) (none q))
-        (λ q. subst (λ i. ¬ (2 ^ 32 + uses_of (dir_blocks 64 (inode_of m2 i).size) ≤ counted false m2 + uses_of (dir_blocks 64 ((inode_of m2 i).size + 1)))) here
+        (λ q. subst (λ i. ¬ (2 ^ 32 + uses_of (entry_blocks 64 (inode_of m2 i).size) ≤ counted false m2 + uses_of (entry_blocks 64 ((inode_of m2 i).size + 1)))) here
         (add_counts mode lot m2 t k few [] (j ∷ []) beside-put (parent p) place.entries place.there) (full q))
         (λ q. kind q spot_room)
         (λ q. pointer q spot_made)
         (λ q. unreserved q (beside_reserved mode lot m2 t k [] (j ∷ []) beside-put))
 
     -- the row was added
-    module _ (short : length name ≤ 59) (m3 : Map) (set : DirSet lot 64 m2 m3 spot.number (rows_of 64 m2 spot.number ++ (name, j) ∷ [])) where
+    module _ (short : length name ≤ 59) (m3 : Map) (set : DirSet lot 64 m2 m3 spot.number (dir_rows_of 64 m2 spot.number ++ (name, j) ∷ [])) where
       good : IsNameOf form_one (last_name p)
       good = record { is = subst (λ c. is_name c ≡ true) x.name_is x.proper; short = subst (λ c. length c ≤ 59) x.name_is short }
 
-      set-here : DirSet lot 64 m2 m3 (inode_on form_one (own 64 m0) 0 (parent p)) (rows_of 64 m2 (inode_on form_one (own 64 m0) 0 (parent p)) ++ (last_name p, j) ∷ [])
-      set-here = subst (λ i. DirSet lot 64 m2 m3 i (rows_of 64 m2 i ++ (last_name p, j) ∷ [])) x.spot_is.number (subst (λ c. DirSet lot 64 m2 m3 spot.number (rows_of 64 m2 spot.number ++ (c, j) ∷ [])) x.name_is set)
+      set-here : DirSet lot 64 m2 m3 (inode_on form_one (own 64 m0) 0 (parent p)) (dir_rows_of 64 m2 (inode_on form_one (own 64 m0) 0 (parent p)) ++ (last_name p, j) ∷ [])
+      set-here = subst (λ i. DirSet lot 64 m2 m3 i (dir_rows_of 64 m2 i ++ (last_name p, j) ∷ [])) x.spot_is.number (subst (λ c. DirSet lot 64 m2 m3 spot.number (dir_rows_of 64 m2 spot.number ++ (c, j) ∷ [])) x.name_is set)
 
-      node_made : MapRecovers form_one mode lot m3 (next (new_operation dir p) t) k
+      node_made : MapRecovers form_one mode lot m3 (next_tree (new_operation dir p) t) k
       node_made = by dir x.recovers n.took n.small n.taken n.put n.there
         where
           by : (d : Bool) → MapRecovers form_one mode lot m0 t k → TookInode m0 m1 j → j < 64 * length lot.groups → OnlyAt (sub_address ∷ bitmap_of true j ∷ []) m0 m1 → InodeSet m1 m2 j (new_inode d) → OnlyAt (inode_address j ∷ []) m1 m2
-              → MapRecovers form_one mode lot m3 (next (new_operation d p) t) k
+              → MapRecovers form_one mode lot m3 (next_tree (new_operation d p) t) k
           by true r took small taken put there =
               dir_made mode lot m0 m1 m2 m3 t k (parent p) (last_name p) j place.entries (new_inode true) few r took small taken put there place.there place.free good deep set-here (fresh_value 2 (new_inode true) refl)
           by false r took small taken put there =
@@ -209,16 +209,16 @@ module _ (f : Form) (one : f ≡ form_one) (entry : ℕ) (sized : entry ≡ 64) 
     spot_well = subst (λ s. WellMade lot s m2 spot.number) (sym sized) (spot_made mode lot m0 t k p dir spot name few as_one m1 m2 j n)
 
     pub add_sound : (e : OpFault) → IsAddFault e
-        → (e ≡ NoSpace → free_count false lot m2 + uses_of (dir_blocks entry (inode_of m2 spot.number).size) < uses_of (dir_blocks entry ((inode_of m2 spot.number).size + 1)))
-        → (e ≡ Damaged Counts → 2 ^ 32 + uses_of (dir_blocks entry (inode_of m2 spot.number).size) ≤ counted false m2 + uses_of (dir_blocks entry ((inode_of m2 spot.number).size + 1)))
-        → (e ≡ Damaged Kind → ¬ HasRoom lot (inode_of m2 spot.number)) → (e ≡ Damaged Pointer → ¬ WellMade lot entry m2 spot.number) → (e ≡ Damaged Bitmap → ¬ Reserved lot m2) → e ≡ Disk
+        → (e ≡ NoSpace → free_count false lot m2 + uses_of (entry_blocks entry (inode_of m2 spot.number).size) < uses_of (entry_blocks entry ((inode_of m2 spot.number).size + 1)))
+        → (e ≡ Damaged Counts → 2 ^ 32 + uses_of (entry_blocks entry (inode_of m2 spot.number).size) ≤ counted false m2 + uses_of (entry_blocks entry ((inode_of m2 spot.number).size + 1)))
+        → (e ≡ Damaged Kind → ¬ HasEntryRoom lot (inode_of m2 spot.number)) → (e ≡ Damaged Pointer → ¬ WellMade lot entry m2 spot.number) → (e ≡ Damaged Bitmap → ¬ Reserved lot m2) → e ≡ Disk
     add_sound e h none full kind pointer unreserved = add_fault mode lot m0 t k p dir spot name few as_one m1 m2 j n e h
-        (λ q. subst (λ s. free_count false lot m2 + uses_of (dir_blocks s (inode_of m2 spot.number).size) < uses_of (dir_blocks s ((inode_of m2 spot.number).size + 1))) sized (none q))
-        (λ q. subst (λ s. 2 ^ 32 + uses_of (dir_blocks s (inode_of m2 spot.number).size) ≤ counted false m2 + uses_of (dir_blocks s ((inode_of m2 spot.number).size + 1))) sized (full q))
+        (λ q. subst (λ s. free_count false lot m2 + uses_of (entry_blocks s (inode_of m2 spot.number).size) < uses_of (entry_blocks s ((inode_of m2 spot.number).size + 1))) sized (none q))
+        (λ q. subst (λ s. 2 ^ 32 + uses_of (entry_blocks s (inode_of m2 spot.number).size) ≤ counted false m2 + uses_of (entry_blocks s ((inode_of m2 spot.number).size + 1))) sized (full q))
         kind
         (λ q. subst (λ s. ¬ WellMade lot s m2 spot.number) sized (pointer q))
         unreserved
 
-    pub node_recovers : length name ≤ 59 → (m3 : Map) → DirSet lot entry m2 m3 spot.number (rows_of entry m2 spot.number ++ (name, j) ∷ []) → MapRecovers f mode lot m3 (next (new_operation dir p) t) k
-    node_recovers short m3 set = subst (λ g. MapRecovers g mode lot m3 (next (new_operation dir p) t) k) (sym one)
-        (node_made mode lot m0 t k p dir spot name few as_one m1 m2 j n short m3 (subst (λ s. DirSet lot s m2 m3 spot.number (rows_of s m2 spot.number ++ (name, j) ∷ [])) sized set))
+    pub node_recovers : length name ≤ 59 → (m3 : Map) → DirSet lot entry m2 m3 spot.number (dir_rows_of entry m2 spot.number ++ (name, j) ∷ []) → MapRecovers f mode lot m3 (next_tree (new_operation dir p) t) k
+    node_recovers short m3 set = subst (λ g. MapRecovers g mode lot m3 (next_tree (new_operation dir p) t) k) (sym one)
+        (node_made mode lot m0 t k p dir spot name few as_one m1 m2 j n short m3 (subst (λ s. DirSet lot s m2 m3 spot.number (dir_rows_of s m2 spot.number ++ (name, j) ∷ [])) sized set))

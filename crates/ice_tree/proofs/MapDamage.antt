@@ -14,14 +14,14 @@ use Rattle.ice_file.specs.Files.{longest_file}
 use Rattle.ice_file.specs.Own.{map_length, blocks_for, Confuses}
 use Rattle.ice_file.specs.Writes.{uses_of}
 use Rattle.ice_file.proofs.OwnLaws.{nth-moves, length-uses}
-use Rattle.ice_dir.specs.Changes.{dir_blocks}
+use Rattle.ice_dir.specs.Changes.{entry_blocks}
 use Rattle.ice_dir.proofs.PutLaws.{dir-sixteenth}
 use Rattle.ice_reads.specs.Tables.{Map}
 use Rattle.ice_tree.specs.Broken.{FewCounted, FreeBlock, BadPointer, TwiceUsed, BadBitmap}
 use Rattle.ice_tree.specs.Places.{IsNode, IsReached}
 
 -- how many blocks the map of a directory has, and that of a file
-pub map-dir : (entry : ℕ) (inode : Inode) → inode.kind ≡ 2 → map_length entry inode ≡ dir_blocks entry inode.size
+pub map-dir : (entry : ℕ) (inode : Inode) → inode.kind ≡ 2 → map_length entry inode ≡ entry_blocks entry inode.size
 map-dir entry inode kind = ap (λ k. blocks_for (cond (k == 2) (entry * inode.size) inode.size)) kind
 
 pub map-file : (entry : ℕ) (inode : Inode) → inode.kind ≡ 1 → map_length entry inode ≡ blocks_for inode.size
@@ -68,12 +68,12 @@ uses-few : (b : Bool) (c : ℕ) → c + cond b 1 0 ≤ c + 1
 uses-few true c = omega arith
 uses-few false c = omega arith
 
-pub dir-few : (entry n : ℕ) → entry ≡ 64 → n ≤ 4096 → uses_of (dir_blocks entry n) ≤ 300
+pub dir-few : (entry n : ℕ) → entry ≡ 64 → n ≤ 4096 → uses_of (entry_blocks entry n) ≤ 300
 dir-few entry n e h =
     let s = dir-sixteenth entry n e in
     let a = div-add-mod' (n + 15) 16 in
     let r = mod_below (n + 15) 16 (omega arith) in
-    omega (arith, s, a, r, h, uses-few (nat_lt 12 (dir_blocks entry n)) (dir_blocks entry n))
+    omega (arith, s, a, r, h, uses-few (nat_lt 12 (entry_blocks entry n)) (entry_blocks entry n))
 
 pub file-few : (n : ℕ) → n ≤ longest_file → uses_of (blocks_for n) ≤ 300
 file-few n h =

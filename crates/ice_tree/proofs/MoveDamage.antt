@@ -10,7 +10,7 @@ use Rattle.ice_map.specs.declared.codec.Inode.{Inode}
 use Rattle.ice_map.specs.Inodes.{inode_of}
 use Rattle.ice_map.specs.Maps.{Misleads}
 use Rattle.ice_file.specs.Writes.{uses_of}
-use Rattle.ice_dir.specs.Changes.{dir_blocks, dir_uses, HasRoom, EntryGone}
+use Rattle.ice_dir.specs.Changes.{entry_blocks, dir_uses, HasEntryRoom, EntryGone}
 use Rattle.ice_dir.specs.Faults.{IsAddFault}
 use Rattle.ice_dir.specs.Rows.{IsDirectory}
 use Rattle.ice_tree.specs.Broken.{BadPointer, TwiceUsed, IsBrokenBy}
@@ -50,34 +50,34 @@ module _ (entry : ℕ) (e64 : entry ≡ 64) (lot : LotView) (few : length lot.gr
   to-same = gone.others to
 
   -- there are as many blocks as it needs
-  no-space : free_count false lot m1 + uses_of (dir_blocks entry (inode_of m1 to).size) < uses_of (dir_blocks entry ((inode_of m1 to).size + 1)) → ⊥
+  no-space : free_count false lot m1 + uses_of (entry_blocks entry (inode_of m1 to).size) < uses_of (entry_blocks entry ((inode_of m1 to).size + 1)) → ⊥
   no-space none = by-number ⊥ to from here there
     where
       here : to ≡ from → ⊥
       here e =
           let s = gone.size in
           let f = gone.free in
-          let a = ap (λ i. uses_of (dir_blocks entry (inode_of m1 i).size)) e in
+          let a = ap (λ i. uses_of (entry_blocks entry (inode_of m1 i).size)) e in
           let b : (inode_of m1 to).size + 1 ≡ (inode_of m0 from).size = ap (λ i. (inode_of m1 i).size + 1) e ∙ s in
-          let d = ap (λ n. uses_of (dir_blocks entry n)) b in
+          let d = ap (λ n. uses_of (entry_blocks entry n)) b in
           omega arith
 
       there : to ≢ from → ⊥
       there n =
           let e : (inode_of m1 to).size ≡ step.to.entries = ap (λ (i : Inode). i.size) (to-same n) ∙ is.to_is.entries in
-          let a = ap (λ i. uses_of (dir_blocks entry i)) e in
-          let b = ap (λ i. uses_of (dir_blocks entry (i + 1))) e in
+          let a = ap (λ i. uses_of (entry_blocks entry i)) e in
+          let b = ap (λ i. uses_of (entry_blocks entry (i + 1))) e in
           let s = gone.size in
           let o = is.from_is.entries in
           let f = gone.free in
-          let d = ap (λ i. uses_of (dir_blocks entry i)) o in
+          let d = ap (λ i. uses_of (entry_blocks entry i)) o in
           let l : (inode_of m1 from).size ≡ step.from.entries - 1 = omega arith in
-          let w = ap (λ i. uses_of (dir_blocks entry i)) l in
+          let w = ap (λ i. uses_of (entry_blocks entry i)) l in
           let q = fits.blocks differ (λ x. n (sym x)) in
           omega arith
 
   -- the directory has room
-  has-room : IsDirectory lot (inode_of m1 to) → HasRoom lot (inode_of m1 to)
+  has-room : IsDirectory lot (inode_of m1 to) → HasEntryRoom lot (inode_of m1 to)
   has-room d = record { is = d; room = by-number ((inode_of m1 to).size + 1 < 64 * length lot.groups) to from here there }
     where
       here : to ≡ from → (inode_of m1 to).size + 1 < 64 * length lot.groups
@@ -109,32 +109,32 @@ module _ (entry : ℕ) (e64 : entry ≡ 64) (lot : LotView) (few : length lot.gr
       there n = subst (λ (i : Inode). IsDirectory lot i) (sym (to-same n)) is.to_is.dir
 
   -- the map of the directory led nowhere before, or a block was used twice
-  misled-before : Misleads lot m1 (inode_of m1 to) (dir_blocks entry (inode_of m1 to).size) → BadPointer entry lot m0 ⊎ TwiceUsed entry lot m0
+  misled-before : Misleads lot m1 (inode_of m1 to) (entry_blocks entry (inode_of m1 to).size) → BadPointer entry lot m0 ⊎ TwiceUsed entry lot m0
   misled-before bad = by-number (BadPointer entry lot m0 ⊎ TwiceUsed entry lot m0) to from here there
     where
       here : to ≡ from → BadPointer entry lot m0 ⊎ TwiceUsed entry lot m0
       here e =
-          bad-map entry lot m0 from (dir_blocks entry (inode_of m0 from).size) is.from_is.reached (inr is.from_is.dir) (map-dir entry (inode_of m0 from) is.from_is.dir.kind)
-          (gone.leads (subst (λ i. Misleads lot m1 (inode_of m1 i) (dir_blocks entry (inode_of m1 i).size)) e bad))
+          bad-map entry lot m0 from (entry_blocks entry (inode_of m0 from).size) is.from_is.reached (inr is.from_is.dir) (map-dir entry (inode_of m0 from) is.from_is.dir.kind)
+          (gone.leads (subst (λ i. Misleads lot m1 (inode_of m1 i) (entry_blocks entry (inode_of m1 i).size)) e bad))
 
       there : to ≢ from → BadPointer entry lot m0 ⊎ TwiceUsed entry lot m0
       there n =
           let x = inode_of m0 to in
-          let c = dir_blocks entry (inode_of m0 to).size in
+          let c = entry_blocks entry (inode_of m0 to).size in
           ⊎_elim
           (λ l. inl (bad-pointer entry lot m0 to c is.to_is.reached (inr is.to_is.dir) (map-dir entry x is.to_is.dir.kind) l))
-          (λ s. inr (shared entry lot m0 to from c (dir_blocks entry (inode_of m0 from).size) x.single is.to_is.reached is.from_is.reached (inr is.to_is.dir) (inr is.from_is.dir) (map-dir entry x is.to_is.dir.kind)
+          (λ s. inr (shared entry lot m0 to from c (entry_blocks entry (inode_of m0 from).size) x.single is.to_is.reached is.from_is.reached (inr is.to_is.dir) (inr is.from_is.dir) (map-dir entry x is.to_is.dir.kind)
           (map-dir entry (inode_of m0 from) is.from_is.dir.kind) n s.1 s.0))
-          (other-misled lot m0 m1 (dir_uses entry m0 from) gone.blocks x c (subst (λ (i : Inode). Misleads lot m1 i (dir_blocks entry i.size)) (to-same n) bad))
+          (other-misled lot m0 m1 (dir_uses entry m0 from) gone.blocks x c (subst (λ (i : Inode). Misleads lot m1 i (entry_blocks entry i.size)) (to-same n) bad))
 
   -- each place that holds no data was marked as it is
   reserved-after : Reserved lot m0 → Reserved lot m1
   reserved-after r = record { set = λ b l h. gone.places b (low-place lot b h) ∙ r.set b l h }
 
   pub add-blamed : (e : OpFault) → IsAddFault e
-      → (e ≡ NoSpace → free_count false lot m1 + uses_of (dir_blocks entry (inode_of m1 to).size) < uses_of (dir_blocks entry ((inode_of m1 to).size + 1)))
-      → (e ≡ Damaged Counts → 2 ^ 32 + uses_of (dir_blocks entry (inode_of m1 to).size) ≤ counted false m1 + uses_of (dir_blocks entry ((inode_of m1 to).size + 1)))
-      → (e ≡ Damaged Kind → ¬ HasRoom lot (inode_of m1 to)) → (e ≡ Damaged Bitmap → ¬ Reserved lot m1) → (e ≡ Damaged Pointer → Misleads lot m1 (inode_of m1 to) (dir_blocks entry (inode_of m1 to).size))
+      → (e ≡ NoSpace → free_count false lot m1 + uses_of (entry_blocks entry (inode_of m1 to).size) < uses_of (entry_blocks entry ((inode_of m1 to).size + 1)))
+      → (e ≡ Damaged Counts → 2 ^ 32 + uses_of (entry_blocks entry (inode_of m1 to).size) ≤ counted false m1 + uses_of (entry_blocks entry ((inode_of m1 to).size + 1)))
+      → (e ≡ Damaged Kind → ¬ HasEntryRoom lot (inode_of m1 to)) → (e ≡ Damaged Bitmap → ¬ Reserved lot m1) → (e ≡ Damaged Pointer → Misleads lot m1 (inode_of m1 to) (entry_blocks entry (inode_of m1 to).size))
       → IsBrokenBy entry lot m0 e
   add-blamed Disk f none most kind unreserved misled = tt
   add-blamed NoSpace f none most kind unreserved misled = absurd (no-space (none refl))

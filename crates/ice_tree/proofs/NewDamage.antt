@@ -15,7 +15,7 @@ use Rattle.ice_map.proofs.GrowLaws.{inode_not_bitmap, inode_not_data, inode_not_
 use Rattle.ice_map.proofs.ListLaws.{count_none}
 use Rattle.ice_map.proofs.MarkLaws.{used-same, free-same, data_not_bitmap, data_not_sub}
 use Rattle.ice_file.specs.Writes.{uses_of}
-use Rattle.ice_dir.specs.Changes.{HasRoom, dir_blocks}
+use Rattle.ice_dir.specs.Changes.{HasEntryRoom, entry_blocks}
 use Rattle.ice_dir.specs.Faults.{IsAddFault}
 use Rattle.ice_reads.specs.Tables.{Map}
 use Rattle.ice_steps.proofs.Keeps.{only-one, only-two}
@@ -62,22 +62,22 @@ module _ (entry : ℕ) (e64 : entry ≡ 64) (lot : LotView) (few : length lot.gr
 
     -- no entry can be added
     pub add-blamed : (e : OpFault) → IsAddFault e
-        → (e ≡ NoSpace → free_count false lot m2 + uses_of (dir_blocks entry (inode_of m2 spot.number).size) < uses_of (dir_blocks entry ((inode_of m2 spot.number).size + 1)))
-        → (e ≡ Damaged Counts → 2 ^ 32 + uses_of (dir_blocks entry (inode_of m2 spot.number).size) ≤ counted false m2 + uses_of (dir_blocks entry ((inode_of m2 spot.number).size + 1)))
-        → (e ≡ Damaged Kind → ¬ HasRoom lot (inode_of m2 spot.number)) → (e ≡ Damaged Pointer → Misleads lot m2 (inode_of m2 spot.number) (dir_blocks entry (inode_of m2 spot.number).size)) → (e ≡ Damaged Bitmap → ¬ Reserved lot m2) → IsBrokenBy entry lot m0 e
+        → (e ≡ NoSpace → free_count false lot m2 + uses_of (entry_blocks entry (inode_of m2 spot.number).size) < uses_of (entry_blocks entry ((inode_of m2 spot.number).size + 1)))
+        → (e ≡ Damaged Counts → 2 ^ 32 + uses_of (entry_blocks entry (inode_of m2 spot.number).size) ≤ counted false m2 + uses_of (entry_blocks entry ((inode_of m2 spot.number).size + 1)))
+        → (e ≡ Damaged Kind → ¬ HasEntryRoom lot (inode_of m2 spot.number)) → (e ≡ Damaged Pointer → Misleads lot m2 (inode_of m2 spot.number) (entry_blocks entry (inode_of m2 spot.number).size)) → (e ≡ Damaged Bitmap → ¬ Reserved lot m2) → IsBrokenBy entry lot m0 e
     add-blamed Disk h none full kind pointer unreserved = tt
     add-blamed NoSpace h none full kind pointer unreserved =
-        let q = subst (λ x. free_count false lot m2 + uses_of (dir_blocks entry x) < uses_of (dir_blocks entry (x + 1))) same-size (none refl) in
+        let q = subst (λ x. free_count false lot m2 + uses_of (entry_blocks entry x) < uses_of (entry_blocks entry (x + 1))) same-size (none refl) in
         absurd (omega (arith, q, fits.blocks, free-same lot m0 m2 same-blocks))
     add-blamed (Damaged Counts) h none full kind pointer unreserved =
-        let q = subst (λ x. 2 ^ 32 + uses_of (dir_blocks entry x) ≤ counted false m2 + uses_of (dir_blocks entry (x + 1))) same-size (full refl) in
+        let q = subst (λ x. 2 ^ 32 + uses_of (entry_blocks entry x) ≤ counted false m2 + uses_of (entry_blocks entry (x + 1))) same-size (full refl) in
         let small = fits.spot_is.dir.few in
         let is = fits.spot_is.entries in
         inl (record { inodes = false; many = omega (arith, few, q, same-count, dir-few entry (spot.entries + 1) e64 (omega (arith, few, small, is))) })
-    add-blamed (Damaged Kind) h none full kind pointer unreserved = absurd (kind refl (subst (λ (x : Inode). HasRoom lot x) (sym same-node) (record { is = fits.spot_is.dir; room = omega (arith, fits.room, fits.spot_is.entries) })))
+    add-blamed (Damaged Kind) h none full kind pointer unreserved = absurd (kind refl (subst (λ (x : Inode). HasEntryRoom lot x) (sym same-node) (record { is = fits.spot_is.dir; room = omega (arith, fits.room, fits.spot_is.entries) })))
     add-blamed (Damaged Pointer) h none full kind pointer unreserved =
         let x = inode_of m0 spot.number in
-        let bad = misleads-same lot m0 m2 x (dir_blocks entry x.size) (λ d. same-data x.single d) (subst (λ (y : Inode). Misleads lot m2 y (dir_blocks entry y.size)) same-node (pointer refl)) in
-        inl (bad-pointer entry lot m0 spot.number (dir_blocks entry x.size) fits.spot_is.reached (inr fits.spot_is.dir) (map-dir entry x fits.spot_is.dir.kind) bad)
+        let bad = misleads-same lot m0 m2 x (entry_blocks entry x.size) (λ d. same-data x.single d) (subst (λ (y : Inode). Misleads lot m2 y (entry_blocks entry y.size)) same-node (pointer refl)) in
+        inl (bad-pointer entry lot m0 spot.number (entry_blocks entry x.size) fits.spot_is.reached (inr fits.spot_is.dir) (map-dir entry x fits.spot_is.dir.kind) bad)
     add-blamed (Damaged Bitmap) h none full kind pointer unreserved = inl (λ reserved. unreserved refl (record { set = λ b l r. same-blocks b ∙ reserved.set b l r }))
     add-blamed _ h none full kind pointer unreserved = absurd h

@@ -18,7 +18,7 @@ use Rattle.ice_file.specs.Own.{Own, own, file_bytes, map_length}
 use Rattle.ice_file.proofs.OwnLaws.{uses-nth, uses-single}
 use Rattle.ice_dir.specs.Faults.{IsFindFault}
 use Rattle.ice_dir.proofs.DirLaws.{dir-length, per-sixteen}
-use Rattle.ice_dir.specs.Rows.{IsDirectory, look_up, rows_of, per_block}
+use Rattle.ice_dir.specs.Rows.{IsDirectory, look_up, dir_rows_of, per_block}
 use Rattle.tree_spec.specs.Trees.{Tree, Entries, rows, Walk, Found, NotFound, NotDir, child, walk, and_on}
 use Rattle.tree_spec.specs.Trees as tree
 use Rattle.tree_spec.proofs.Trees.{walk-append}
@@ -92,8 +92,8 @@ module _ (f : Form) (one : f ≡ form_one) (lot : LotView) (m : Map) (i h : ℕ)
   pub places-own : (t : Tree) → Reads f lot (own_in f m) i h t → (b : ℕ) → has (own 64 m i).uses b ≡ true → is_data lot b ≡ true
   places-own t r = subst (λ g. (b : ℕ) → has (own_in g m i).uses b ≡ true → is_data lot b ≡ true) one (Reads-inode t r).places
 
-  pub rows-own : (entry : ℕ) → entry ≡ 64 → rows_in f (own_in f m i) ≡ rows_of entry m i
-  rows-own entry e = ap (λ g. rows_in g (own_in g m i)) one ∙ ap (λ x. rows_of x m i) (sym e)
+  pub rows-own : (entry : ℕ) → entry ≡ 64 → rows_in f (own_in f m i) ≡ dir_rows_of entry m i
+  rows-own entry e = ap (λ g. rows_in g (own_in g m i)) one ∙ ap (λ x. dir_rows_of x m i) (sym e)
 
   -- the blocks of a directory that stands for a tree lead to data places
   pub dir-leads : (t : Tree) → Reads f lot (own_in f m) i h t → (entry n : ℕ) → entry ≡ 64 → (inode_of m i).kind ≡ 2 → n * per_block entry < (inode_of m i).size → leads lot m (inode_of m i) n ≡ true
@@ -116,7 +116,7 @@ module _ (f : Form) (one : f ≡ form_one) (lot : LotView) (m : Map) (i h : ℕ)
       same is = cc
 
   -- a name that a directory doesn't have
-  pub step-none : (t : Tree) → Reads f lot (own_in f m) i h t → (number size entry : ℕ) (c : List ℕ) → Dir number size ≡ place_by i (Found t) → entry ≡ 64 → look_up c (rows_of entry m number) ≡ None
+  pub step-none : (t : Tree) → Reads f lot (own_in f m) i h t → (number size entry : ℕ) (c : List ℕ) → Dir number size ≡ place_by i (Found t) → entry ≡ 64 → look_up c (dir_rows_of entry m number) ≡ None
       → Missing ≡ place_by (inode_named c (rows_in f (own_in f m i))) (child c t)
   step-none (tree.File bytes) r number size entry c is e none = absurd (no is)
     where
@@ -124,7 +124,7 @@ module _ (f : Form) (one : f ≡ form_one) (lot : LotView) (m : Map) (i h : ℕ)
       no is = cc
   step-none (tree.Dir es) r number size entry c is e none =
       let d = dir-is (tree.Dir es) number size is in
-      ap (place_by (inode_named c (rows_in f (own_in f m i)))) (sym (child-none f lot (own_in f m) i h c es r (ap (look_up c) (rows-own entry e) ∙ ap (λ x. look_up c (rows_of entry m x)) (sym d.2) ∙ none)))
+      ap (place_by (inode_named c (rows_in f (own_in f m i)))) (sym (child-none f lot (own_in f m) i h c es r (ap (look_up c) (rows-own entry e) ∙ ap (λ x. look_up c (dir_rows_of entry m x)) (sym d.2) ∙ none)))
 
   -- one that it has
   pub record Steps (t : Tree) (c : List ℕ) (j : ℕ) : Type 0 where
@@ -132,14 +132,14 @@ module _ (f : Form) (one : f ≡ form_one) (lot : LotView) (m : Map) (i h : ℕ)
     pub reads : Reads f lot (own_in f m) j (h + 1) there
     pub place : place_by j (Found there) ≡ place_by (inode_named c (rows_in f (own_in f m i))) (child c t)
 
-  pub step-some : (t : Tree) → Reads f lot (own_in f m) i h t → (number size entry j : ℕ) (c : List ℕ) → Dir number size ≡ place_by i (Found t) → entry ≡ 64 → look_up c (rows_of entry m number) ≡ Some j → Steps t c j
+  pub step-some : (t : Tree) → Reads f lot (own_in f m) i h t → (number size entry j : ℕ) (c : List ℕ) → Dir number size ≡ place_by i (Found t) → entry ≡ 64 → look_up c (dir_rows_of entry m number) ≡ Some j → Steps t c j
   step-some (tree.File bytes) r number size entry j c is e some = absurd (no is)
     where
       no : Dir number size ≡ File i (length bytes) → ⊥
       no is = cc
   step-some (tree.Dir es) r number size entry j c is e some =
       let d = dir-is (tree.Dir es) number size is in
-      let s = child-found f lot (own_in f m) i h c es j r (ap (look_up c) (rows-own entry e) ∙ ap (λ x. look_up c (rows_of entry m x)) (sym d.2) ∙ some) in
+      let s = child-found f lot (own_in f m) i h c es j r (ap (look_up c) (rows-own entry e) ∙ ap (λ x. look_up c (dir_rows_of entry m x)) (sym d.2) ∙ some) in
       record { there = s.0; reads = s.2; place = ap (λ x. place_by x (Found s.0)) (sym s.3) ∙ ap (place_by (inode_named c (rows_in f (own_in f m i)))) (sym s.1) }
 
   dir-directory : (t : Tree) → Reads f lot (own_in f m) i h t → (number size : ℕ) → Dir number size ≡ place_by i (Found t) → IsDirectory lot (inode_of m i)

@@ -15,13 +15,13 @@ use Rattle.ice_map.specs.Inodes.{inode_of, InodeSet}
 use Rattle.ice_file.specs.Own.{own, blocks_for, WellMade, file_bytes}
 use Rattle.ice_file.specs.Files.{FileSet, ReachesTo, IsCutToFault}
 use Rattle.ice_file.specs.Writes.{uses_of}
-use Rattle.ice_dir.specs.Changes.{DirSet, dir_blocks}
-use Rattle.ice_dir.specs.Faults.{IsTakeFault}
-use Rattle.ice_dir.specs.Rows.{rows_of, look_up, without, IsDirectory}
+use Rattle.ice_dir.specs.Changes.{DirSet, entry_blocks}
+use Rattle.ice_dir.specs.Faults.{IsRemovalFault}
+use Rattle.ice_dir.specs.Rows.{dir_rows_of, look_up, rows_without, IsDirectory}
 use Rattle.tree_spec.specs.Trees.{Tree, File, Dir, Nil, Entry, by_bytes, Found, walk, parent, last_name}
 use Rattle.tree_spec.specs.Costs.{Form, form_one}
 use Rattle.tree_spec.specs.Operations.{Remove}
-use Rattle.tree_spec.specs.Answers.{next, refusal, is_full_found, bytes_of, bytes_found, is_root}
+use Rattle.tree_spec.specs.Answers.{next_tree, refusal, is_full_found, bytes_of, bytes_found, is_root}
 use Rattle.tree_spec.specs.Why.{Why}
 use Rattle.tree_spec.specs.Why as why
 use Rattle.tree_spec.proofs.Accepted.{HasEntry, entry_walk, Removes, accepted-remove}
@@ -158,7 +158,7 @@ module _ (f : Form) (one : f ≡ form_one) (mode : ℕ) (lot : LotView) (few : l
 
 -- ---- an entry is taken
 
-take-fails : (e : OpFault) → IsTakeFault e → (e ≡ Damaged Counts → ⊥) → (e ≡ Damaged Kind → ⊥) → (e ≡ Damaged Pointer → ⊥) → (e ≡ Damaged Bitmap → ⊥) → e ≡ Disk
+take-fails : (e : OpFault) → IsRemovalFault e → (e ≡ Damaged Counts → ⊥) → (e ≡ Damaged Kind → ⊥) → (e ≡ Damaged Pointer → ⊥) → (e ≡ Damaged Bitmap → ⊥) → e ≡ Disk
 take-fails Disk h c k p b = refl
 take-fails (Damaged Counts) h c k p b = absurd (c refl)
 take-fails (Damaged Kind) h c k p b = absurd (k refl)
@@ -180,20 +180,20 @@ module _ (mode : ℕ) (lot : LotView) (few : length lot.groups ≤ 64) (m : Map)
   here = inode_on form_one (own 64 m) 0 (parent p)
 
   abbrev named : ℕ
-  named = inode_named (last_name p) (rows_of 64 m (inode_on form_one (own 64 m) 0 (parent p)))
+  named = inode_named (last_name p) (dir_rows_of 64 m (inode_on form_one (own 64 m) 0 (parent p)))
 
   -- the inode at its end is the one that its row names
-  pub end-named : inode_on form_one (own 64 m) 0 p ≡ inode_named (last_name p) (rows_of 64 m (inode_on form_one (own 64 m) 0 (parent p)))
+  pub end-named : inode_on form_one (own 64 m) 0 p ≡ inode_named (last_name p) (dir_rows_of 64 m (inode_on form_one (own 64 m) 0 (parent p)))
   end-named = ap (inode_on form_one (own 64 m) 0) (sym (whole p h.below)) ∙ inode_on-more form_one lot (own 64 m) 0 (parent p) (last_name p)
 
   -- its directory has the row
-  pub row-there : look_up (last_name p) (rows_of 64 m here) ≡ Some named
+  pub row-there : look_up (last_name p) (dir_rows_of 64 m here) ≡ Some named
   row-there =
       let d = walk_part mode lot m t k r (parent p) (Dir h.entries) h.there in
-      look_up-find (last_name p) (rows_of 64 m here) ∙ some_value (find by_bytes (last_name p) (rows_of 64 m here)) (sym (d.1.maps (last_name p)) ∙ ap is_some h.found)
+      look_up-find (last_name p) (dir_rows_of 64 m here) ∙ some_value (find by_bytes (last_name p) (dir_rows_of 64 m here)) (sym (d.1.maps (last_name p)) ∙ ap is_some h.found)
 
   -- and can lose it
-  pub can-take : (e : OpFault) → IsTakeFault e → (e ≡ Damaged Counts → counted false m + uses_of (dir_blocks 64 ((inode_of m here).size - 1)) < uses_of (dir_blocks 64 (inode_of m here).size))
+  pub can-take : (e : OpFault) → IsRemovalFault e → (e ≡ Damaged Counts → counted false m + uses_of (entry_blocks 64 ((inode_of m here).size - 1)) < uses_of (entry_blocks 64 (inode_of m here).size))
       → (e ≡ Damaged Kind → ¬ IsDirectory lot (inode_of m here)) → (e ≡ Damaged Pointer → ¬ WellMade lot 64 m here) → (e ≡ Damaged Bitmap → ¬ WellMade lot 64 m here) → e ≡ Disk
   can-take e is zero kind pointer unused =
       let made = walk_made mode lot m t k r (parent p) few (Dir h.entries) h.there in
@@ -203,10 +203,10 @@ module _ (mode : ℕ) (lot : LotView) (few : length lot.groups ≤ 64) (m : Map)
       (λ q. kind q d.is) (λ q. pointer q made) (λ q. unused q made)
 
   -- what the row named stands loose then
-  pub entry-left : (m' : Map) → DirSet lot 64 m m' here (without (last_name p) (rows_of 64 m here)) → is_full_found (Found v) ≡ false → StandsLoose form_one mode lot m' (next (Remove p) t) k (inode_on form_one (own 64 m) 0 p) (length (bytes_of v))
+  pub entry-left : (m' : Map) → DirSet lot 64 m m' here (rows_without (last_name p) (dir_rows_of 64 m here)) → is_full_found (Found v) ≡ false → StandsLoose form_one mode lot m' (next_tree (Remove p) t) k (inode_on form_one (own 64 m) 0 p) (length (bytes_of v))
   entry-left m' set empty =
       let l = loses_row mode lot m m' t k (parent p) (last_name p) v h.entries r h.there h.found set in
-      subst (λ j. StandsLoose form_one mode lot m' (next (Remove p) t) k j (length (bytes_of v))) (sym end-named)
+      subst (λ j. StandsLoose form_one mode lot m' (next_tree (Remove p) t) k j (length (bytes_of v))) (sym end-named)
       (record { tree = v; level = length (parent p) + 1; beside = l.0; reads = l.1; empty = empty; bytes_are = refl })
 
 -- the same of each form, for a removal that is accepted
@@ -229,31 +229,31 @@ module _ (f : Form) (one : f ≡ form_one) (mode : ℕ) (lot : LotView) (few : l
   pub spot-made : WellMade lot entry m gone.spot.number
   spot-made = subst (λ w. WellMade lot w m gone.spot.number) (sym wide) (subst (λ i. WellMade lot 64 m i) (sym spot-here) (walk_made mode lot m t k recovers-one (parent p) few (Dir goes.entry.entries) goes.entry.there))
 
-  pub spot-has : look_up name (rows_of entry m gone.spot.number) ≡ None → ⊥
+  pub spot-has : look_up name (dir_rows_of entry m gone.spot.number) ≡ None → ⊥
   spot-has none =
-      let e : look_up (last_name p) (rows_of 64 m (inode_on form_one (own 64 m) 0 (parent p))) ≡ None =
-      ap (λ i. look_up (last_name p) (rows_of 64 m i)) (sym spot-here) ∙ ap (λ w. look_up (last_name p) (rows_of w m gone.spot.number)) (sym wide) ∙ ap (λ c. look_up c (rows_of entry m gone.spot.number)) (sym l.name_is) ∙ none in
+      let e : look_up (last_name p) (dir_rows_of 64 m (inode_on form_one (own 64 m) 0 (parent p))) ≡ None =
+      ap (λ i. look_up (last_name p) (dir_rows_of 64 m i)) (sym spot-here) ∙ ap (λ w. look_up (last_name p) (dir_rows_of w m gone.spot.number)) (sym wide) ∙ ap (λ c. look_up c (dir_rows_of entry m gone.spot.number)) (sym l.name_is) ∙ none in
       let s = row-there mode lot few m t k recovers-one p goes.gone goes.entry in
       subst T (ap is_some (sym s ∙ e)) tt
 
-  pub spot-takes : (e : OpFault) → IsTakeFault e → (e ≡ Damaged Counts → counted false m + uses_of (dir_blocks entry ((inode_of m gone.spot.number).size - 1)) < uses_of (dir_blocks entry (inode_of m gone.spot.number).size))
+  pub spot-takes : (e : OpFault) → IsRemovalFault e → (e ≡ Damaged Counts → counted false m + uses_of (entry_blocks entry ((inode_of m gone.spot.number).size - 1)) < uses_of (entry_blocks entry (inode_of m gone.spot.number).size))
       → (e ≡ Damaged Kind → ¬ IsDirectory lot (inode_of m gone.spot.number)) → (e ≡ Damaged Pointer → ¬ WellMade lot entry m gone.spot.number) → (e ≡ Damaged Bitmap → ¬ WellMade lot entry m gone.spot.number) → e ≡ Disk
   spot-takes e is zero kind pointer unused =
-      let P : ℕ → ℕ → Type 0 = λ w i. (e ≡ Damaged Counts → counted false m + uses_of (dir_blocks w ((inode_of m i).size - 1)) < uses_of (dir_blocks w (inode_of m i).size)) in
+      let P : ℕ → ℕ → Type 0 = λ w i. (e ≡ Damaged Counts → counted false m + uses_of (entry_blocks w ((inode_of m i).size - 1)) < uses_of (entry_blocks w (inode_of m i).size)) in
       can-take mode lot few m t k recovers-one p goes.gone goes.entry e is
       (subst (P 64) spot-here (subst (λ w. P w gone.spot.number) wide zero))
       (subst (λ i. e ≡ Damaged Kind → ¬ IsDirectory lot (inode_of m i)) spot-here kind)
       (λ q. absurd (pointer q spot-made))
       (λ q. absurd (unused q spot-made))
 
-  pub spot-left : (m' : Map) → DirSet lot entry m m' gone.spot.number (without name (rows_of entry m gone.spot.number)) → StandsLoose f mode lot m' (next (Remove p) t) k gone.number gone.bytes
+  pub spot-left : (m' : Map) → DirSet lot entry m m' gone.spot.number (rows_without name (dir_rows_of entry m gone.spot.number)) → StandsLoose f mode lot m' (next_tree (Remove p) t) k gone.number gone.bytes
   spot-left m' set =
-      let P : ℕ → ℕ → List ℕ → Type 0 = λ w i c. DirSet lot w m m' i (without c (rows_of w m i)) in
+      let P : ℕ → ℕ → List ℕ → Type 0 = λ w i c. DirSet lot w m m' i (rows_without c (dir_rows_of w m i)) in
       let here : P 64 (inode_on form_one (own 64 m) 0 (parent p)) (last_name p) = subst (λ c. P 64 (inode_on form_one (own 64 m) 0 (parent p)) c) l.name_is (subst (λ i. P 64 i name) spot-here (subst (λ w. P w gone.spot.number name) wide set)) in
       let s = entry-left mode lot few m t k recovers-one p goes.gone goes.entry m' here goes.empty in
-      subst (λ g. StandsLoose g mode lot m' (next (Remove p) t) k gone.number gone.bytes) (sym one)
-      (subst (λ j. StandsLoose form_one mode lot m' (next (Remove p) t) k j gone.bytes) (sym number-there)
-      (subst (λ n. StandsLoose form_one mode lot m' (next (Remove p) t) k (inode_on form_one (own 64 m) 0 p) n) (sym bytes-there) s))
+      subst (λ g. StandsLoose g mode lot m' (next_tree (Remove p) t) k gone.number gone.bytes) (sym one)
+      (subst (λ j. StandsLoose form_one mode lot m' (next_tree (Remove p) t) k j gone.bytes) (sym number-there)
+      (subst (λ n. StandsLoose form_one mode lot m' (next_tree (Remove p) t) k (inode_on form_one (own 64 m) 0 p) n) (sym bytes-there) s))
 
 -- what was found before a look holds after it
 pub loses-after : (f : Form) (mode : ℕ) (lot : LotView) (m m' : Map) (t : Tree) (k : ℕ) (p : Names) (gone : Gone) (name : List ℕ) → m' ≡ m → MapRecovers f mode lot m t k → IsGone f (own_in f m) p t gone → name ≡ last_name p
@@ -270,9 +270,9 @@ chained None None c d = refl
 
 -- the refusals behind those of the names
 abbrev pub later_refusal : ℕ → Form → ℕ → Names → Tree → Option Why
-later_refusal n f k p t = or_else (gone_refusal p t) (quota_refusal n f k (next (Remove p) t))
+later_refusal n f k p t = or_else (gone_refusal p t) (quota_refusal n f k (next_tree (Remove p) t))
 
 pub remove-stages : (t : Tree) (k n : ℕ) (f : Form) (p : Names) → refusal t k n f (Remove p) ≡ or_else (paths_refusal f (p ∷ [])) (later_refusal n f k p t)
 remove-stages t k n f p =
     refusal_remove t k n f p
-    ∙ ap (or_else (paths_refusal f (p ∷ []))) (chained (walk_refusal (walk p t)) (if is_root p then Some why.IsRoot else None) (if is_full_found (walk p t) then Some why.NotEmpty else None) (quota_refusal n f k (next (Remove p) t)))
+    ∙ ap (or_else (paths_refusal f (p ∷ []))) (chained (walk_refusal (walk p t)) (if is_root p then Some why.IsRoot else None) (if is_full_found (walk p t) then Some why.NotEmpty else None) (quota_refusal n f k (next_tree (Remove p) t)))

@@ -4,7 +4,7 @@ use Rattle.ice_base.specs.Lots.{LotView}
 use Rattle.ice_base.specs.declared.fault.OpFault.{OpFault}
 use Rattle.ice_base.specs.declared.fault.OpFault.TheVariants.{Damaged}
 use Rattle.ice_base.specs.declared.fault.Rule.TheVariants.{InodeTwice}
-use Rattle.ice_dir.specs.Rows.{look_up, rows_of}
+use Rattle.ice_dir.specs.Rows.{look_up, dir_rows_of}
 use Rattle.tree_spec.specs.Costs.{Form, form_one, map_cost}
 use Rattle.tree_spec.specs.Costs as tree
 use Rattle.ice_tree.specs.Broken.{IsBrokenBy, Overfull, spread_at}
@@ -48,7 +48,7 @@ module _ (entry : ℕ) (lot : LotView) (m : ℕ → List ℕ) where
 
   -- the inode of what a directory names so
   named-inode : (dir entries : ℕ) (name : List ℕ) (p : Place) → PlaceNamed entry m (Dir dir entries) name p → is_place p ≡ true → PlaceFits lot p
-      → (number : ℕ) × (number < 64 * length lot.groups) × (look_up name (rows_of entry m dir) ≡ Some number)
+      → (number : ℕ) × (number < 64 * length lot.groups) × (look_up name (dir_rows_of entry m dir) ≡ Some number)
   named-inode dir entries name (File number size) named is fits = (number, fits.0, named)
   named-inode dir entries name (Dir number size) named is fits = (number, fits.0, named)
   named-inode dir entries name Missing named is fits = absurd (none is)

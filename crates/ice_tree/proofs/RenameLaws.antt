@@ -12,7 +12,7 @@ use Rattle.tree_spec.specs.Trees.{Tree, File, Dir, Walk, Found, NotFound, NotDir
 use Rattle.tree_spec.specs.Costs.{Form, form_one, nodes}
 use Rattle.tree_spec.specs.Operations.{Rename}
 use Rattle.tree_spec.specs.Routes.{is_prefix, is_same_name}
-use Rattle.tree_spec.specs.Answers.{refusal, answer, answer_by, next, deepest, is_found, is_not_found, is_not_dir, is_root, is_taken, tree_found, moves_into_itself}
+use Rattle.tree_spec.specs.Answers.{refusal, answer, answer_by, next_tree, deepest, is_found, is_not_found, is_not_dir, is_root, is_taken, tree_found, moves_into_itself}
 use Rattle.tree_spec.proofs.Sums.{total-at}
 use Rattle.ice_reads.specs.Tables.{Map, Table, own_in}
 use Rattle.ice_reads.specs.Reads.{Reads, inode_on}
@@ -79,10 +79,10 @@ chain None None None None None e q = refl
 
 -- the paths, what is moved and where to, and the quota
 pub rename-stages : (t : Tree) (k n : ℕ) (f : Form) (p q : Names)
-    → refusal t k n f (Rename p q) ≡ or_else (paths_refusal f (p ∷ q ∷ [])) (or_else (move_refusal p q t) (quota_refusal n f k (next (Rename p q) t)))
+    → refusal t k n f (Rename p q) ≡ or_else (paths_refusal f (p ∷ q ∷ [])) (or_else (move_refusal p q t) (quota_refusal n f k (next_tree (Rename p q) t)))
 rename-stages t k n f p q = refusal_rename t k n f p q ∙ ap (λ x. or_else (paths_refusal f (p ∷ q ∷ [])) x)
     (chain (height_refusal p q t) (if is_not_found (walk p t) || is_not_found (parent_walk q t) then Some why.NotFound else None) (if is_not_dir (walk p t) || is_not_dir (parent_walk q t) then Some why.NotDir else None)
-    (if is_root p || is_root q then Some why.IsRoot else None) (if is_taken (Rename p q) t then Some why.Exists else None) (if moves_into_itself (Rename p q) then Some why.IntoItself else None) (quota_refusal n f k (next (Rename p q) t)))
+    (if is_root p || is_root q then Some why.IsRoot else None) (if is_taken (Rename p q) t then Some why.Exists else None) (if moves_into_itself (Rename p q) then Some why.IntoItself else None) (quota_refusal n f k (next_tree (Rename p q) t)))
 
 -- the places, by five tests
 abbrev by_tests : Bool → Bool → Bool → Bool → Bool → Option Why
@@ -209,8 +209,8 @@ found-move (Ok step) found P e h = (e, h)
 found-move (Err r) found P e h = absurd h
 
 -- behind the paths
-pub move-stages : (t : Tree) (k n : ℕ) (f : Form) (p q : Names) → paths_refusal f (p ∷ q ∷ []) ≡ None → refusal t k n f (Rename p q) ≡ or_else (move_refusal p q t) (quota_refusal n f k (next (Rename p q) t))
-move-stages t k n f p q names = rename-stages t k n f p q ∙ later_stage (paths_refusal f (p ∷ q ∷ [])) (or_else (move_refusal p q t) (quota_refusal n f k (next (Rename p q) t))) names
+pub move-stages : (t : Tree) (k n : ℕ) (f : Form) (p q : Names) → paths_refusal f (p ∷ q ∷ []) ≡ None → refusal t k n f (Rename p q) ≡ or_else (move_refusal p q t) (quota_refusal n f k (next_tree (Rename p q) t))
+move-stages t k n f p q names = rename-stages t k n f p q ∙ later_stage (paths_refusal f (p ∷ q ∷ [])) (or_else (move_refusal p q t) (quota_refusal n f k (next_tree (Rename p q) t))) names
 
 -- the files and directories below a path are no more than the lot has room for
 pub nodes-few : (f : Form) → f ≡ form_one → (mode : ℕ) (lot : LotView) (m : Map) (t : Tree) (k : ℕ) → MapRecovers f mode lot m t k → (p : Names) (s : Tree) → walk p t ≡ Found s → nodes s ≤ 64 * length lot.groups
@@ -220,7 +220,7 @@ nodes-few f one mode lot m t k r p s found =
     omega arith
 
 -- the tree after an accepted operation
-pub answer-next : (t : Tree) (k n : ℕ) (f : Form) (op : Operation) → refusal t k n f op ≡ None → next op t ≡ (answer t k n f op).1
+pub answer-next : (t : Tree) (k n : ℕ) (f : Form) (op : Operation) → refusal t k n f op ≡ None → next_tree op t ≡ (answer t k n f op).1
 answer-next t k n f op h = sym (ap (λ x. (answer_by x op t).1) h)
 
 -- what the last names of the paths are

@@ -13,7 +13,7 @@ use Rattle.tree_spec.specs.Trees.{Tree, File, Dir, Entries, Walk, Found, NotFoun
 use Rattle.tree_spec.specs.Costs.{Form, nodes, blocks, map_cost, file_blocks, dir_blocks}
 use Rattle.tree_spec.specs.Operations.{Rename}
 use Rattle.tree_spec.specs.Routes.{is_prefix, is_same_name}
-use Rattle.tree_spec.specs.Answers.{refusal, next, moved, most_done, is_root}
+use Rattle.tree_spec.specs.Answers.{refusal, next_tree, moved_tree, most_done, is_root}
 use Rattle.tree_spec.proofs.Trees.{same_name, is_same_name-refl, child-without_entry, find-over, on_some, parent-last, walk-at}
 use Rattle.tree_spec.proofs.Sums.{length-over}
 use Rattle.tree_spec.proofs.Accepted.{entry_walk}
@@ -139,7 +139,7 @@ few-blocks x y = grind (arith, nat_tests)
 -- in a lot that is great enough
 great-lot : (t : Tree) (f : Form) (p q : Names) → paths_refusal f (p ∷ q ∷ []) ≡ None → move_refusal p q t ≡ None → (n : ℕ) × (refusal t 0 n f (Rename p q) ≡ None)
 great-lot t f p q names ends =
-    let u = next (Rename p q) t in
+    let u = next_tree (Rename p q) t in
     let n = nodes u + blocks f u in (
       n,
       rename-stages t 0 n f p q ∙ none-both _ _ names (none-both _ _ ends
@@ -159,14 +159,14 @@ no_need = record { nodes = 0; lost = 0; blocks = 0; freed = 0 }
 module _ (f : Form) (mode : ℕ) (lot : LotView) (m : Map) (t : Tree) (k : ℕ) (p q : Names) (step : Move) (r : MapRecovers f mode lot m t k)
     (names : paths_refusal f (p ∷ q ∷ []) ≡ None) (ends : move_refusal p q t ≡ None) (is : IsMove f (own_in f m) p q t step) where
   -- nothing moves
-  pub need-same : step.same ≡ true → Needs f t (next (Rename p q) t) no_need
-  need-same e = subst (λ u. Needs f t u no_need) (sym (ap (λ b. cond b t (moved p q t)) (sym is.same_is ∙ e))) (record { nodes_move = refl; blocks_move = refl })
+  pub need-same : step.same ≡ true → Needs f t (next_tree (Rename p q) t) no_need
+  need-same e = subst (λ u. Needs f t u no_need) (sym (ap (λ b. cond b t (moved_tree p q t)) (sym is.same_is ∙ e))) (record { nodes_move = refl; blocks_move = refl })
 
   module _ (differ : step.same ≡ false) where
     moves : Moves p q t
     moves = let g = great-lot t f p q names ends in accepted-rename t 0 g.0 f p q g.1 (sym is.same_is ∙ differ)
 
-    made : next (Rename p q) t ≡ placed q moves.tree (removed p t)
+    made : next_tree (Rename p q) t ≡ placed q moves.tree (removed p t)
     made = next-rename t p q moves.tree (sym is.same_is ∙ differ) (entry_walk p t moves.tree moves.entry)
 
     ordered : T (is_ordered t)
@@ -188,14 +188,14 @@ module _ (f : Form) (mode : ℕ) (lot : LotView) (m : Map) (t : Tree) (k : ℕ) 
     from-count : step.from.entries ≡ was
     from-count = is.from_is.count ∙ sym (ap count is.from_is.there) ∙ ap count moves.entry.there
 
-    sums : (file : List ℕ → ℕ) (dir : ℕ → ℕ) → total file dir (next (Rename p q) t) + dir joins + dir was ≡ total file dir t + dir rest + dir (joins + 1)
+    sums : (file : List ℕ → ℕ) (dir : ℕ → ℕ) → total file dir (next_tree (Rename p q) t) + dir joins + dir was ≡ total file dir t + dir rest + dir (joins + 1)
     sums file dir =
         let a = total-placed file dir q moves.tree (removed p t) moves.place in
         let b = total-removed file dir p t moves.tree ordered moves.entry in
         let e = ap (λ u. total file dir u) made in
         omega arith
 
-    nodes-stay : nodes (next (Rename p q) t) ≡ nodes t
+    nodes-stay : nodes (next_tree (Rename p q) t) ≡ nodes t
     nodes-stay = let s = sums (λ _. 1) (λ _. 1) in omega arith
 
     -- the directory loses an entry and gains one
@@ -223,7 +223,7 @@ module _ (f : Form) (mode : ℕ) (lot : LotView) (m : Map) (t : Tree) (k : ℕ) 
         number : Reads f lot (own_in f m) (inode_on f (own_in f m) 0 (parent p)) (0 + length (parent p)) (Dir is.from_is.inside) → inode_on f (own_in f m) 0 (parent p) < 64 * length lot.groups
         number r = r.0.number
 
-    pub need-one : step.from.number ≡ step.to.number → Needs f t (next (Rename p q) t) no_need
+    pub need-one : step.from.number ≡ step.to.number → Needs f t (next_tree (Rename p q) t) no_need
     need-one e = elim (decide (parent p) (parent q)) [
       | inl same ↦
           (let j = one-dir same in
@@ -236,7 +236,7 @@ module _ (f : Form) (mode : ℕ) (lot : LotView) (m : Map) (t : Tree) (k : ℕ) 
     ]
 
     pub need-two : step.from.number ≢ step.to.number → (less more freed : ℕ) → less ≡ step.from.entries - 1 → more ≡ map_cost (dir_blocks f (step.to.entries + 1)) + map_cost (dir_blocks f less)
-        → freed ≡ map_cost (dir_blocks f step.to.entries) + map_cost (dir_blocks f step.from.entries) → Needs f t (next (Rename p q) t) (record { nodes = 0; lost = 0; blocks = more; freed = freed })
+        → freed ≡ map_cost (dir_blocks f step.to.entries) + map_cost (dir_blocks f step.from.entries) → Needs f t (next_tree (Rename p q) t) (record { nodes = 0; lost = 0; blocks = more; freed = freed })
     need-two differs less more freed l a b =
         let ne : parent p ≢ parent q = (λ e. differs (is.from_is.number ∙ ap (λ x. inode_on f (own_in f m) 0 x) e ∙ sym is.to_is.number)) in
         let j = two-dirs ne in

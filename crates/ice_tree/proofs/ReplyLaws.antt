@@ -4,7 +4,7 @@ use Rattle.ice_base.specs.Lots.{LotView}
 use Rattle.tree_spec.specs.Trees.{Tree}
 use Rattle.tree_spec.specs.Costs.{Form}
 use Rattle.tree_spec.specs.Operations.{Operation, is_change}
-use Rattle.tree_spec.specs.Answers.{refusal, answer, next}
+use Rattle.tree_spec.specs.Answers.{refusal, answer, next_tree}
 use Rattle.tree_spec.specs.Replies.{Refused, Plain}
 use Rattle.tree_spec.proofs.Refusals.{answer-accepted, accepted_value-change}
 use Rattle.ice_reads.specs.Tables.{Map}
@@ -23,5 +23,5 @@ module _ (t : Tree) (k n : ℕ) (f : Form) (op : Operation) where
     accepted-model = sym (ap (λ a. a.0) (answer-accepted t k n f op none) ∙ ap (λ v. Ok v) (accepted_value-change op t change))
 
     -- and makes the next tree
-    pub accepted-recovers : (mode : ℕ) (lot : LotView) (m : Map) → MapRecovers f mode lot m (next op t) (k + 1) → MapRecovers f mode lot m (answer t k n f op).1 (k + 1)
+    pub accepted-recovers : (mode : ℕ) (lot : LotView) (m : Map) → MapRecovers f mode lot m (next_tree op t) (k + 1) → MapRecovers f mode lot m (answer t k n f op).1 (k + 1)
     accepted-recovers mode lot m r = subst (λ u. MapRecovers f mode lot m u (k + 1)) (sym (ap (λ a. a.1) (answer-accepted t k n f op none))) r

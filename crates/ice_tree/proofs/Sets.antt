@@ -6,9 +6,9 @@ use Rattle.ice_base.specs.Faults.{IsDiskFault, IsTakeInodeFault, IsGiveFault}
 use Rattle.ice_base.specs.declared.fault.OpFault.{OpFault}
 use Rattle.ice_base.specs.declared.fault.OpFault.TheVariants.{Disk, Damaged, NoSpace, NoNodes}
 use Rattle.ice_base.specs.declared.fault.Rule.TheVariants as rule
-use Rattle.ice_dir.specs.Faults.{IsAddFault, IsTakeFault}
+use Rattle.ice_dir.specs.Faults.{IsAddFault, IsRemovalFault}
 use Rattle.ice_file.specs.Files.{IsReadFault, IsWriteFault, IsCutToFault}
-use Rattle.tree_spec.specs.Replies.{number_of}
+use Rattle.tree_spec.specs.Replies.{refusal_number}
 use Rattle.tree_spec.specs.declared.reply.Refusal.{Refusal}
 use Rattle.tree_spec.specs.declared.reply.Refusal.TheVariants as code
 use Rattle.ice_tree.specs.Listings.{IsListFault}
@@ -46,7 +46,7 @@ one-among (x ∷ xs) ys n all h =
 pub set-more : (xs ys rs qs : List ℕ) → are_among xs ys ≡ true → are_among rs qs ≡ true → (r : Refusal) → IsOneOf xs rs r → IsOneOf ys qs r
 set-more xs ys rs qs a b (code.Damaged n) h = one-among rs qs n b h
 set-more xs ys rs qs a b code.Fault h = tt
-set-more xs ys rs qs a b r h = one-among xs ys (number_of r) a h
+set-more xs ys rs qs a b r h = one-among xs ys (refusal_number r) a h
 
 -- a fault of a smaller set, as a refusal
 pub fault-set : (ys rs qs : List ℕ) → are_among rs qs ≡ true → (r : Refusal) (e : OpFault) → r ≡ refusal_by e → IsNamedIn rs e → IsOneOf ys qs r
@@ -126,7 +126,7 @@ add-in (Damaged rule.Bitmap) h = refl
 add-in NoSpace h = refl
 add-in _ h = absurd h
 
-pub take-in : (e : OpFault) → IsTakeFault e → IsNamedIn change_rules e
+pub take-in : (e : OpFault) → IsRemovalFault e → IsNamedIn change_rules e
 take-in Disk h = tt
 take-in (Damaged rule.Counts) h = refl
 take-in (Damaged rule.Kind) h = refl

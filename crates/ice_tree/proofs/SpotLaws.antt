@@ -11,7 +11,7 @@ use Rattle.tree_spec.specs.Why as why
 use Rattle.tree_spec.specs.Trees.{Tree, Walk, Found, NotFound, NotDir, walk, parent, last_name, parent_walk, needs_dir, rows, by_bytes, and_on, found_or_not}
 use Rattle.tree_spec.specs.Trees as tree
 use Rattle.tree_spec.specs.Costs.{Form, form_one, nodes, blocks, map_cost, file_blocks, dir_blocks}
-use Rattle.tree_spec.specs.Answers.{is_root, is_found, refusal, next}
+use Rattle.tree_spec.specs.Answers.{is_root, is_found, refusal, next_tree}
 use Rattle.tree_spec.proofs.Accepted.{has_place, walk-last, first_false, second_false}
 use Rattle.tree_spec.proofs.Changes.{total-placed}
 use Rattle.ice_reads.specs.Tables.{Map, Table, own_in}
@@ -118,13 +118,13 @@ chained (Some r) b c d = refl
 chained None (Some r) c d = refl
 chained None None c d = refl
 
-pub new-stages : (dir : Bool) (t : Tree) (k n : ℕ) (f : Form) (p : Names) → refusal t k n f (new_operation dir p) ≡ or_else (paths_refusal f (p ∷ [])) (or_else (new_refusal p t) (quota_refusal n f k (next (new_operation dir p) t)))
+pub new-stages : (dir : Bool) (t : Tree) (k n : ℕ) (f : Form) (p : Names) → refusal t k n f (new_operation dir p) ≡ or_else (paths_refusal f (p ∷ [])) (or_else (new_refusal p t) (quota_refusal n f k (next_tree (new_operation dir p) t)))
 new-stages true t k n f p =
     refusal_mkdir t k n f p
-    ∙ ap (or_else (paths_refusal f (p ∷ []))) (chained (walk_refusal (parent_walk p t)) (if is_root p then Some why.IsRoot else None) (if is_found (walk p t) then Some why.Exists else None) (quota_refusal n f k (next (new_operation true p) t)))
+    ∙ ap (or_else (paths_refusal f (p ∷ []))) (chained (walk_refusal (parent_walk p t)) (if is_root p then Some why.IsRoot else None) (if is_found (walk p t) then Some why.Exists else None) (quota_refusal n f k (next_tree (new_operation true p) t)))
 new-stages false t k n f p =
     refusal_make t k n f p
-    ∙ ap (or_else (paths_refusal f (p ∷ []))) (chained (walk_refusal (parent_walk p t)) (if is_root p then Some why.IsRoot else None) (if is_found (walk p t) then Some why.Exists else None) (quota_refusal n f k (next (new_operation false p) t)))
+    ∙ ap (or_else (paths_refusal f (p ∷ []))) (chained (walk_refusal (parent_walk p t)) (if is_root p then Some why.IsRoot else None) (if is_found (walk p t) then Some why.Exists else None) (quota_refusal n f k (next_tree (new_operation false p) t)))
 
 free-both : (a b : Bool) → or_else (if a then Some why.IsRoot else None) (if b then Some why.Exists else None) ≡ None → (a ≡ false) × (b ≡ false)
 free-both true b h = absurd cc
@@ -145,7 +145,7 @@ made_nodes false = refl
 -- what it needs
 pub new-needs : (f : Form) → f ≡ form_one → (o : Table) (p : Names) (t : Tree) (spot : Spot) (dir : Bool) → IsSpot f o (parent p) t spot → new_refusal p t ≡ None
     → (b c : ℕ) → b ≡ map_cost (dir_blocks f (spot.entries + 1)) → c ≡ map_cost (dir_blocks f spot.entries)
-    → Needs f t (next (new_operation dir p) t) (record { nodes = 1; lost = 0; blocks = b; freed = c })
+    → Needs f t (next_tree (new_operation dir p) t) (record { nodes = 1; lost = 0; blocks = b; freed = c })
 new-needs f one o p t spot dir is none b c more less =
     let free = free-both (is_root p) (is_found (walk p t)) (sym (by-walk p t (Found (tree.Dir is.inside)) is.there) ∙ none) in
     let h = has_place p t is.inside free.0 is.there free.1 in

@@ -10,26 +10,26 @@ use Rattle.ice_map.specs.Maps.{FreeOrTwice}
 use Rattle.ice_map.proofs.UsesLaws.{free-or}
 use Rattle.ice_file.specs.Own.{Confuses}
 use Rattle.ice_file.specs.Writes.{uses_of}
-use Rattle.ice_dir.specs.Changes.{dir_blocks, dir_uses}
-use Rattle.ice_dir.specs.Faults.{IsTakeFault}
+use Rattle.ice_dir.specs.Changes.{entry_blocks, dir_uses}
+use Rattle.ice_dir.specs.Faults.{IsRemovalFault}
 use Rattle.ice_dir.specs.Rows.{IsDirectory}
 use Rattle.ice_tree.specs.Broken.{IsBrokenBy}
 use Rattle.ice_tree.proofs.MapDamage.{map-dir, few-counted, bad-bitmap, bad-map}
 use Rattle.ice_tree.specs.Places.{IsReached}
 
 -- an entry was to be taken from a directory
-pub take-blamed : (entry : ℕ) (lot : LotView) (m : ℕ → List ℕ) (number : ℕ) → IsReached entry lot m number → IsDirectory lot (inode_of m number) → (e : OpFault) → IsTakeFault e
-    → (e ≡ Damaged Counts → counted false m + uses_of (dir_blocks entry ((inode_of m number).size - 1)) < uses_of (dir_blocks entry (inode_of m number).size))
+pub take-blamed : (entry : ℕ) (lot : LotView) (m : ℕ → List ℕ) (number : ℕ) → IsReached entry lot m number → IsDirectory lot (inode_of m number) → (e : OpFault) → IsRemovalFault e
+    → (e ≡ Damaged Counts → counted false m + uses_of (entry_blocks entry ((inode_of m number).size - 1)) < uses_of (entry_blocks entry (inode_of m number).size))
     → (e ≡ Damaged Kind → ¬ IsDirectory lot (inode_of m number))
-    → (e ≡ Damaged Bitmap → FreeOrTwice m (dir_uses entry m number)) → (e ≡ Damaged Pointer → Confuses lot m (inode_of m number) (dir_blocks entry (inode_of m number).size))
+    → (e ≡ Damaged Bitmap → FreeOrTwice m (dir_uses entry m number)) → (e ≡ Damaged Pointer → Confuses lot m (inode_of m number) (entry_blocks entry (inode_of m number).size))
     → IsBrokenBy entry lot m e
 take-blamed entry lot m number reached dir Disk f zero kind unused misled = tt
 take-blamed entry lot m number reached dir (Damaged Counts) f zero kind unused misled =
     let z = zero refl in
-    inr (inr (few-counted entry lot m number (dir_blocks entry (inode_of m number).size) reached (inr dir) (map-dir entry (inode_of m number) dir.kind) (omega arith)))
+    inr (inr (few-counted entry lot m number (entry_blocks entry (inode_of m number).size) reached (inr dir) (map-dir entry (inode_of m number) dir.kind) (omega arith)))
 take-blamed entry lot m number reached dir (Damaged Kind) f zero kind unused misled = absurd (kind refl dir)
 take-blamed entry lot m number reached dir (Damaged Bitmap) f zero kind unused misled =
-    bad-bitmap entry lot m number (dir_blocks entry (inode_of m number).size) reached (inr dir) (map-dir entry (inode_of m number) dir.kind) (free-or m (inode_of m number) (dir_blocks entry (inode_of m number).size) (unused refl))
+    bad-bitmap entry lot m number (entry_blocks entry (inode_of m number).size) reached (inr dir) (map-dir entry (inode_of m number) dir.kind) (free-or m (inode_of m number) (entry_blocks entry (inode_of m number).size) (unused refl))
 take-blamed entry lot m number reached dir (Damaged Pointer) f zero kind unused misled =
-    bad-map entry lot m number (dir_blocks entry (inode_of m number).size) reached (inr dir) (map-dir entry (inode_of m number) dir.kind) (misled refl)
+    bad-map entry lot m number (entry_blocks entry (inode_of m number).size) reached (inr dir) (map-dir entry (inode_of m number) dir.kind) (misled refl)
 take-blamed entry lot m number reached dir _ f zero kind unused misled = absurd f

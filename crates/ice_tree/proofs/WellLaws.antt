@@ -9,7 +9,7 @@ use Rattle.ice_file.specs.Files.{ReachesTo}
 use Rattle.ice_file.specs.Own.{WellMade, MadeOf, Confuses, blocks_for}
 use Rattle.ice_file.proofs.DamageLaws.{misled-unmade, confused-unmade, free-unmade}
 use Rattle.ice_file.proofs.WriteLaws.{count-less}
-use Rattle.ice_dir.specs.Changes.{dir_blocks, dir_uses}
+use Rattle.ice_dir.specs.Changes.{entry_blocks, dir_uses}
 use Rattle.ice_dir.specs.Rows.{IsDirectory}
 use Rattle.ice_tree.proofs.MapDamage.{map-dir, map-file}
 
@@ -18,17 +18,17 @@ pub err-at : {T E : Type 0} (P : E → Type 0) (r : Result T E) (e : E) → r �
 err-at P r e is h = subst (λ x. IfErr x P) is h
 
 module _ (lot : LotView) (entry : ℕ) (m : ℕ → List ℕ) (number : ℕ) where
-  made-dir : IsDirectory lot (inode_of m number) → WellMade lot entry m number → MadeOf lot m (inode_of m number) (dir_blocks entry (inode_of m number).size)
+  made-dir : IsDirectory lot (inode_of m number) → WellMade lot entry m number → MadeOf lot m (inode_of m number) (entry_blocks entry (inode_of m number).size)
   made-dir d made = subst (MadeOf lot m (inode_of m number)) (map-dir entry (inode_of m number) d.kind) made
 
   pub dir-free : IsDirectory lot (inode_of m number) → FreeOrTwice m (dir_uses entry m number) → ¬ WellMade lot entry m number
-  dir-free d bad made = free-unmade lot m (inode_of m number) (dir_blocks entry (inode_of m number).size) bad (made-dir d made)
+  dir-free d bad made = free-unmade lot m (inode_of m number) (entry_blocks entry (inode_of m number).size) bad (made-dir d made)
 
-  pub dir-confused : IsDirectory lot (inode_of m number) → Confuses lot m (inode_of m number) (dir_blocks entry (inode_of m number).size) → ¬ WellMade lot entry m number
-  dir-confused d bad made = confused-unmade lot m (inode_of m number) (dir_blocks entry (inode_of m number).size) bad (made-dir d made)
+  pub dir-confused : IsDirectory lot (inode_of m number) → Confuses lot m (inode_of m number) (entry_blocks entry (inode_of m number).size) → ¬ WellMade lot entry m number
+  dir-confused d bad made = confused-unmade lot m (inode_of m number) (entry_blocks entry (inode_of m number).size) bad (made-dir d made)
 
-  pub dir-misled : IsDirectory lot (inode_of m number) → Misleads lot m (inode_of m number) (dir_blocks entry (inode_of m number).size) → ¬ WellMade lot entry m number
-  dir-misled d bad made = misled-unmade lot m (inode_of m number) (dir_blocks entry (inode_of m number).size) bad (made-dir d made)
+  pub dir-misled : IsDirectory lot (inode_of m number) → Misleads lot m (inode_of m number) (entry_blocks entry (inode_of m number).size) → ¬ WellMade lot entry m number
+  dir-misled d bad made = misled-unmade lot m (inode_of m number) (entry_blocks entry (inode_of m number).size) bad (made-dir d made)
 
   module _ (at : ℕ) (file : ReachesTo at (inode_of m number)) where
     made-file : WellMade lot entry m number → MadeOf lot m (inode_of m number) (blocks_for (inode_of m number).size)

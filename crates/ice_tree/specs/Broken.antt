@@ -12,7 +12,7 @@ use Rattle.ice_layout.specs.Subs.{sub_rule}
 use Rattle.ice_map.specs.Inodes.{inode_of}
 use Rattle.ice_map.specs.Maps.{times, uses, Misleads, UsesUnmarked}
 use Rattle.ice_file.specs.Own.{map_length}
-use Rattle.ice_dir.specs.Rows.{Row, rows_of, IsDirectory}
+use Rattle.ice_dir.specs.Rows.{DirRow, dir_rows_of, IsDirectory}
 use Rattle.tree_spec.specs.Names.{is_name}
 use Rattle.ice_tree.specs.Places.{IsNode, IsReached}
 use Rattle.ice_tree.specs.declared.place.Place.{Place}
@@ -21,7 +21,7 @@ use Rattle.ice_tree.specs.declared.place.Place.TheVariants.{Dir}
 -- to how many files and directories at most so many names lead from an inode, itself among them
 abbrev pub spread : ℕ → (ℕ → List ℕ) → ℕ → ℕ → ℕ
 spread entry m zero number = 1
-spread entry m (suc levels) number = cond ((inode_of m number).kind == 2) (1 + sum_by (λ (row : Row). spread entry m levels row.1) (rows_of entry m number)) 1
+spread entry m (suc levels) number = cond ((inode_of m number).kind == 2) (1 + sum_by (λ (row : DirRow). spread entry m levels row.1) (dir_rows_of entry m number)) 1
 
 -- the same from a place
 abbrev pub spread_at : ℕ → (ℕ → List ℕ) → ℕ → Place → ℕ
@@ -63,10 +63,10 @@ pub record TwiceUsed (entry : ℕ) (lot : LotView) (m : ℕ → List ℕ) : Type
 -- some directory has a row that names the root, or no inode of the lot
 pub record BadEntry (entry : ℕ) (lot : LotView) (m : ℕ → List ℕ) : Type 0 where
   pub number : ℕ
-  pub row : Row
+  pub row : DirRow
   pub reached : IsReached entry lot m number
   pub dir : IsDirectory lot (inode_of m number)
-  pub has : Contains (rows_of entry m number) row
+  pub has : Contains (dir_rows_of entry m number) row
   pub bad : (row.1 ≡ 0) ⊎ (64 * length lot.groups ≤ row.1)
 
 -- two directories have together as many entries as the lot has inodes, one more than there are to name: one is named twice, or the root, or none of the lot
@@ -90,10 +90,10 @@ pub record Crowded (entry : ℕ) (lot : LotView) (m : ℕ → List ℕ) : Type 0
 -- some directory has a row whose name is none
 pub record BadName (entry : ℕ) (lot : LotView) (m : ℕ → List ℕ) : Type 0 where
   pub number : ℕ
-  pub row : Row
+  pub row : DirRow
   pub reached : IsReached entry lot m number
   pub dir : IsDirectory lot (inode_of m number)
-  pub has : Contains (rows_of entry m number) row
+  pub has : Contains (dir_rows_of entry m number) row
   pub bad : is_name row.0 ≡ false
 
 -- ---- counts and bitmaps

@@ -11,8 +11,8 @@ use Rattle.ice_map.specs.Maps.{HasTwice}
 use Rattle.ice_file.specs.Files.{longest_file, ReachesTo}
 use Rattle.ice_file.specs.Own.{blocks_for}
 use Rattle.ice_file.specs.Writes.{uses_of, blocks_with}
-use Rattle.ice_dir.specs.Changes.{dir_blocks}
-use Rattle.ice_dir.specs.Rows.{rows_of, look_up, IsDirectory}
+use Rattle.ice_dir.specs.Changes.{entry_blocks}
+use Rattle.ice_dir.specs.Rows.{dir_rows_of, look_up, IsDirectory}
 use Rattle.ice_tree.specs.Places.{IsReached, PlaceOf, PlaceIs, PlaceReached}
 use Rattle.ice_tree.specs.declared.ends.Ends.{Ends}
 use Rattle.ice_tree.specs.declared.ends.Spot.{Spot}
@@ -49,7 +49,7 @@ pub record NewFits (entry : ℕ) (lot : LotView) (m : ℕ → List ℕ) (spot : 
   pub spot_is : SpotIs entry lot m spot
   pub room : spot.entries + 1 < 64 * length lot.groups
   pub node : 1 ≤ free_count true lot m
-  pub blocks : uses_of (dir_blocks entry (spot.entries + 1)) ≤ uses_of (dir_blocks entry spot.entries) + free_count false lot m
+  pub blocks : uses_of (entry_blocks entry (spot.entries + 1)) ≤ uses_of (entry_blocks entry spot.entries) + free_count false lot m
   pub done : CanCount m
 
 -- a file to which the directories lead, which reaches to a place
@@ -66,7 +66,7 @@ pub record BytesFit (entry : ℕ) (lot : LotView) (m : ℕ → List ℕ) (at end
 -- what is removed: a directory names it so, and a file has its bytes
 pub record GoneIs (entry : ℕ) (lot : LotView) (m : ℕ → List ℕ) (name : List ℕ) (gone : Gone) : Type 0 where
   pub spot_is : SpotIs entry lot m gone.spot
-  pub named : look_up name (rows_of entry m gone.spot.number) ≡ Some gone.number
+  pub named : look_up name (dir_rows_of entry m gone.spot.number) ≡ Some gone.number
   pub reached : IsReached entry lot m gone.number
   pub file : 0 < gone.bytes → ReachesTo 0 (inode_of m gone.number)
 
@@ -87,20 +87,20 @@ pub record MoveIs (entry : ℕ) (lot : LotView) (m : ℕ → List ℕ) (name : L
   pub to_is : SpotIs entry lot m step.to
   pub number : ℕ
   pub below : number < 64 * length lot.groups
-  pub named : look_up name (rows_of entry m step.from.number) ≡ Some number
+  pub named : look_up name (dir_rows_of entry m step.from.number) ≡ Some number
 
 -- as many inodes and blocks are there as a rename needs, and one more operation can be counted
 pub record RowFits (entry : ℕ) (lot : LotView) (m : ℕ → List ℕ) (step : Move) : Type 0 where
   pub room : step.from.number ≢ step.to.number → step.from.entries + step.to.entries < 64 * length lot.groups
   pub blocks : step.same ≡ false → step.from.number ≢ step.to.number
-      → uses_of (dir_blocks entry (step.to.entries + 1)) + uses_of (dir_blocks entry (step.from.entries - 1)) ≤ uses_of (dir_blocks entry step.to.entries) + uses_of (dir_blocks entry step.from.entries) + free_count false lot m
+      → uses_of (entry_blocks entry (step.to.entries + 1)) + uses_of (entry_blocks entry (step.from.entries - 1)) ≤ uses_of (entry_blocks entry step.to.entries) + uses_of (entry_blocks entry step.from.entries) + free_count false lot m
   pub done : CanCount m
 
 -- the place of the inode that row k of a directory names
 pub record IsEntry (entry : ℕ) (lot : LotView) (m : ℕ → List ℕ) (dir k : ℕ) (place : Place) : Type 0 where
   pub name : List ℕ
   pub inode : ℕ
-  pub row : slice_get (rows_of entry m dir) k ≡ Some (name, inode)
+  pub row : slice_get (dir_rows_of entry m dir) k ≡ Some (name, inode)
   pub is : PlaceIs m place
   pub reached : PlaceReached entry lot m place
   pub at : PlaceOf inode place

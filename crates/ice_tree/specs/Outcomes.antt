@@ -5,7 +5,7 @@ use Rattle.ice_base.specs.declared.fault.OpFault.{OpFault}
 use Rattle.ice_base.specs.declared.fault.OpFault.TheVariants as op
 use Rattle.ice_base.specs.declared.fault.Rule.TheVariants as rule
 use Rattle.tree_spec.specs.Why.{Why}
-use Rattle.tree_spec.specs.Replies.{Response, Refused, Because, Fault, Memory, Plain, refused_of, number_of}
+use Rattle.tree_spec.specs.Replies.{Response, Refused, Because, Fault, Memory, Plain, refused_of, refusal_number}
 use Rattle.tree_spec.specs.declared.reply.Refusal.{Refusal}
 use Rattle.tree_spec.specs.declared.reply.Refusal.TheVariants as code
 use Rattle.ice_rules.specs.Rules.{rule_number}
@@ -41,7 +41,7 @@ refusal_by op.NoNodes = code.Damaged 13
 abbrev pub IsOneOf : List ℕ → List ℕ → Refusal → Type 0
 IsOneOf refusals rules (code.Damaged rule) = list_any (nat_eq rule) rules ≡ true
 IsOneOf refusals rules code.Fault = ⊤
-IsOneOf refusals rules r = list_any (nat_eq (number_of r)) refusals ≡ true
+IsOneOf refusals rules r = list_any (nat_eq (refusal_number r)) refusals ≡ true
 
 -- a fault of a call below is the disk's, or as a refusal it names one of these rules
 abbrev pub IsNamedIn : List ℕ → OpFault → Type 0

@@ -7,7 +7,7 @@ use Rattle.ice_base.specs.declared.fault.Rule.TheVariants.{Kind, Pointer, InodeT
 use Rattle.ice_map.specs.declared.codec.Inode.{Inode}
 use Rattle.ice_map.specs.Inodes.{inode_of}
 use Rattle.ice_file.specs.Files.{longest_file}
-use Rattle.ice_dir.specs.Rows.{rows_of, look_up, IsDirectory}
+use Rattle.ice_dir.specs.Rows.{dir_rows_of, look_up, IsDirectory}
 use Rattle.tree_spec.specs.Trees.{Tree, Walk, Found, NotFound, NotDir, walk, rows}
 use Rattle.tree_spec.specs.Trees as tree
 use Rattle.tree_spec.specs.Costs.{Form}
@@ -34,7 +34,7 @@ IsNode lot inode = ((inode.kind ≡ 1) × (inode.size ≤ longest_file)) ⊎ IsD
 -- an inode to which the directories of a lot lead, whose entries have so many bytes: the root, or one that a row of such a directory names
 pub data Reached (entry : ℕ) (lot : LotView) (m : ℕ → List ℕ) : ℕ → Type 0 where
   Root : Reached entry lot m 0
-  Named : (dir number : ℕ) (name : List ℕ) → Reached entry lot m dir → IsDirectory lot (inode_of m dir) → Contains (rows_of entry m dir) (name, number) → Reached entry lot m number
+  Named : (dir number : ℕ) (name : List ℕ) → Reached entry lot m dir → IsDirectory lot (inode_of m dir) → Contains (dir_rows_of entry m dir) (name, number) → Reached entry lot m number
 
 -- an inode of the lot to which the directories lead
 pub record IsReached (entry : ℕ) (lot : LotView) (m : ℕ → List ℕ) (number : ℕ) : Type 0 where
@@ -82,8 +82,8 @@ PlaceReached entry lot m Blocked = ⊤
 
 -- what stands at a place is what a directory at the other place names so
 abbrev pub PlaceNamed : ℕ → (ℕ → List ℕ) → Place → List ℕ → Place → Type 0
-PlaceNamed entry m (Dir dir entries) name (File number size) = look_up name (rows_of entry m dir) ≡ Some number
-PlaceNamed entry m (Dir dir entries) name (Dir number size) = look_up name (rows_of entry m dir) ≡ Some number
+PlaceNamed entry m (Dir dir entries) name (File number size) = look_up name (dir_rows_of entry m dir) ≡ Some number
+PlaceNamed entry m (Dir dir entries) name (Dir number size) = look_up name (dir_rows_of entry m dir) ≡ Some number
 PlaceNamed entry m _ name (File number size) = ⊥
 PlaceNamed entry m _ name (Dir number size) = ⊥
 PlaceNamed entry m _ name _ = ⊤

@@ -6,7 +6,7 @@ ghost use Rattle.ice_base.specs.Views.{Looked, IfShown};
 ghost use Rattle.ice_base.specs.declared.fault.OpFault.TheVariants.{Disk as FaultDisk};
 ghost use Rattle.ice_base.specs.declared.fault.Rule.{Rule};
 ghost use Rattle.ice_map.specs.Inodes.{inode_of};
-ghost use Rattle.ice_dir.specs.Rows.{Row, IsDirectory, HasEntry};
+ghost use Rattle.ice_dir.specs.Rows.{DirRow, IsDirectory, HasEntry};
 ghost use Rattle.tree_spec.specs.Answers.{answer};
 ghost use Rattle.tree_spec.specs.Costs.{form_of};
 ghost use Rattle.tree_spec.specs.Held.{by_name, most_entries};
@@ -47,7 +47,7 @@ fn add_entry<D: Disk, V: View<D>, F: Form>(
     requires sited { is_sited lot.now (D.state disk.old).size ≡ true }
     requires number { number < 64 * length lot.now.groups }
     requires fits { length room.old.entries < most_entries }
-    ensures added { (h : ℕ) (es : Entries) (row : Row) → IfShown V.View lot.now view.old disk.old (λ old.
+    ensures added { (h : ℕ) (es : Entries) (row : DirRow) → IfShown V.View lot.now view.old disk.old (λ old.
         Reads (form_of F.VERSION) lot.now (own_in (form_of F.VERSION) old) number h (Dir es)
         → slice_get (rows_in (form_of F.VERSION) (own_in (form_of F.VERSION) old number)) k ≡ Some row
         → IsReached F.ENTRY lot.now old number → ¬ BadEntry F.ENTRY lot.now old

@@ -7,7 +7,7 @@ ghost use Rattle.ice_base.specs.declared.fault.Rule.{Rule};
 ghost use Rattle.ice_file.specs.Files.{longest_file, most_at_once};
 ghost use Rattle.tree_spec.specs.Answers.{answer};
 ghost use Rattle.tree_spec.specs.Costs.{form_of};
-ghost use Rattle.tree_spec.specs.Held.{Held};
+ghost use Rattle.tree_spec.specs.Held.{RoomContent};
 ghost use Rattle.tree_spec.specs.Operations.{Read, Stat};
 ghost use Rattle.tree_spec.specs.Replies.{meant, refused_of, Tallies};
 ghost use Rattle.tree_spec.specs.Trees.{Tree, Entries, Found, File, Dir, rows, walk};
@@ -179,13 +179,13 @@ pub fn stat<D: Disk, V: View<D>, F: Form>(
     requires sited { is_sited lot.now (D.state disk.old).size ≡ true }
     requires some { 1 ≤ length lot.now.groups }
     requires depth { depth ≤ length path.now }
-    ensures answers { (mode k : ℕ) (t : Tree) (room : Held) → IfShown V.View lot.now view.old disk.old (λ old.
+    ensures answers { (mode k : ℕ) (t : Tree) (room : RoomContent) → IfShown V.View lot.now view.old disk.old (λ old.
         MapRecovers (form_of F.VERSION) mode lot.now old t k
         → AsModel (meant result room) (answer t k (length lot.now.groups) (form_of F.VERSION) (Stat (drop depth path.now))).0) }
     ensures paths { ShownBy (paths_refusal (form_of F.VERSION) (drop depth path.now ∷ [])) result }
     ensures untouched { (r : Why) → paths_refusal (form_of F.VERSION) (drop depth path.now ∷ []) ≡ Some r
         → (disk.new ≡ disk.old) × (view.new ≡ view.old) }
-    ensures tallies { (room : Held) → Tallies result room }
+    ensures tallies { (room : RoomContent) → Tallies result room }
     ensures damaged { (n : ℕ) → IsErrOf result (Damaged n) → IfShown V.View lot.now view.old disk.old (λ old.
         (r : Rule) × (n ≡ rule_number r) × IsBroken F.ENTRY lot.now old r) }
     ensures looked { Looked D.Disk V.View lot.now view.old disk.old view.new disk.new }

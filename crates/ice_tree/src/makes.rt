@@ -6,10 +6,10 @@ ghost use Rattle.ice_base.specs.Lots.{LotView, is_sited, sub_address};
 ghost use Rattle.ice_base.specs.Views.{Looked, Spent, AsShown, IfShown};
 ghost use Rattle.ice_base.specs.declared.fault.OpFault.TheVariants.{Disk as FaultDisk};
 ghost use Rattle.ice_base.specs.declared.fault.Rule.{Rule};
-ghost use Rattle.tree_spec.specs.Answers.{answer, next, refusal, is_root};
+ghost use Rattle.tree_spec.specs.Answers.{answer, next_tree, refusal, is_root};
 ghost use Rattle.tree_spec.specs.Costs.{Form, form_of};
 ghost use Rattle.tree_spec.specs.Operations.{Mkdir, Make};
-ghost use Rattle.tree_spec.specs.Replies.{number_of, refused_of};
+ghost use Rattle.tree_spec.specs.Replies.{refusal_number, refused_of};
 ghost use Rattle.tree_spec.specs.Trees.{Tree, parent};
 ghost use Rattle.tree_spec.specs.Why.{Why};
 ghost use Rattle.tree_spec.specs.declared.reply.Refusal.TheVariants.{Fault, Damaged, NotFound, NotDir, IsRoot, Exists};
@@ -153,7 +153,7 @@ fn put_node<D: Disk, K: Keep<D>, P: Pool<D, K>, F: Form>(
     ensures made { (mode k : ℕ) (t : Tree) (p : List (List ℕ))
         → AsShown K.View lot.now keep.old disk.old keep.new disk.new (λ old new.
         Takes (form_of F.VERSION) mode lot.now old t k p dir spot.now name.now
-        → OnOk result (MapRecovers (form_of F.VERSION) mode lot.now new (next (new_operation dir p) t) k)) }
+        → OnOk result (MapRecovers (form_of F.VERSION) mode lot.now new (next_tree (new_operation dir p) t) k)) }
     ensures sound { (mode k : ℕ) (t : Tree) (p : List (List ℕ))
         → IfShown K.View lot.now keep.old disk.old (λ old.
         Takes (form_of F.VERSION) mode lot.now old t k p dir spot.now name.now
@@ -192,7 +192,7 @@ fn put_new<D: Disk, K: Keep<D>, P: Pool<D, K>, F: Form>(
     ensures made { (mode k : ℕ) (t : Tree) (p : List (List ℕ))
         → AsShown K.View lot.now keep.old disk.old keep.new disk.new (λ old new.
         Takes (form_of F.VERSION) mode lot.now old t k p dir spot.now name.now
-        → OnOk result (MapRecovers (form_of F.VERSION) mode lot.now new (next (new_operation dir p) t) (k + 1))) }
+        → OnOk result (MapRecovers (form_of F.VERSION) mode lot.now new (next_tree (new_operation dir p) t) (k + 1))) }
     ensures sound { (mode k : ℕ) (t : Tree) (p : List (List ℕ))
         → IfShown K.View lot.now keep.old disk.old (λ old.
         Takes (form_of F.VERSION) mode lot.now old t k p dir spot.now name.now
@@ -234,7 +234,7 @@ fn make_node<D: Disk, K: Keep<D>, P: Pool<D, K>, F: Form>(
     ensures paths { ShownBy (paths_refusal (form_of F.VERSION) (drop depth path.now ∷ [])) result }
     ensures untouched { (r : Why) → paths_refusal (form_of F.VERSION) (drop depth path.now ∷ []) ≡ Some r
         → (disk.new ≡ disk.old) × (keep.new ≡ keep.old) × (pool.new ≡ pool.old) }
-    ensures refused { IfErr result (λ r. number_of r ≤ 14
+    ensures refused { IfErr result (λ r. refusal_number r ≤ 14
         → Looked D.Disk K.View lot.now keep.old disk.old keep.new disk.new) }
     ensures spent { Spent D.Disk K.View lot.now 96 keep.old disk.old keep.new disk.new }
     ensures damaged { (n : ℕ) → IsErrOf result (Damaged n) → IfShown K.View lot.now keep.old disk.old (λ old.
@@ -277,7 +277,7 @@ pub fn mkdir<D: Disk, K: Keep<D>, P: Pool<D, K>, F: Form>(
     ensures paths { ShownBy (paths_refusal (form_of F.VERSION) (drop depth path.now ∷ [])) result }
     ensures untouched { (r : Why) → paths_refusal (form_of F.VERSION) (drop depth path.now ∷ []) ≡ Some r
         → (disk.new ≡ disk.old) × (keep.new ≡ keep.old) × (pool.new ≡ pool.old) }
-    ensures refused { IfErr result (λ r. number_of r ≤ 14
+    ensures refused { IfErr result (λ r. refusal_number r ≤ 14
         → Looked D.Disk K.View lot.now keep.old disk.old keep.new disk.new) }
     ensures spent { Spent D.Disk K.View lot.now 96 keep.old disk.old keep.new disk.new }
     ensures damaged { (n : ℕ) → IsErrOf result (Damaged n) → IfShown K.View lot.now keep.old disk.old (λ old.
@@ -312,7 +312,7 @@ pub fn make<D: Disk, K: Keep<D>, P: Pool<D, K>, F: Form>(
     ensures paths { ShownBy (paths_refusal (form_of F.VERSION) (drop depth path.now ∷ [])) result }
     ensures untouched { (r : Why) → paths_refusal (form_of F.VERSION) (drop depth path.now ∷ []) ≡ Some r
         → (disk.new ≡ disk.old) × (keep.new ≡ keep.old) × (pool.new ≡ pool.old) }
-    ensures refused { IfErr result (λ r. number_of r ≤ 14
+    ensures refused { IfErr result (λ r. refusal_number r ≤ 14
         → Looked D.Disk K.View lot.now keep.old disk.old keep.new disk.new) }
     ensures spent { Spent D.Disk K.View lot.now 96 keep.old disk.old keep.new disk.new }
     ensures damaged { (n : ℕ) → IsErrOf result (Damaged n) → IfShown K.View lot.now keep.old disk.old (λ old.

@@ -9,10 +9,10 @@ ghost use Rattle.ice_base.specs.declared.fault.OpFault.TheVariants.{Disk as Faul
 ghost use Rattle.ice_base.specs.declared.fault.Rule.{Rule};
 ghost use Rattle.ice_map.specs.Inodes.{inode_of};
 ghost use Rattle.ice_file.specs.Files.{ReachesTo};
-ghost use Rattle.tree_spec.specs.Answers.{answer, next, is_root};
+ghost use Rattle.tree_spec.specs.Answers.{answer, next_tree, is_root};
 ghost use Rattle.tree_spec.specs.Costs.{Form, form_of};
 ghost use Rattle.tree_spec.specs.Operations.{Remove};
-ghost use Rattle.tree_spec.specs.Replies.{number_of, refused_of};
+ghost use Rattle.tree_spec.specs.Replies.{refusal_number, refused_of};
 ghost use Rattle.tree_spec.specs.Trees.{Tree, last_name};
 ghost use Rattle.tree_spec.specs.Why.{Why};
 ghost use Rattle.tree_spec.specs.declared.reply.Refusal.TheVariants.{NotDir, Fault, Damaged};
@@ -147,7 +147,7 @@ fn check_gone<D: Disk, K: Keep<D>, P: Pool<D, K>, F: Form>(
         MapRecovers (form_of F.VERSION) mode lot.now old t k
         → IsGone (form_of F.VERSION) (own_in (form_of F.VERSION) old) p t gone.now
         → gone_refusal p t ≡ None
-        → MatchResult result (λ u. quota_refusal (length lot.now.groups) (form_of F.VERSION) k (next (Remove p) t) ≡ None) (λ r. RefusedAs (refused_of r) (quota_refusal (length lot.now.groups) (form_of F.VERSION) k (next (Remove p) t)))) }
+        → MatchResult result (λ u. quota_refusal (length lot.now.groups) (form_of F.VERSION) k (next_tree (Remove p) t) ≡ None) (λ r. RefusedAs (refused_of r) (quota_refusal (length lot.now.groups) (form_of F.VERSION) k (next_tree (Remove p) t)))) }
     ensures looked { Looked D.Disk K.View lot.now keep.old disk.old keep.new disk.new }
     ensures room { IfShown K.View lot.now keep.old disk.old (λ old. OnOk result (CanCount old)) }
     ensures damaged { (n : ℕ) → IsErrOf result (Damaged n) → IfShown K.View lot.now keep.old disk.old (λ old.
@@ -178,7 +178,7 @@ fn may_remove<D: Disk, K: Keep<D>, P: Pool<D, K>, F: Form>(
     requires depth { depth ≤ length path.now }
     ensures found { (mode k : ℕ) (t : Tree) → IfShown K.View lot.now keep.old disk.old (λ old.
         MapRecovers (form_of F.VERSION) mode lot.now old t k
-        → MatchResult result (λ gone. (or_else (gone_refusal (drop depth path.now) t) (quota_refusal (length lot.now.groups) (form_of F.VERSION) k (next (Remove (drop depth path.now)) t)) ≡ None) × IsGone (form_of F.VERSION) (own_in (form_of F.VERSION) old) (drop depth path.now) t gone) (λ r. RefusedAs (refused_of r) (or_else (gone_refusal (drop depth path.now) t) (quota_refusal (length lot.now.groups) (form_of F.VERSION) k (next (Remove (drop depth path.now)) t))))) }
+        → MatchResult result (λ gone. (or_else (gone_refusal (drop depth path.now) t) (quota_refusal (length lot.now.groups) (form_of F.VERSION) k (next_tree (Remove (drop depth path.now)) t)) ≡ None) × IsGone (form_of F.VERSION) (own_in (form_of F.VERSION) old) (drop depth path.now) t gone) (λ r. RefusedAs (refused_of r) (or_else (gone_refusal (drop depth path.now) t) (quota_refusal (length lot.now.groups) (form_of F.VERSION) k (next_tree (Remove (drop depth path.now)) t))))) }
     ensures fits { IfOk result (GoneFits lot.now) }
     ensures below { OnOk result (depth < length path.now) }
     ensures looked { Looked D.Disk K.View lot.now keep.old disk.old keep.new disk.new }
@@ -301,7 +301,7 @@ fn take_away<D: Disk, K: Keep<D>, P: Pool<D, K>, F: Form>(
     ensures taken { (mode k : ℕ) (t : Tree) (p : List (List ℕ))
         → AsShown K.View lot.now keep.old disk.old keep.new disk.new (λ old new.
         Loses (form_of F.VERSION) mode lot.now old t k p gone.now name.now
-        → OnOk result (MapRecovers (form_of F.VERSION) mode lot.now new (next (Remove p) t) k)) }
+        → OnOk result (MapRecovers (form_of F.VERSION) mode lot.now new (next_tree (Remove p) t) k)) }
     ensures sound { (mode k : ℕ) (t : Tree) (p : List (List ℕ))
         → IfShown K.View lot.now keep.old disk.old (λ old.
         Loses (form_of F.VERSION) mode lot.now old t k p gone.now name.now
@@ -337,7 +337,7 @@ fn put_away<D: Disk, K: Keep<D>, P: Pool<D, K>, F: Form>(
     ensures taken { (mode k : ℕ) (t : Tree) (p : List (List ℕ))
         → AsShown K.View lot.now keep.old disk.old keep.new disk.new (λ old new.
         Loses (form_of F.VERSION) mode lot.now old t k p gone.now name.now
-        → OnOk result (MapRecovers (form_of F.VERSION) mode lot.now new (next (Remove p) t) (k + 1))) }
+        → OnOk result (MapRecovers (form_of F.VERSION) mode lot.now new (next_tree (Remove p) t) (k + 1))) }
     ensures sound { (mode k : ℕ) (t : Tree) (p : List (List ℕ))
         → IfShown K.View lot.now keep.old disk.old (λ old.
         Loses (form_of F.VERSION) mode lot.now old t k p gone.now name.now
@@ -385,7 +385,7 @@ pub fn remove<D: Disk, K: Keep<D>, P: Pool<D, K>, F: Form>(
     ensures paths { ShownBy (paths_refusal (form_of F.VERSION) (drop depth path.now ∷ [])) result }
     ensures untouched { (r : Why) → paths_refusal (form_of F.VERSION) (drop depth path.now ∷ []) ≡ Some r
         → (disk.new ≡ disk.old) × (keep.new ≡ keep.old) × (pool.new ≡ pool.old) }
-    ensures refused { IfErr result (λ r. number_of r ≤ 14
+    ensures refused { IfErr result (λ r. refusal_number r ≤ 14
         → Looked D.Disk K.View lot.now keep.old disk.old keep.new disk.new) }
     ensures spent { Spent D.Disk K.View lot.now 96 keep.old disk.old keep.new disk.new }
     ensures damaged { (n : ℕ) → IsErrOf result (Damaged n) → IfShown K.View lot.now keep.old disk.old (λ old.

@@ -6,10 +6,10 @@ ghost use Rattle.ice_base.specs.Lots.{LotView, is_sited, sub_address};
 ghost use Rattle.ice_base.specs.Views.{Looked, Spent, AsShown, IfShown};
 ghost use Rattle.ice_base.specs.declared.fault.OpFault.TheVariants.{Disk as FaultDisk};
 ghost use Rattle.ice_base.specs.declared.fault.Rule.{Rule};
-ghost use Rattle.tree_spec.specs.Answers.{answer, refusal, next, is_root, is_found, is_not_found, is_not_dir, deepest};
+ghost use Rattle.tree_spec.specs.Answers.{answer, refusal, next_tree, is_root, is_found, is_not_found, is_not_dir, deepest};
 ghost use Rattle.tree_spec.specs.Costs.{Form, form_of, map_cost, dir_blocks};
 ghost use Rattle.tree_spec.specs.Operations.{Rename};
-ghost use Rattle.tree_spec.specs.Replies.{number_of, refused_of};
+ghost use Rattle.tree_spec.specs.Replies.{refusal_number, refused_of};
 ghost use Rattle.tree_spec.specs.Routes.{is_prefix, is_same_name, is_same_path};
 ghost use Rattle.tree_spec.specs.Trees.{last_name, Tree, Walk, needs_dir};
 ghost use Rattle.tree_spec.specs.Why.{Why};
@@ -322,7 +322,7 @@ fn need_of<F: Form>(step: &Move) -> Need
         → MapRecovers (form_of F.VERSION) mode lot m t k
         → paths_refusal (form_of F.VERSION) (p ∷ q ∷ []) ≡ None → move_refusal p q t ≡ None
         → IsMove (form_of F.VERSION) (own_in (form_of F.VERSION) m) p q t step.now
-        → Needs (form_of F.VERSION) t (next (Rename p q) t) result }
+        → Needs (form_of F.VERSION) t (next_tree (Rename p q) t) result }
     ensures nodeless { result.nodes ≡ 0 }
     ensures apart { step.now.same ≡ false → step.now.from.number ≢ step.now.to.number
         → (result.blocks ≡ map_cost (dir_blocks (form_of F.VERSION) (step.now.to.entries + 1)) + map_cost (dir_blocks (form_of F.VERSION) (step.now.from.entries - 1)))
@@ -421,7 +421,7 @@ fn move_row<D: Disk, K: Keep<D>, P: Pool<D, K>, F: Form>(
     requires room { 16 ≤ K.room keep.old }
     ensures moved { (mode k : ℕ) (t : Tree) (p q : List (List ℕ)) → K.shows lot.now keep.old disk.old
         → Renames (form_of F.VERSION) mode lot.now (K.map keep.old disk.old lot.now) t k p q step.now name.now new.now → step.now.same ≡ false
-        → OnOk result (MapRecovers (form_of F.VERSION) mode lot.now (K.map keep.new disk.new lot.now) (next (Rename p q) t) k) }
+        → OnOk result (MapRecovers (form_of F.VERSION) mode lot.now (K.map keep.new disk.new lot.now) (next_tree (Rename p q) t) k) }
     ensures sound { (mode k : ℕ) (t : Tree) (p q : List (List ℕ)) → K.shows lot.now keep.old disk.old
         → Renames (form_of F.VERSION) mode lot.now (K.map keep.old disk.old lot.now) t k p q step.now name.now new.now → step.now.same ≡ false
         → IfErr result (λ e. e ≡ FaultDisk) }
@@ -463,7 +463,7 @@ fn put_moved<D: Disk, K: Keep<D>, P: Pool<D, K>, F: Form>(
     requires room { 17 ≤ K.room keep.old }
     ensures moved { (mode k : ℕ) (t : Tree) (p q : List (List ℕ)) → K.shows lot.now keep.old disk.old
         → Renames (form_of F.VERSION) mode lot.now (K.map keep.old disk.old lot.now) t k p q step.now name.now new.now
-        → OnOk result (MapRecovers (form_of F.VERSION) mode lot.now (K.map keep.new disk.new lot.now) (next (Rename p q) t) (k + 1)) }
+        → OnOk result (MapRecovers (form_of F.VERSION) mode lot.now (K.map keep.new disk.new lot.now) (next_tree (Rename p q) t) (k + 1)) }
     ensures sound { (mode k : ℕ) (t : Tree) (p q : List (List ℕ)) → K.shows lot.now keep.old disk.old
         → Renames (form_of F.VERSION) mode lot.now (K.map keep.old disk.old lot.now) t k p q step.now name.now new.now
         → IfErr result (λ e. e ≡ FaultDisk) }
@@ -511,7 +511,7 @@ pub fn rename<D: Disk, K: Keep<D>, P: Pool<D, K>, F: Form>(
     ensures untouched { (r : Why)
         → paths_refusal (form_of F.VERSION) (drop depth path.now ∷ drop depth to.now ∷ []) ≡ Some r
         → (disk.new ≡ disk.old) × (keep.new ≡ keep.old) × (pool.new ≡ pool.old) }
-    ensures refused { IfErr result (λ r. number_of r ≤ 14
+    ensures refused { IfErr result (λ r. refusal_number r ≤ 14
         → Looked D.Disk K.View lot.now keep.old disk.old keep.new disk.new) }
     ensures spent { Spent D.Disk K.View lot.now 96 keep.old disk.old keep.new disk.new }
     ensures damaged { (n : ℕ) → IsErrOf result (Damaged n) → IfShown K.View lot.now keep.old disk.old (λ old.

@@ -7,10 +7,10 @@ ghost use Rattle.ice_base.specs.declared.fault.OpFault.TheVariants.{Disk as Faul
 ghost use Rattle.ice_base.specs.declared.fault.Rule.{Rule};
 ghost use Rattle.ice_map.specs.Inodes.{inode_of};
 ghost use Rattle.ice_file.specs.Files.{longest_file, most_at_once};
-ghost use Rattle.tree_spec.specs.Answers.{answer, next, refusal};
+ghost use Rattle.tree_spec.specs.Answers.{answer, next_tree, refusal};
 ghost use Rattle.tree_spec.specs.Costs.{form_of, map_cost, file_blocks};
 ghost use Rattle.tree_spec.specs.Operations.{Write, Trunc};
-ghost use Rattle.tree_spec.specs.Replies.{number_of, refused_of};
+ghost use Rattle.tree_spec.specs.Replies.{refusal_number, refused_of};
 ghost use Rattle.tree_spec.specs.Trees.{Tree};
 ghost use Rattle.tree_spec.specs.Why.{Why};
 ghost use Rattle.tree_spec.specs.declared.reply.Refusal.TheVariants.{Fault, Damaged};
@@ -196,7 +196,7 @@ fn put_bytes<D: Disk, K: Keep<D>, P: Pool<D, K>, F: Form>(
     ensures set { (mode k : ℕ) (t : Tree) (p : List (List ℕ))
         → AsShown K.View lot.now keep.old disk.old keep.new disk.new (λ old new.
         TakesAt (form_of F.VERSION) mode lot.now old t k p (Write p at bytes.now) number
-        → OnOk result (MapRecovers (form_of F.VERSION) mode lot.now new (next (Write p at bytes.now) t) (k + 1))) }
+        → OnOk result (MapRecovers (form_of F.VERSION) mode lot.now new (next_tree (Write p at bytes.now) t) (k + 1))) }
     ensures sound { (mode k : ℕ) (t : Tree) (p : List (List ℕ))
         → IfShown K.View lot.now keep.old disk.old (λ old.
         TakesAt (form_of F.VERSION) mode lot.now old t k p (Write p at bytes.now) number
@@ -229,7 +229,7 @@ fn put_cut<D: Disk, K: Keep<D>, P: Pool<D, K>, F: Form>(
     ensures set { (mode k : ℕ) (t : Tree) (p : List (List ℕ))
         → AsShown K.View lot.now keep.old disk.old keep.new disk.new (λ old new.
         TakesAt (form_of F.VERSION) mode lot.now old t k p (Trunc p len) number
-        → OnOk result (MapRecovers (form_of F.VERSION) mode lot.now new (next (Trunc p len) t) (k + 1))) }
+        → OnOk result (MapRecovers (form_of F.VERSION) mode lot.now new (next_tree (Trunc p len) t) (k + 1))) }
     ensures sound { (mode k : ℕ) (t : Tree) (p : List (List ℕ))
         → IfShown K.View lot.now keep.old disk.old (λ old.
         TakesAt (form_of F.VERSION) mode lot.now old t k p (Trunc p len) number
@@ -274,7 +274,7 @@ pub fn write<D: Disk, K: Keep<D>, P: Pool<D, K>, F: Form>(
     ensures paths { ShownBy (paths_refusal (form_of F.VERSION) (drop depth path.now ∷ [])) result }
     ensures untouched { (r : Why) → paths_refusal (form_of F.VERSION) (drop depth path.now ∷ []) ≡ Some r
         → (disk.new ≡ disk.old) × (keep.new ≡ keep.old) × (pool.new ≡ pool.old) }
-    ensures refused { IfErr result (λ r. number_of r ≤ 14
+    ensures refused { IfErr result (λ r. refusal_number r ≤ 14
         → Looked D.Disk K.View lot.now keep.old disk.old keep.new disk.new) }
     ensures spent { Spent D.Disk K.View lot.now 96 keep.old disk.old keep.new disk.new }
     ensures damaged { (n : ℕ) → IsErrOf result (Damaged n) → IfShown K.View lot.now keep.old disk.old (λ old.
@@ -317,7 +317,7 @@ pub fn trunc<D: Disk, K: Keep<D>, P: Pool<D, K>, F: Form>(
     ensures paths { ShownBy (paths_refusal (form_of F.VERSION) (drop depth path.now ∷ [])) result }
     ensures untouched { (r : Why) → paths_refusal (form_of F.VERSION) (drop depth path.now ∷ []) ≡ Some r
         → (disk.new ≡ disk.old) × (keep.new ≡ keep.old) × (pool.new ≡ pool.old) }
-    ensures refused { IfErr result (λ r. number_of r ≤ 14
+    ensures refused { IfErr result (λ r. refusal_number r ≤ 14
         → Looked D.Disk K.View lot.now keep.old disk.old keep.new disk.new) }
     ensures spent { Spent D.Disk K.View lot.now 96 keep.old disk.old keep.new disk.new }
     ensures damaged { (n : ℕ) → IsErrOf result (Damaged n) → IfShown K.View lot.now keep.old disk.old (λ old.

@@ -7,7 +7,7 @@ use Rattle.tree_spec.specs.Trees.{Tree, File, Dir, Entries, Nil, rows, by_bytes,
 use Rattle.tree_spec.specs.Costs.{Form}
 use Rattle.tree_spec.specs.Routes.{is_prefix, is_same_name, is_same_path}
 use Rattle.tree_spec.specs.Operations.{Operation, Mkdir, Make, Write, Read, Trunc, Remove, Rename, ListDir, Stat}
-use Rattle.tree_spec.specs.Answers.{refusal, next, moved, deepest, is_root, is_found, tree_found, bytes_of, written}
+use Rattle.tree_spec.specs.Answers.{refusal, next_tree, moved_tree, deepest, is_root, is_found, tree_found, bytes_of, written}
 use Rattle.tree_spec.proofs.Trees.{parent-last, outline, outline-without}
 use Rattle.tree_spec.proofs.Sums.{height-walk, height-at, height-with, height-without, total-at, total-with_at, total-without_at, length-without}
 use Rattle.tree_spec.proofs.Orders.{ordered-walk}
@@ -151,15 +151,15 @@ module _ (t : Tree) (done n : ℕ) (f : Form) (p q : Names) (h : refusal t done 
       }
 
 -- what the operation makes
-pub next-rename : (t : Tree) (p q : Names) (v : Tree) → is_same_path p q ≡ false → walk p t ≡ Found v → next (Rename p q) t ≡ placed q v (removed p t)
-next-rename t p q v differ h = ap (λ b. cond b t (moved p q t)) differ ∙ ap (λ w. placed q (tree_found w) (removed p t)) h
+pub next-rename : (t : Tree) (p q : Names) (v : Tree) → is_same_path p q ≡ false → walk p t ≡ Found v → next_tree (Rename p q) t ≡ placed q v (removed p t)
+next-rename t p q v differ h = ap (λ b. cond b t (moved_tree p q t)) differ ∙ ap (λ w. placed q (tree_found w) (removed p t)) h
 
 -- ---- no accepted operation makes a tree higher than 24
 
 path_short : (p : Names) (b : Bool) → ((nat_lt deepest (length p) || false) || b) ≡ false → length p ≤ deepest
 path_short p b h = at_most _ _ (first_false _ _ (first_false _ _ h))
 
-height-rename : (t : Tree) (done n : ℕ) (f : Form) (p q : Names) (b : Bool) → is_same_path p q ≡ b → refusal t done n f (Rename p q) ≡ None → height t ≤ deepest → height (cond b t (moved p q t)) ≤ deepest
+height-rename : (t : Tree) (done n : ℕ) (f : Form) (p q : Names) (b : Bool) → is_same_path p q ≡ b → refusal t done n f (Rename p q) ≡ None → height t ≤ deepest → height (cond b t (moved_tree p q t)) ≤ deepest
 height-rename t done n f p q true e h low = low
 height-rename t done n f p q false e h low =
     let m = accepted-rename t done n f p q h e in
@@ -167,7 +167,7 @@ height-rename t done n f p q false e h low =
     subst (λ x. height (placed q x (removed p t)) ≤ deepest) (sym is)
     (omega (arith, height-placed q m.tree (removed p t) m.place, height-removed p t m.tree m.entry, m.low))
 
-pub height-next : (op : Operation) (t : Tree) (done n : ℕ) (f : Form) → refusal t done n f op ≡ None → height t ≤ deepest → height (next op t) ≤ deepest
+pub height-next : (op : Operation) (t : Tree) (done n : ℕ) (f : Form) → refusal t done n f op ≡ None → height t ≤ deepest → height (next_tree op t) ≤ deepest
 height-next (Mkdir p) t done n f h low = omega (arith, height-placed p (Dir Nil) t (accepted-mkdir t done n f p h), path_short p _ (refusal-none t done n f (Mkdir p) why.TooDeep h))
 height-next (Make p) t done n f h low = omega (arith, height-placed p (File []) t (accepted-make t done n f p h), path_short p _ (refusal-none t done n f (Make p) why.TooDeep h))
 height-next (Write p off bytes) t done n f h low =

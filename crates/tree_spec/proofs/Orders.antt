@@ -9,7 +9,7 @@ use Rattle.std.specs.FinMap.Entries.{by_order, below_all, is_sorted-put, is_sort
 use Rattle.tree_spec.specs.Trees.{Tree, File, Dir, Entries, Nil, Entry, rows, from_rows, by_bytes, found_or_not, walk, and_on, at, over_entry, with_entry, without, without_entry, parent, last_name, is_ordered, all_ordered}
 use Rattle.tree_spec.specs.Routes.{is_same_name, is_same_path}
 use Rattle.tree_spec.specs.Operations.{Operation, Mkdir, Make, Write, Read, Trunc, Remove, Rename, ListDir, Stat}
-use Rattle.tree_spec.specs.Answers.{next, moved, tree_found, tree_after}
+use Rattle.tree_spec.specs.Answers.{next_tree, moved_tree, tree_found, tree_after}
 use Rattle.tree_spec.proofs.Trees.{from_rows-rows, rows-from_rows}
 
 both : (a b : Bool) → T a → T b → T (a && b)
@@ -113,7 +113,7 @@ ordered-walk (c ∷ p) (Dir es) h =
     ] refl
 
 -- each operation keeps the order
-pub is_ordered-next : (op : Operation) → KeepsOrder (next op)
+pub is_ordered-next : (op : Operation) → KeepsOrder (next_tree op)
 is_ordered-next (Mkdir p) t h = is_ordered-at (parent p) _ (is_ordered-with (last_name p) (Dir Nil) tt) t h
 is_ordered-next (Make p) t h = is_ordered-at (parent p) _ (is_ordered-with (last_name p) (File []) tt) t h
 is_ordered-next (Write p off bytes) t h = is_ordered-at p _ (λ s k. tt) t h
@@ -121,7 +121,7 @@ is_ordered-next (Read p off len) t h = h
 is_ordered-next (Trunc p len) t h = is_ordered-at p _ (λ s k. tt) t h
 is_ordered-next (Remove p) t h = is_ordered-at (parent p) _ (is_ordered-without (last_name p)) t h
 is_ordered-next (Rename p q) t h =
-    elim (is_same_path p q) as (λ b. T (is_ordered (cond b t (moved p q t)))) [
+    elim (is_same_path p q) as (λ b. T (is_ordered (cond b t (moved_tree p q t)))) [
       | true ↦ h
       | false ↦ is_ordered-at (parent q) _ (is_ordered-with (last_name q) (tree_found (walk p t)) (ordered-walk p t h)) _
           (is_ordered-at (parent p) _ (is_ordered-without (last_name p)) t h)
@@ -132,4 +132,4 @@ is_ordered-next (Stat p) t h = h
 -- and so does a list of them
 pub is_ordered-tree_after : (ops : List Operation) → KeepsOrder (tree_after ops)
 is_ordered-tree_after [] t h = h
-is_ordered-tree_after (op ∷ ops) t h = is_ordered-tree_after ops (next op t) (is_ordered-next op t h)
+is_ordered-tree_after (op ∷ ops) t h = is_ordered-tree_after ops (next_tree op t) (is_ordered-next op t h)

@@ -9,7 +9,7 @@ use Rattle.tree_spec.specs.Replies.{Because, Fault, Memory, Plain}
 use Rattle.tree_spec.specs.Trees.{Tree}
 use Rattle.tree_spec.specs.Costs.{Form, nodes, blocks, node_quota, block_quota}
 use Rattle.tree_spec.specs.Operations.{Operation, Mkdir, Make, Write, Read, Trunc, Remove, Rename, ListDir, Stat, is_change}
-use Rattle.tree_spec.specs.Answers.{applies, refusal, of_paths, of_walks, of_place, of_quota, by_number, answer, answer_by, accepted_value, next}
+use Rattle.tree_spec.specs.Answers.{applies, refusal, of_paths, of_walks, of_place, of_quota, by_number, answer, answer_by, accepted_value, next_tree}
 
 pub find-later : (test : Why → Bool) (xs ys : List Why) → find test xs ≡ None → find test (xs ++ ys) ≡ find test ys
 find-later test [] ys h = refl
@@ -103,7 +103,7 @@ module _ (t : Tree) (done n : ℕ) (f : Form) (op : Operation) where
   answer-refused r h = ap (λ o. answer_by o op t) h
 
   -- an accepted one gives its value and makes the next tree
-  pub answer-accepted : refusal t done n f op ≡ None → answer t done n f op ≡ (Ok (accepted_value op t), next op t)
+  pub answer-accepted : refusal t done n f op ≡ None → answer t done n f op ≡ (Ok (accepted_value op t), next_tree op t)
   answer-accepted h = ap (λ o. answer_by o op t) h
 
   -- no tree answers a fault of the disk, want of memory or damage
@@ -131,11 +131,11 @@ module _ (t : Tree) (done n : ℕ) (f : Form) (op : Operation) where
       few : (z : Bool) → nat_lt y x ≡ z → z ≡ false → x ≤ y
       few z i j = grind (arith, nat_tests)
 
-  pub nodes-next : refusal t done n f op ≡ None → is_change op ≡ true → nodes (next op t) ≤ node_quota n
-  nodes-next h c = within (is_change op) (nodes (next op t)) (node_quota n) c (refusal-none why.NoNodes h)
+  pub nodes-next : refusal t done n f op ≡ None → is_change op ≡ true → nodes (next_tree op t) ≤ node_quota n
+  nodes-next h c = within (is_change op) (nodes (next_tree op t)) (node_quota n) c (refusal-none why.NoNodes h)
 
-  pub blocks-next : refusal t done n f op ≡ None → is_change op ≡ true → blocks f (next op t) ≤ block_quota n
-  blocks-next h c = within (is_change op) (blocks f (next op t)) (block_quota n) c (refusal-none why.NoSpace h)
+  pub blocks-next : refusal t done n f op ≡ None → is_change op ≡ true → blocks f (next_tree op t) ≤ block_quota n
+  blocks-next h c = within (is_change op) (blocks f (next_tree op t)) (block_quota n) c (refusal-none why.NoSpace h)
 
 -- a change has no value
 pub accepted_value-change : (op : Operation) (t : Tree) → is_change op ≡ true → accepted_value op t ≡ Plain
@@ -150,7 +150,7 @@ accepted_value-change (ListDir p) t h = absurd (subst T (sym h) tt)
 accepted_value-change (Stat p) t h = absurd (subst T (sym h) tt)
 
 -- what is no change leaves the tree
-pub next-no_change : (op : Operation) (t : Tree) → is_change op ≡ false → next op t ≡ t
+pub next-no_change : (op : Operation) (t : Tree) → is_change op ≡ false → next_tree op t ≡ t
 next-no_change (Mkdir p) t h = absurd (subst T h tt)
 next-no_change (Make p) t h = absurd (subst T h tt)
 next-no_change (Write p off bytes) t h = absurd (subst T h tt)

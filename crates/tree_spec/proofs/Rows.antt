@@ -10,7 +10,7 @@ use Rattle.tree_spec.specs.Lines as line
 use Rattle.tree_spec.specs.Operations.{Operation, Mkdir, Make, Write, Read, Trunc, Remove, Rename, ListDir, Stat, operation}
 use Rattle.tree_spec.specs.Answers.{answer, refusal, tree_after}
 use Rattle.tree_spec.specs.Records.{Cube}
-use Rattle.tree_spec.specs.World.{rows_of}
+use Rattle.tree_spec.specs.World.{cube_rows}
 use Rattle.tree_spec.specs.Routes.{route}
 use Rattle.tree_spec.proofs.Writes.{length-written}
 
@@ -278,6 +278,6 @@ after_two = refl
 
 -- ---- the rows of a world with one cube, in slot 1 of 3
 
-world_rows : (c : Cube) → rows_of (record { slots = 3; groups = 9; cube = λ s. if nat_eq s 1 then Some c else None }) ≡ record { slot = 1; groups = c.groups; state = c.state; path = c.path } ∷ []
-unfolding rows_of
+world_rows : (c : Cube) → cube_rows (record { slots = 3; groups = 9; cube = λ s. if nat_eq s 1 then Some c else None }) ≡ record { slot = 1; groups = c.groups; state = c.state; path = c.path } ∷ []
+unfolding cube_rows
 world_rows c = refl

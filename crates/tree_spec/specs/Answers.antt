@@ -82,20 +82,20 @@ abbrev pub written : List ℕ → ℕ → List ℕ → List ℕ
 written old off new = take off old ++ new ++ drop (off + length new) old
 
 -- the tree with what stood at p standing at q
-abbrev pub moved : List (List ℕ) → List (List ℕ) → Tree → Tree
-moved p q t = at (parent q) (with_entry (last_name q) (tree_found (walk p t))) (at (parent p) (without_entry (last_name p)) t)
+abbrev pub moved_tree : List (List ℕ) → List (List ℕ) → Tree → Tree
+moved_tree p q t = at (parent q) (with_entry (last_name q) (tree_found (walk p t))) (at (parent p) (without_entry (last_name p)) t)
 
 -- the tree that the operation would make
-abbrev pub next : Operation → Tree → Tree
-next (Mkdir p) t = at (parent p) (with_entry (last_name p) (Dir Nil)) t
-next (Make p) t = at (parent p) (with_entry (last_name p) (File [])) t
-next (Write p off bytes) t = at p (λ s. File (written (bytes_of s) off bytes)) t
-next (Read p off len) t = t
-next (Trunc p len) t = at p (λ s. File (take len (bytes_of s))) t
-next (Remove p) t = at (parent p) (without_entry (last_name p)) t
-next (Rename p q) t = if is_same_path p q then t else moved p q t
-next (ListDir p) t = t
-next (Stat p) t = t
+abbrev pub next_tree : Operation → Tree → Tree
+next_tree (Mkdir p) t = at (parent p) (with_entry (last_name p) (Dir Nil)) t
+next_tree (Make p) t = at (parent p) (with_entry (last_name p) (File [])) t
+next_tree (Write p off bytes) t = at p (λ s. File (written (bytes_of s) off bytes)) t
+next_tree (Read p off len) t = t
+next_tree (Trunc p len) t = at p (λ s. File (take len (bytes_of s))) t
+next_tree (Remove p) t = at (parent p) (without_entry (last_name p)) t
+next_tree (Rename p q) t = if is_same_path p q then t else moved_tree p q t
+next_tree (ListDir p) t = t
+next_tree (Stat p) t = t
 
 -- ---- the refusals
 
@@ -186,8 +186,8 @@ applies t done n f op why.NotEmpty = removes_full op t
 applies t done n f op why.IntoItself = moves_into_itself op
 applies t done n f op why.BeyondEnd = is_beyond_end op t
 applies t done n f op why.FileBig = is_too_big f op
-applies t done n f op why.NoNodes = is_change op && nat_lt (node_quota n) (nodes (next op t))
-applies t done n f op why.NoSpace = is_change op && nat_lt (block_quota n) (blocks f (next op t))
+applies t done n f op why.NoNodes = is_change op && nat_lt (node_quota n) (nodes (next_tree op t))
+applies t done n f op why.NoSpace = is_change op && nat_lt (block_quota n) (blocks f (next_tree op t))
 applies t done n f op why.Spent = is_change op && nat_eq done most_done
 applies t done n f op _ = false
 
@@ -242,7 +242,7 @@ accepted_value _ t = Plain
 -- a refused operation leaves the tree, an accepted one makes the next tree
 abbrev pub answer_by : Option Why → Operation → Tree → Response × Tree
 answer_by (Some r) op t = (Err (Because r), t)
-answer_by None op t = (Ok (accepted_value op t), next op t)
+answer_by None op t = (Ok (accepted_value op t), next_tree op t)
 
 -- the reply of a tree with `done` accepted operations in n groups of a form, and the tree after it
 abbrev pub answer : Tree → ℕ → ℕ → Form → Operation → Response × Tree
@@ -251,4 +251,4 @@ answer t done n f op = answer_by (refusal t done n f op) op t
 -- the tree after these operations, each accepted
 abbrev pub tree_after : List Operation → Tree → Tree
 tree_after [] t = t
-tree_after (op ∷ ops) t = tree_after ops (next op t)
+tree_after (op ∷ ops) t = tree_after ops (next_tree op t)

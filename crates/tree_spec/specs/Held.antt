@@ -19,7 +19,7 @@ abbrev pub most_rows : ℕ
 most_rows = 16
 
 -- the bytes, entries and rows of an answer
-pub record Held : Type 0 where
+pub record RoomContent : Type 0 where
   pub bytes : List ℕ
   pub entries : List Entry
   pub rows : List CubeRow
@@ -29,7 +29,7 @@ abbrev pub by_name : Entry → Entry → Ordering
 by_name a b = slice_cmp nat_cmp a.name b.name
 
 -- no list is longer than the most that there may be, and there is memory for the most of each
-pub record HasRoom (held : Held) (bytes entries rows : ℕ) : Type 0 where
+pub record HasRoom (held : RoomContent) (bytes entries rows : ℕ) : Type 0 where
   pub bytes_few : length held.bytes ≤ most_bytes
   pub entries_few : length held.entries ≤ most_entries
   pub rows_few : length held.rows ≤ most_rows

@@ -3,7 +3,7 @@ use Rattle.std.specs.Prelude.{◌≡◌, ℕ, ◌+◌, true, List, length, Resul
 use Rattle.tree_spec.specs.Names.{is_name, IsNameList}
 use Rattle.tree_spec.specs.Why as why
 use Rattle.tree_spec.specs.Why.{Why}
-use Rattle.tree_spec.specs.Held.{Held}
+use Rattle.tree_spec.specs.Held.{RoomContent}
 use Rattle.tree_spec.specs.declared.reply.Entry.{Entry}
 use Rattle.tree_spec.specs.declared.reply.CubeRow.{CubeRow}
 use Rattle.tree_spec.specs.declared.reply.Refusal.{Refusal}
@@ -32,40 +32,40 @@ abbrev pub Response : Type 0
 Response = Result Accepted Refused
 
 -- the number of a refusal, by the order of the variants
-abbrev pub number_of : Refusal → ℕ
-number_of code.NameLong = 1
-number_of code.TooDeep = 2
-number_of code.NotFound = 3
-number_of code.NotDir = 4
-number_of code.IsDir = 5
-number_of code.IsRoot = 6
-number_of code.Exists = 7
-number_of code.NotEmpty = 8
-number_of code.IntoItself = 9
-number_of code.BeyondEnd = 10
-number_of code.FileBig = 11
-number_of code.NoNodes = 12
-number_of code.NoSpace = 13
-number_of code.Spent = 14
-number_of (code.Damaged rule) = 15
-number_of code.Fault = 16
-number_of code.Memory = 17
-number_of code.Word = 18
-number_of code.Args = 19
-number_of code.Number = 20
-number_of code.Hex = 21
-number_of code.Long = 22
-number_of code.Path = 23
-number_of code.NoCube = 24
-number_of code.CrossCube = 25
-number_of code.Offline = 26
-number_of code.Stopped = 27
-number_of code.Unmounted = 28
-number_of code.Mounted = 29
-number_of code.State = 30
-number_of code.NoSlot = 31
-number_of code.CubeFull = 32
-number_of code.NoGroups = 33
+abbrev pub refusal_number : Refusal → ℕ
+refusal_number code.NameLong = 1
+refusal_number code.TooDeep = 2
+refusal_number code.NotFound = 3
+refusal_number code.NotDir = 4
+refusal_number code.IsDir = 5
+refusal_number code.IsRoot = 6
+refusal_number code.Exists = 7
+refusal_number code.NotEmpty = 8
+refusal_number code.IntoItself = 9
+refusal_number code.BeyondEnd = 10
+refusal_number code.FileBig = 11
+refusal_number code.NoNodes = 12
+refusal_number code.NoSpace = 13
+refusal_number code.Spent = 14
+refusal_number (code.Damaged rule) = 15
+refusal_number code.Fault = 16
+refusal_number code.Memory = 17
+refusal_number code.Word = 18
+refusal_number code.Args = 19
+refusal_number code.Number = 20
+refusal_number code.Hex = 21
+refusal_number code.Long = 22
+refusal_number code.Path = 23
+refusal_number code.NoCube = 24
+refusal_number code.CrossCube = 25
+refusal_number code.Offline = 26
+refusal_number code.Stopped = 27
+refusal_number code.Unmounted = 28
+refusal_number code.Mounted = 29
+refusal_number code.State = 30
+refusal_number code.NoSlot = 31
+refusal_number code.CubeFull = 32
+refusal_number code.NoGroups = 33
 
 -- what a refusal of the code means
 abbrev pub refused_of : Refusal → Refused
@@ -104,7 +104,7 @@ refused_of code.CubeFull = Because why.CubeFull
 refused_of code.NoGroups = Because why.NoGroups
 
 -- what a value of the code means, with what the room holds
-abbrev pub accepted_of : Value → Held → Accepted
+abbrev pub accepted_of : Value → RoomContent → Accepted
 accepted_of given.Plain room = Plain
 accepted_of (given.Number n) room = Number n
 accepted_of given.Bytes room = Bytes room.bytes
@@ -114,12 +114,12 @@ accepted_of (given.Listed n) room = Listed room.entries room.rows
 accepted_of (given.Checked blocks nodes done) room = Checked blocks nodes done
 
 -- what a reply of the code means, with what the room holds
-abbrev pub meant : Result Value Refusal → Held → Response
+abbrev pub meant : Result Value Refusal → RoomContent → Response
 meant (Ok value) room = Ok (accepted_of value room)
 meant (Err refusal) room = Err (refused_of refusal)
 
 -- a listing's number is that of the room's entries and rows
-abbrev pub Tallies : Result Value Refusal → Held → Type 0
+abbrev pub Tallies : Result Value Refusal → RoomContent → Type 0
 Tallies (Ok given.Plain) room = ⊤
 Tallies (Ok (given.Number n)) room = ⊤
 Tallies (Ok given.Bytes) room = ⊤

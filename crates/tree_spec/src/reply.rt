@@ -81,11 +81,11 @@ pub struct CubeRow {
 }
 
 impl Refusal {
-    ghost use Rattle.tree_spec.specs.Replies.{number_of};
+    ghost use Rattle.tree_spec.specs.Replies.{refusal_number};
 
     /// The number of the variant, 1 to 33.
     pub fn number(&self) -> u8
-        ensures { result ≡ number_of self.now }
+        ensures { result ≡ refusal_number self.now }
     {
         match self {
             Refusal::NameLong => 1,

@@ -23,9 +23,9 @@ pub struct Room {
 
 impl Model for Room {
     ghost use Rattle.std.specs.Prelude.{vec_capacity};
-    ghost use Rattle.tree_spec.specs.Held.{Held, HasRoom};
+    ghost use Rattle.tree_spec.specs.Held.{RoomContent, HasRoom};
 
-    ghost Value = { Held };
+    ghost Value = { RoomContent };
 
     ghost view = { λ a. record { bytes = a.bytes.items; entries = a.entries.items; rows = a.rows.items } };
 

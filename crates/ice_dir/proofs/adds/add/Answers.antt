@@ -3,7 +3,7 @@ use Rattle.ice_base.proofs.LotLaws.{sited-few}
 use Rattle.ice_base.specs.Lots.{sub_address}
 use Rattle.ice_map.proofs.GrowLaws.{inode_not_sub}
 use Rattle.ice_file.specs.Own.{MadeOf}
-use Rattle.ice_dir.specs.Changes.{dir_blocks, RowPut}
+use Rattle.ice_dir.specs.Changes.{entry_blocks, RowPut}
 use Rattle.ice_dir.proofs.PutLaws.{dir-added, text-added, made-dir}
 use Rattle.ice_dir.proofs.adds.add.Goals as goal
 
@@ -22,8 +22,8 @@ returns-clause-added g c = λ s made.
     let is = c.in_ok-dir.ensures.is in
     let before = sym (c.in_ok-dir.ensures.value s) in
     let looked = c.dir_inode.ensures.looked in
-    let put = c.in_ok-append.ensures.put (looked.shows s) (subst (λ m. MadeOf lot m x (dir_blocks entry x.size)) (sym looked.map) (made-dir lot entry m0 c.args.number x before is.kind made)) in
-    let put' = subst (λ m. RowPut lot entry m m1 x c.append.new.dir (dir_blocks entry x.size) (dir_blocks entry (x.size + 1)) x.size put.0) looked.map put.2 in
+    let put = c.in_ok-append.ensures.put (looked.shows s) (subst (λ m. MadeOf lot m x (entry_blocks entry x.size)) (sym looked.map) (made-dir lot entry m0 c.args.number x before is.kind made)) in
+    let put' = subst (λ m. RowPut lot entry m m1 x c.append.new.dir (entry_blocks entry x.size) (entry_blocks entry (x.size + 1)) x.size put.0) looked.map put.2 in
     let set = c.in_ok-put_inode.ensures.written (c.append.ensures.spent.shows (looked.shows s)) in
     rw (sym c.bytes.ensures.value) (dir-added lot entry m0 m1 m2 x c.append.new.dir c.args.number (c.bytes.result.now, c.args.inode) put.0 one.1 is (let l = c.len.ensures.len in let t = c.if-dir-len.false in omega arith) before put' put.1 set c.put_inode.ensures.puts.only)
 
@@ -39,8 +39,8 @@ returns-clause-text g c = λ s made.
     let is = c.in_ok-dir.ensures.is in
     let before = sym (c.in_ok-dir.ensures.value s) in
     let looked = c.dir_inode.ensures.looked in
-    let put = c.in_ok-append.ensures.put (looked.shows s) (subst (λ m. MadeOf lot m x (dir_blocks entry x.size)) (sym looked.map) (made-dir lot entry m0 c.args.number x before is.kind made)) in
-    let put' = subst (λ m. RowPut lot entry m m1 x c.append.new.dir (dir_blocks entry x.size) (dir_blocks entry (x.size + 1)) x.size put.0) looked.map put.2 in
+    let put = c.in_ok-append.ensures.put (looked.shows s) (subst (λ m. MadeOf lot m x (entry_blocks entry x.size)) (sym looked.map) (made-dir lot entry m0 c.args.number x before is.kind made)) in
+    let put' = subst (λ m. RowPut lot entry m m1 x c.append.new.dir (entry_blocks entry x.size) (entry_blocks entry (x.size + 1)) x.size put.0) looked.map put.2 in
     let set = c.in_ok-put_inode.ensures.written (c.append.ensures.spent.shows (looked.shows s)) in
     rw (sym c.bytes.ensures.value) (text-added lot entry m0 m1 m2 x c.append.new.dir c.args.number (c.bytes.result.now, c.args.inode) put.0 one.1 is (let l = c.len.ensures.len in let t = c.if-dir-len.false in omega arith) before put' put.1 set c.put_inode.ensures.puts.only)
 

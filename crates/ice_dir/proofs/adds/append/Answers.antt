@@ -4,8 +4,8 @@ use Rattle.ice_base.specs.Fields.{SameBeside}
 use Rattle.ice_base.specs.Lots.{sub_address}
 use Rattle.ice_map.proofs.MarkLaws.{data_not_sub}
 use Rattle.ice_file.specs.Own.{MadeOf}
-use Rattle.ice_file.specs.Writes.{Reached, content_of}
-use Rattle.ice_dir.specs.Changes.{dir_blocks}
+use Rattle.ice_file.specs.Writes.{HadBlock, content_of}
+use Rattle.ice_dir.specs.Changes.{entry_blocks}
 use Rattle.ice_dir.specs.Rows.{per_block, place_of, row_bytes, IsText}
 use Rattle.ice_dir.proofs.PutLaws.{row-put, one-more}
 use Rattle.ice_dir.proofs.adds.append.Goals as goal
@@ -23,12 +23,12 @@ returns-clause-put g c = λ s made.
     let per = c.rows_per_block.ensures.value in
     let place = c.row_place-place.ensures.value in
     let had = c.in_ok-at.ensures.reached s (subst (λ n. MadeOf lot m0 dir n) (sym count) made) in
-    let reached = subst (λ n. Reached lot m0 m1 dir c.open_block.new.inode n (dir.size / per_block entry) c.in_ok-at.at) count
-    (subst (λ p. Reached lot m0 m1 dir c.open_block.new.inode c.blocks_for_rows-count.result (dir.size / p) c.in_ok-at.at) per had) in
+    let reached = subst (λ n. HadBlock lot m0 m1 dir c.open_block.new.inode n (dir.size / per_block entry) c.in_ok-at.at) count
+    (subst (λ p. HadBlock lot m0 m1 dir c.open_block.new.inode c.blocks_for_rows-count.result (dir.size / p) c.in_ok-at.at) per had) in
     let text = subst (λ p. IsText (c.args.name.now, c.args.inode) (row_bytes entry c.write_row.new.block p)) place c.write_row.ensures.text in (
       row_bytes entry c.write_row.new.block (place_of entry dir.size),
       text,
-      row-put lot entry m0 m1 m2 dir c.open_block.new.inode (dir_blocks entry dir.size) (dir_blocks entry (dir.size + 1)) dir.size c.in_ok-at.at c.open_block.new.into c.write_row.new.block (row_bytes entry c.write_row.new.block (place_of entry dir.size)) one.1 reached
+      row-put lot entry m0 m1 m2 dir c.open_block.new.inode (entry_blocks entry dir.size) (entry_blocks entry (dir.size + 1)) dir.size c.in_ok-at.at c.open_block.new.into c.write_row.new.block (row_bytes entry c.write_row.new.block (place_of entry dir.size)) one.1 reached
           (sited-few _ _ c.requires.sited) (one-more entry dir.size one.1)
           (λ h. c.in_ok-at.ensures.content s (rw (per, count) h) ∙ ap (λ p. content_of m0 dir (dir.size / p)) per)
           c.open_block.array_long c.write_row.array_long

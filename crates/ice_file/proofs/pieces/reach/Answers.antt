@@ -1,5 +1,5 @@
 use Rattle.std.proofs.Common.{◌≡◌, ◌+◌, max, ℕ, sym, ap, subst, arith}
-use Rattle.ice_file.specs.Writes.{due, Reached}
+use Rattle.ice_file.specs.Writes.{due, HadBlock}
 use Rattle.ice_file.proofs.DueLaws.{due-grow, due-same}
 use Rattle.ice_file.proofs.GrowthLaws.{grew-one}
 use Rattle.ice_file.proofs.MoveLaws.{grown-reached, had-reached, widened-single}
@@ -10,7 +10,7 @@ returns-then-k-count-clause-reached g c = λ s made.
     let m = c.nth.ensures.looked.map in
     let seen = g.K.View.map c.args.keep.now c.args.disk.now c.args.lot.now in
     let r = had-reached c.args.lot.now seen c.args.inode.now c.args.count c.args.k c.in_ok-at.at made (omega arith) (c.in_ok-at.ensures.block s) in
-    subst (λ (now : ℕ → _). Reached c.args.lot.now seen now c.args.inode.now c.args.inode.now c.args.count c.args.k c.in_ok-at.at) (sym m) r
+    subst (λ (now : ℕ → _). HadBlock c.args.lot.now seen now c.args.inode.now c.args.inode.now c.args.count c.args.k c.in_ok-at.at) (sym m) r
 
 pub returns-then-k-count-clause-pays : goal.returns-then-k-count-clause-pays
 returns-then-k-count-clause-pays g c =

@@ -3,7 +3,7 @@ use Rattle.std.specs.Prelude.{slice_get}
 use Rattle.std.proofs.lemmas.Result.{err_from_is_err_and}
 use Rattle.tree_spec.specs.Answers.{is_dir}
 use Rattle.tree_spec.specs.Costs.{form_of}
-use Rattle.ice_dir.specs.Rows.{Row}
+use Rattle.ice_dir.specs.Rows.{DirRow}
 use Rattle.ice_reads.specs.Reads.{Reads}
 use Rattle.ice_reads.specs.Tables.{own_in}
 use Rattle.ice_reads.proofs.Focus.{same_Some}
@@ -29,7 +29,7 @@ returns-in_err-place-clause-sound g c = λ h es s r below reached sound.
     let m : ℕ → List ℕ = g.V.View.map c.args.view.now c.args.disk.now c.args.lot.now in
     let looked = c.entry.ensures.looked in
     let at = rows-own f (ap form_of g.F.Form.is_one.0) c.args.lot.now m c.args.number h g.F.Form.ENTRY g.F.Form.is_one.1 in
-    let x = row-tree f c.args.lot.now (own_in f m) c.args.number h es r c.args.k c.entry.new.into c.in_ok-next.next (ap (λ (xs : List Row). slice_get xs c.args.k) at ∙ c.in_ok-next.ensures.row s) in
+    let x = row-tree f c.args.lot.now (own_in f m) c.args.number h es r c.args.k c.entry.new.into c.in_ok-next.next (ap (λ (xs : List DirRow). slice_get xs c.args.k) at ∙ c.in_ok-next.ensures.row s) in
     let p = err_from_is_err_and c.from_residual-in_err-place.result c.from_residual-in_err-place.ensures.1 in
     rw (p.1, p.2)
     (c.in_err-place.ensures.sound (h + 1) x.0 (looked.shows s) (λ z. sound (row-broken g.F.Form.ENTRY g.F.Form.is_one.1 c.args.lot.now m c.args.number reached (reads-directory f (ap form_of g.F.Form.is_one.0) c.args.lot.now m c.args.number h es r) c.args.k c.entry.new.into c.in_ok-next.next (c.in_ok-next.ensures.row s) (inl z)))
@@ -41,7 +41,7 @@ returns-clause-added g c = λ h es row s r is reached sound.
     let m : ℕ → List ℕ = g.V.View.map c.args.view.now c.args.disk.now c.args.lot.now in
     let looked = c.entry.ensures.looked in
     let at = rows-own f (ap form_of g.F.Form.is_one.0) c.args.lot.now m c.args.number h g.F.Form.ENTRY g.F.Form.is_one.1 in
-    let here = ap (λ (xs : List Row). slice_get xs c.args.k) at ∙ c.in_ok-next.ensures.row s in
+    let here = ap (λ (xs : List DirRow). slice_get xs c.args.k) at ∙ c.in_ok-next.ensures.row s in
     let x = row-tree f c.args.lot.now (own_in f m) c.args.number h es r c.args.k c.entry.new.into c.in_ok-next.next here in
     let place = c.in_ok-place.ensures.place (h + 1) x.0 (looked.shows s) (λ z. sound (row-broken g.F.Form.ENTRY g.F.Form.is_one.1 c.args.lot.now m c.args.number reached (reads-directory f (ap form_of g.F.Form.is_one.0) c.args.lot.now m c.args.number h es r) c.args.k c.entry.new.into c.in_ok-next.next (c.in_ok-next.ensures.row s) (inl z)))
     (subst (λ (m : ℕ → List ℕ). Reads f c.args.lot.now (own_in f m) c.in_ok-next.next (h + 1) x.0) (sym looked.map) x.2) in

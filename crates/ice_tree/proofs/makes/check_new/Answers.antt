@@ -6,7 +6,7 @@ use Rattle.ice_tree.specs.Grounds.{HasFree}
 use Rattle.ice_tree.proofs.CostLaws.{dir-cost}
 use Rattle.ice_tree.proofs.FaultLaws.{broke-too}
 use Rattle.tree_spec.specs.Costs.{form_of}
-use Rattle.tree_spec.specs.Answers.{next}
+use Rattle.tree_spec.specs.Answers.{next_tree}
 use Rattle.tree_spec.specs.Replies.{refused_of}
 use Rattle.ice_reads.specs.Tables.{own_in}
 use Rattle.ice_tree.specs.Changes.{new_operation, new_refusal}
@@ -30,7 +30,7 @@ returns-in-Err-clause-spot g c = λ dir mode k t s r.
     let p = drop c.args.depth c.args.path.now in
     let n = length c.args.lot.now.groups in
     subst (RefusedAs (refused_of c.in-Err.refusal)) (sym (new-stages dir t k n f p))
-    (refused-now (refused_of c.in-Err.refusal) (paths_refusal f (p ∷ [])) (or_else (new_refusal p t) (quota_refusal n f k (next (new_operation dir p) t))) c.in-Err.ensures.refusal)
+    (refused-now (refused_of c.in-Err.refusal) (paths_refusal f (p ∷ [])) (or_else (new_refusal p t) (quota_refusal n f k (next_tree (new_operation dir p) t))) c.in-Err.ensures.refusal)
 
 pub returns-in-Err-new_spot-clause-spot : goal.returns-in-Err-new_spot-clause-spot
 returns-in-Err-new_spot-clause-spot g c = λ dir mode k t s r.
@@ -41,8 +41,8 @@ returns-in-Err-new_spot-clause-spot g c = λ dir mode k t s r.
     let x = refused_of c.in-Err-new_spot.refusal in
     let ends = c.in-Ok.ensures.found mode k t s r in
     subst (RefusedAs x) (sym (new-stages dir t k n f p))
-    (refused-later x (paths_refusal f (p ∷ [])) (or_else (new_refusal p t) (quota_refusal n f k (next (new_operation dir p) t))) c.in_default.ensures.refusal
-    (refused-now x (new_refusal p t) (quota_refusal n f k (next (new_operation dir p) t)) (c.in-Err-new_spot.ensures.spot f o p t ends (root-is c.args.path.now c.args.depth c.len.result c.requires.depth c.len.ensures))))
+    (refused-later x (paths_refusal f (p ∷ [])) (or_else (new_refusal p t) (quota_refusal n f k (next_tree (new_operation dir p) t))) c.in_default.ensures.refusal
+    (refused-now x (new_refusal p t) (quota_refusal n f k (next_tree (new_operation dir p) t)) (c.in-Err-new_spot.ensures.spot f o p t ends (root-is c.args.path.now c.args.depth c.len.result c.requires.depth c.len.ensures))))
 
 pub returns-in-Ok-check_quota-clause-spot : goal.returns-in-Ok-check_quota-clause-spot
 returns-in-Ok-check_quota-clause-spot g c = λ dir mode k t s r.
@@ -55,8 +55,8 @@ returns-in-Ok-check_quota-clause-spot g c = λ dir mode k t s r.
     let needs = new-needs f (ap form_of g.F.Form.is_one.0) o p t c.in-Ok-new_spot.spot dir spot.0 spot.1 c.dir_cost.result c.dir_cost-2.result c.dir_cost.ensures c.dir_cost-2.ensures in
     let later = recovers-same f mode c.args.lot.now (g.K.View.map c.args.keep.now c.args.disk.now c.args.lot.now) (g.K.View.map c.find_ends.new.view c.find_ends.new.disk c.args.lot.now) t k c.find_ends.ensures.looked.map r in (
       spot.0,
-      new-stages dir t k n f p ∙ none-both (paths_refusal f (p ∷ [])) (or_else (new_refusal p t) (quota_refusal n f k (next (new_operation dir p) t))) c.in_default.ensures.refusal
-          (none-both (new_refusal p t) (quota_refusal n f k (next (new_operation dir p) t)) spot.1 (c.in-Ok-check_quota.ensures.quota mode k t (next (new_operation dir p) t) (c.find_ends.ensures.looked.shows s) later needs)),
+      new-stages dir t k n f p ∙ none-both (paths_refusal f (p ∷ [])) (or_else (new_refusal p t) (quota_refusal n f k (next_tree (new_operation dir p) t))) c.in_default.ensures.refusal
+          (none-both (new_refusal p t) (quota_refusal n f k (next_tree (new_operation dir p) t)) spot.1 (c.in-Ok-check_quota.ensures.quota mode k t (next_tree (new_operation dir p) t) (c.find_ends.ensures.looked.shows s) later needs)),
     )
 
 pub returns-in-Err-check_quota-clause-spot : goal.returns-in-Err-check_quota-clause-spot
@@ -71,9 +71,9 @@ returns-in-Err-check_quota-clause-spot g c = λ dir mode k t s r.
     let needs = new-needs f (ap form_of g.F.Form.is_one.0) o p t c.in-Ok-new_spot.spot dir spot.0 spot.1 c.dir_cost.result c.dir_cost-2.result c.dir_cost.ensures c.dir_cost-2.ensures in
     let later = recovers-same f mode c.args.lot.now (g.K.View.map c.args.keep.now c.args.disk.now c.args.lot.now) (g.K.View.map c.find_ends.new.view c.find_ends.new.disk c.args.lot.now) t k c.find_ends.ensures.looked.map r in
     subst (RefusedAs x) (sym (new-stages dir t k n f p))
-    (refused-later x (paths_refusal f (p ∷ [])) (or_else (new_refusal p t) (quota_refusal n f k (next (new_operation dir p) t))) c.in_default.ensures.refusal
-    (refused-later x (new_refusal p t) (quota_refusal n f k (next (new_operation dir p) t)) spot.1
-    (c.in-Err-check_quota.ensures.quota mode k t (next (new_operation dir p) t) (c.find_ends.ensures.looked.shows s) later needs)))
+    (refused-later x (paths_refusal f (p ∷ [])) (or_else (new_refusal p t) (quota_refusal n f k (next_tree (new_operation dir p) t))) c.in_default.ensures.refusal
+    (refused-later x (new_refusal p t) (quota_refusal n f k (next_tree (new_operation dir p) t)) spot.1
+    (c.in-Err-check_quota.ensures.quota mode k t (next_tree (new_operation dir p) t) (c.find_ends.ensures.looked.shows s) later needs)))
 
 pub returns-in-Ok-check_quota-clause-ready : goal.returns-in-Ok-check_quota-clause-ready
 returns-in-Ok-check_quota-clause-ready g c = λ s.
@@ -115,7 +115,7 @@ returns-then-spot-len-clause-spot g c = λ dir mode k t s r.
     let n = length c.args.lot.now.groups in
     let o = own_in f (g.K.View.map c.args.keep.now c.args.disk.now c.args.lot.now) in
     let x = Because why.NoNodes in
-    let now = next (new_operation dir p) t in
+    let now = next_tree (new_operation dir p) t in
     let spot = c.in-Ok-new_spot.ensures.spot f o p t (c.in-Ok.ensures.found mode k t s r) (root-is c.args.path.now c.args.depth c.len.result c.requires.depth c.len.ensures) in
     let needs = new-needs f (ap form_of g.F.Form.is_one.0) o p t c.in-Ok-new_spot.spot dir spot.0 spot.1 _ _ refl refl in
     let many = many_nodes n (nodes now) (omega (arith, needs.nodes_move, spot-nodes f o (parent p) t c.in-Ok-new_spot.spot spot.0)) now refl in

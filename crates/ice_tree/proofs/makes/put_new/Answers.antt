@@ -5,7 +5,7 @@ use Rattle.tree_spec.specs.Costs.{form_of}
 use Rattle.ice_tree.specs.Changes.{new_operation}
 use Rattle.ice_tree.proofs.CountLaws.{counts_up, count_room}
 use Rattle.ice_tree.proofs.MakeLaws.{new-changes}
-use Rattle.tree_spec.specs.Answers.{next}
+use Rattle.tree_spec.specs.Answers.{next_tree}
 use Rattle.ice_tree.proofs.makes.put_new.Goals as goal
 
 pub returns-in_err-put_node-clause-sound : goal.returns-in_err-put_node-clause-sound
@@ -19,7 +19,7 @@ returns-in_err-count_up-clause-sound g c = λ mode k t p s takes.
     let e = c.in_err-count_up.ensures in
     let shown = c.put_node.ensures.spent.shows s in
     rw (x.1, x.2)
-    (count_room (form_of g.F.Form.VERSION) (ap form_of g.F.Form.is_one.0) mode c.args.lot.now (g.K.View.map c.put_node.new.keep c.put_node.new.disk c.args.lot.now) (next (new_operation c.args.dir p) t) k
+    (count_room (form_of g.F.Form.VERSION) (ap form_of g.F.Form.is_one.0) mode c.args.lot.now (g.K.View.map c.put_node.new.keep c.put_node.new.disk c.args.lot.now) (next_tree (new_operation c.args.dir p) t) k
     (c.in_ok-put_node.ensures.made mode k t p s takes)
     t (length c.args.lot.now.groups) (form_of g.F.Form.VERSION) (new_operation c.args.dir p) (new-changes c.args.dir p) takes.accepted _ e.faults (λ q. e.full (ap (λ y. Err y) q) shown))
 

@@ -4,7 +4,7 @@ use Rattle.tree_spec.specs.Costs.{form_of}
 use Rattle.ice_reads.specs.Tables.{own_in}
 use Rattle.ice_reads.specs.Reads.{Reads}
 use Rattle.ice_tree.specs.Broken.{BadEntry, IsBrokenBy}
-use Rattle.ice_dir.specs.Rows.{look_up, rows_of}
+use Rattle.ice_dir.specs.Rows.{look_up, dir_rows_of}
 use Rattle.ice_tree.specs.declared.place.Place.TheVariants.{Dir}
 use Rattle.ice_tree.specs.Places.{Reached, PlaceOf, PlaceFits, PlaceIs, PlaceReached, PlaceNamed}
 use Rattle.ice_tree.proofs.BrokenLaws.{named-broken, named-reached, find-broken, place-named}
@@ -67,7 +67,7 @@ returns-in-Some-clause-reached g c = λ s reached.
 pub returns-in-Some-clause-named : goal.returns-in-Some-clause-named
 returns-in-Some-clause-named g c = λ s.
     let m : ℕ → List ℕ = g.V.View.map c.args.view.now c.args.disk.now c.args.lot.now in
-    let there : look_up c.args.name.now (rows_of g.F.Form.ENTRY m c.in-Dir.number) ≡ Some c.in-Some.next = sym (c.in_ok-find-in-Dir.ensures.found s) ∙ c.in-Some.is in
+    let there : look_up c.args.name.now (dir_rows_of g.F.Form.ENTRY m c.in-Dir.number) ≡ Some c.in-Some.next = sym (c.in_ok-find-in-Dir.ensures.found s) ∙ c.in-Some.is in
     subst (λ p. IfOk c.enter_named.result (PlaceNamed g.F.Form.ENTRY m p c.args.name.now)) (sym c.in-Dir.is)
     (IfOk-weaker c.enter_named.result (PlaceOf c.in-Some.next) (PlaceNamed g.F.Form.ENTRY m (Dir c.in-Dir.number c.in-Dir.size) c.args.name.now) (λ p at. place-named g.F.Form.ENTRY m c.in-Dir.number c.in-Dir.size c.args.name.now c.in-Some.next there p at) c.enter_named.ensures.at)
 

@@ -2,7 +2,7 @@ use Rattle.std.proofs.Common.{ap, Err, length, refl}
 use Rattle.std.proofs.lemmas.Result.{err_from_is_err_and}
 use Rattle.ice_base.proofs.LotLaws.{sited-few}
 use Rattle.tree_spec.specs.Costs.{form_of}
-use Rattle.tree_spec.specs.Answers.{next}
+use Rattle.tree_spec.specs.Answers.{next_tree}
 use Rattle.tree_spec.specs.Operations.{Remove}
 use Rattle.ice_tree.proofs.CountLaws.{counts_up, count_room}
 use Rattle.ice_tree.proofs.RemoveDamage.{freed-counted}
@@ -20,7 +20,7 @@ returns-in_err-count_up-clause-sound g c = λ mode k t p s l.
     let e = c.in_err-count_up.ensures in
     let shown = c.take_away.ensures.spent.shows s in
     rw (x.1, x.2)
-    (count_room (form_of g.F.Form.VERSION) (ap form_of g.F.Form.is_one.0) mode c.args.lot.now (g.K.View.map c.take_away.new.keep c.take_away.new.disk c.args.lot.now) (next (Remove p) t) k
+    (count_room (form_of g.F.Form.VERSION) (ap form_of g.F.Form.is_one.0) mode c.args.lot.now (g.K.View.map c.take_away.new.keep c.take_away.new.disk c.args.lot.now) (next_tree (Remove p) t) k
     (c.in_ok-take_away.ensures.taken mode k t p s l)
     t (length c.args.lot.now.groups) (form_of g.F.Form.VERSION) (Remove p) refl l.accepted _ e.faults (λ q. e.full (ap (λ y. Err y) q) shown))
 

@@ -4,7 +4,7 @@ use Rattle.std.proofs.lemmas.Result.{err_from_is_err_and, IfErr-weaker, on_ok_we
 use Rattle.ice_base.proofs.LotLaws.{sited-few}
 use Rattle.ice_base.specs.Lots.{sub_address}
 use Rattle.tree_spec.specs.Costs.{form_of}
-use Rattle.tree_spec.specs.Answers.{next}
+use Rattle.tree_spec.specs.Answers.{next_tree}
 use Rattle.tree_spec.specs.Operations.{Remove}
 use Rattle.ice_tree.proofs.RemoveLaws.{spot-made, spot-has, spot-takes, spot-left}
 use Rattle.ice_tree.proofs.RemoveDamage.{file-stays}
@@ -41,7 +41,7 @@ returns-in-Some-clause-taken g c = λ mode k t p s l.
     let few = sited-few lot _ c.requires.sited in
     let m = g.K.View.map c.args.keep.now c.args.disk.now lot in
     let set = c.in_ok-take.ensures.taken s (spot-made f one mode lot few m t k p c.args.gone.now c.args.name.now g.F.Form.ENTRY g.F.Form.is_one.1 l) (ap is_some c.in-Some.is) in
-    c.clear.ensures.cleared mode k (next (Remove p) t) (c.take.ensures.spent.shows s)
+    c.clear.ensures.cleared mode k (next_tree (Remove p) t) (c.take.ensures.spent.shows s)
     (spot-left f one mode lot few m t k p c.args.gone.now c.args.name.now g.F.Form.ENTRY g.F.Form.is_one.1 l (g.K.View.map c.take.new.keep c.take.new.disk lot) set)
 
 pub returns-in-Some-clause-sound : goal.returns-in-Some-clause-sound
@@ -52,7 +52,7 @@ returns-in-Some-clause-sound g c = λ mode k t p s l.
     let few = sited-few lot _ c.requires.sited in
     let m = g.K.View.map c.args.keep.now c.args.disk.now lot in
     let set = c.in_ok-take.ensures.taken s (spot-made f one mode lot few m t k p c.args.gone.now c.args.name.now g.F.Form.ENTRY g.F.Form.is_one.1 l) (ap is_some c.in-Some.is) in
-    c.clear.ensures.sound mode k (next (Remove p) t) (c.take.ensures.spent.shows s)
+    c.clear.ensures.sound mode k (next_tree (Remove p) t) (c.take.ensures.spent.shows s)
     (spot-left f one mode lot few m t k p c.args.gone.now c.args.name.now g.F.Form.ENTRY g.F.Form.is_one.1 l (g.K.View.map c.take.new.keep c.take.new.disk lot) set)
 
 pub returns-in_err-take-clause-broken : goal.returns-in_err-take-clause-broken

@@ -5,7 +5,7 @@ use Rattle.tree_spec.specs.Costs.{form_of}
 use Rattle.tree_spec.specs.Replies.{refused_of}
 use Rattle.tree_spec.specs.declared.reply.Refusal.TheVariants.{Damaged}
 use Rattle.tree_spec.specs.Operations.{Rename}
-use Rattle.tree_spec.specs.Answers.{next}
+use Rattle.tree_spec.specs.Answers.{next_tree}
 use Rattle.ice_rules.specs.Rules.{rule_number}
 use Rattle.ice_tree.specs.Outcomes.{RefusedAs}
 use Rattle.ice_tree.specs.Renames.{move_refusal}
@@ -38,7 +38,7 @@ returns-in-Err-clause-found g c = λ mode k t s r.
     let q = drop c.args.depth c.args.to.now in
     let n = length c.args.lot.now.groups in
     subst (RefusedAs (refused_of c.in-Err.refusal)) (sym (move-stages t k n f p q c.requires.names))
-    (refused-now (refused_of c.in-Err.refusal) (move_refusal p q t) (quota_refusal n f k (next (Rename p q) t)) (c.in-Err.ensures.found mode k t s r))
+    (refused-now (refused_of c.in-Err.refusal) (move_refusal p q t) (quota_refusal n f k (next_tree (Rename p q) t)) (c.in-Err.ensures.found mode k t s r))
 
 pub returns-in-Err-check_quota-clause-found : goal.returns-in-Err-check_quota-clause-found
 returns-in-Err-check_quota-clause-found g c = λ mode k t s r.
@@ -51,8 +51,8 @@ returns-in-Err-check_quota-clause-found g c = λ mode k t s r.
     let x = c.in-Ok.ensures.found mode k t s r in
     let needs = c.need_of-need.ensures.needs mode k c.args.lot.now m t p q r c.requires.names x.0 x.1 in
     subst (RefusedAs (refused_of c.in-Err-check_quota.refusal)) (sym (move-stages t k n f p q c.requires.names))
-    (refused-later (refused_of c.in-Err-check_quota.refusal) (move_refusal p q t) (quota_refusal n f k (next (Rename p q) t)) x.0
-    (c.in-Err-check_quota.ensures.quota mode k t (next (Rename p q) t) (looked.shows s) (recovers-same f mode c.args.lot.now _ _ t k looked.map r) needs))
+    (refused-later (refused_of c.in-Err-check_quota.refusal) (move_refusal p q t) (quota_refusal n f k (next_tree (Rename p q) t)) x.0
+    (c.in-Err-check_quota.ensures.quota mode k t (next_tree (Rename p q) t) (looked.shows s) (recovers-same f mode c.args.lot.now _ _ t k looked.map r) needs))
 
 pub returns-in-Ok-check_quota-clause-found : goal.returns-in-Ok-check_quota-clause-found
 returns-in-Ok-check_quota-clause-found g c = λ mode k t s r.
@@ -65,8 +65,8 @@ returns-in-Ok-check_quota-clause-found g c = λ mode k t s r.
     let x = c.in-Ok.ensures.found mode k t s r in
     let needs = c.need_of-need.ensures.needs mode k c.args.lot.now m t p q r c.requires.names x.0 x.1 in (
       move-stages t k n f p q c.requires.names
-          ∙ none-both (move_refusal p q t) (quota_refusal n f k (next (Rename p q) t)) x.0
-          (c.in-Ok-check_quota.ensures.quota mode k t (next (Rename p q) t) (looked.shows s) (recovers-same f mode c.args.lot.now _ _ t k looked.map r) needs),
+          ∙ none-both (move_refusal p q t) (quota_refusal n f k (next_tree (Rename p q) t)) x.0
+          (c.in-Ok-check_quota.ensures.quota mode k t (next_tree (Rename p q) t) (looked.shows s) (recovers-same f mode c.args.lot.now _ _ t k looked.map r) needs),
       x.1,
     )
 

@@ -1,7 +1,7 @@
 use Rattle.std.proofs.Common.{◌≡◌, ℕ, ◌+◌, ◌-◌, List, [], ◌∷◌, Err, length, drop, take, get_or, sym, ap, ◌∙◌, arith, subst, refl}
 use Rattle.tree_spec.specs.Costs.{form_of}
 use Rattle.tree_spec.specs.Operations.{Rename}
-use Rattle.tree_spec.specs.Answers.{next, refusal}
+use Rattle.tree_spec.specs.Answers.{next_tree, refusal}
 use Rattle.tree_spec.specs.Replies.{refused_of}
 use Rattle.tree_spec.specs.Trees.{Tree}
 use Rattle.tree_spec.specs.declared.reply.Refusal.TheVariants.{Damaged}
@@ -28,7 +28,7 @@ returns-in-Err-clause-answers g c = λ mode k t s r.
     let q = drop c.args.depth c.args.to.now in
     let n = length c.args.lot.now.groups in
     as_model t k n f (Rename p q) (refused_of c.in-Err.refusal) (paths_refusal f (p ∷ q ∷ [])) c.in-Err.ensures.refusal
-    (λ w h. rename-stages t k n f p q ∙ first_stage (paths_refusal f (p ∷ q ∷ [])) (or_else (move_refusal p q t) (quota_refusal n f k (next (Rename p q) t))) w h)
+    (λ w h. rename-stages t k n f p q ∙ first_stage (paths_refusal f (p ∷ q ∷ [])) (or_else (move_refusal p q t) (quota_refusal n f k (next_tree (Rename p q) t))) w h)
 
 pub put_moved-requires-clause-short : goal.put_moved-requires-clause-short
 put_moved-requires-clause-short g c =

@@ -1,6 +1,6 @@
 use Rattle.std.proofs.Common.{◌∙◌, drop, length, sym, subst}
 use Rattle.tree_spec.specs.Costs.{form_of}
-use Rattle.tree_spec.specs.Answers.{next}
+use Rattle.tree_spec.specs.Answers.{next_tree}
 use Rattle.tree_spec.specs.Operations.{Trunc}
 use Rattle.tree_spec.specs.Replies.{refused_of}
 use Rattle.ice_tree.specs.Changes.{reach_refusal}
@@ -20,7 +20,7 @@ returns-in-Err-clause-file g c = λ mode k t s r.
     let n = length c.args.lot.now.groups in
     let x = refused_of c.in-Err.refusal in
     subst (RefusedAs x) (sym (trunc-stages t k n f p c.args.len))
-    (refused-now x (reach_refusal f p c.args.len t) (quota_refusal n f k (next (Trunc p c.args.len) t)) (c.in-Err.ensures.found mode k t s r))
+    (refused-now x (reach_refusal f p c.args.len t) (quota_refusal n f k (next_tree (Trunc p c.args.len) t)) (c.in-Err.ensures.found mode k t s r))
 
 pub returns-in-Ok-check_quota-clause-file : goal.returns-in-Ok-check_quota-clause-file
 returns-in-Ok-check_quota-clause-file g c = λ mode k t s r.
@@ -32,8 +32,8 @@ returns-in-Ok-check_quota-clause-file g c = λ mode k t s r.
     let later = recovers-same f mode c.args.lot.now (g.K.View.map c.args.keep.now c.args.disk.now c.args.lot.now) (g.K.View.map c.reach_file.new.view c.reach_file.new.disk c.args.lot.now) t k c.reach_file.ensures.looked.map r in
     let needs = trunc-needs f p t file.bytes c.args.len file.there file.reaches c.in-Ok.file.size c.size_need-need.result file.size c.size_need-need.ensures in (
       file.number,
-      trunc-stages t k n f p c.args.len ∙ none-both (reach_refusal f p c.args.len t) (quota_refusal n f k (next (Trunc p c.args.len) t)) (reach-none f p c.args.len t names file.bytes file.there file.reaches)
-          (c.in-Ok-check_quota.ensures.quota mode k t (next (Trunc p c.args.len) t) (c.reach_file.ensures.looked.shows s) later needs),
+      trunc-stages t k n f p c.args.len ∙ none-both (reach_refusal f p c.args.len t) (quota_refusal n f k (next_tree (Trunc p c.args.len) t)) (reach-none f p c.args.len t names file.bytes file.there file.reaches)
+          (c.in-Ok-check_quota.ensures.quota mode k t (next_tree (Trunc p c.args.len) t) (c.reach_file.ensures.looked.shows s) later needs),
     )
 
 pub returns-in-Err-check_quota-clause-file : goal.returns-in-Err-check_quota-clause-file
@@ -47,8 +47,8 @@ returns-in-Err-check_quota-clause-file g c = λ mode k t s r.
     let later = recovers-same f mode c.args.lot.now (g.K.View.map c.args.keep.now c.args.disk.now c.args.lot.now) (g.K.View.map c.reach_file.new.view c.reach_file.new.disk c.args.lot.now) t k c.reach_file.ensures.looked.map r in
     let needs = trunc-needs f p t file.bytes c.args.len file.there file.reaches c.in-Ok.file.size c.size_need-need.result file.size c.size_need-need.ensures in
     subst (RefusedAs x) (sym (trunc-stages t k n f p c.args.len))
-    (refused-later x (reach_refusal f p c.args.len t) (quota_refusal n f k (next (Trunc p c.args.len) t)) (reach-none f p c.args.len t names file.bytes file.there file.reaches)
-    (c.in-Err-check_quota.ensures.quota mode k t (next (Trunc p c.args.len) t) (c.reach_file.ensures.looked.shows s) later needs))
+    (refused-later x (reach_refusal f p c.args.len t) (quota_refusal n f k (next_tree (Trunc p c.args.len) t)) (reach-none f p c.args.len t names file.bytes file.there file.reaches)
+    (c.in-Err-check_quota.ensures.quota mode k t (next_tree (Trunc p c.args.len) t) (c.reach_file.ensures.looked.shows s) later needs))
 
 pub returns-in-Err-check_quota-clause-damaged : goal.returns-in-Err-check_quota-clause-damaged
 returns-in-Err-check_quota-clause-damaged g c = λ n e s.

@@ -2,7 +2,7 @@ use Rattle.std.proofs.Common.{◌+◌, ap, Err, length, refl, arith}
 use Rattle.std.proofs.lemmas.Result.{err_from_is_err_and}
 use Rattle.ice_base.proofs.LotLaws.{sited-few}
 use Rattle.tree_spec.specs.Costs.{form_of}
-use Rattle.tree_spec.specs.Answers.{next}
+use Rattle.tree_spec.specs.Answers.{next_tree}
 use Rattle.tree_spec.specs.Operations.{Write}
 use Rattle.ice_base.specs.Fields.{long_at}
 use Rattle.ice_base.specs.Lots.{sub_address}
@@ -34,7 +34,7 @@ returns-in_err-count_up-clause-sound g c = λ mode k t p s takes.
     let m' = g.K.View.map c.write_at.new.keep c.write_at.new.disk lot in
     let well = write-made f one g.F.Form.ENTRY g.F.Form.is_one.1 mode lot m t k p c.args.number few c.args.at c.args.bytes.now takes in
     rw (x.1, x.2)
-    (count_room f one mode lot m' (next (Write p c.args.at c.args.bytes.now) t) k
+    (count_room f one mode lot m' (next_tree (Write p c.args.at c.args.bytes.now) t) k
     (write-recovers f one g.F.Form.ENTRY g.F.Form.is_one.1 mode lot m t k p c.args.number few c.args.at c.args.bytes.now takes m' (c.in_ok-write_at.ensures.written s well))
     t (length lot.groups) f (Write p c.args.at c.args.bytes.now) refl takes.accepted _ e.faults (λ q. e.full (ap (λ y. Err y) q) (c.write_at.ensures.spent.shows s)))
 
@@ -47,7 +47,7 @@ returns-clause-set g c = λ mode k t p s takes.
     let m = g.K.View.map c.args.keep.now c.args.disk.now lot in
     let m' = g.K.View.map c.write_at.new.keep c.write_at.new.disk lot in
     let well = write-made f one g.F.Form.ENTRY g.F.Form.is_one.1 mode lot m t k p c.args.number few c.args.at c.args.bytes.now takes in
-    counts_up f one mode lot m' (next (Write p c.args.at c.args.bytes.now) t) k
+    counts_up f one mode lot m' (next_tree (Write p c.args.at c.args.bytes.now) t) k
     (write-recovers f one g.F.Form.ENTRY g.F.Form.is_one.1 mode lot m t k p c.args.number few c.args.at c.args.bytes.now takes m' (c.in_ok-write_at.ensures.written s well))
     few (g.K.View.map c.count_up.new.keep c.count_up.new.disk lot) (c.in_ok-count_up.ensures.counted (c.write_at.ensures.spent.shows s))
 

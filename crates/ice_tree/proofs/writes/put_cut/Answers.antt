@@ -2,7 +2,7 @@ use Rattle.std.proofs.Common.{ap, Err, length, refl, arith}
 use Rattle.std.proofs.lemmas.Result.{err_from_is_err_and}
 use Rattle.ice_base.proofs.LotLaws.{sited-few}
 use Rattle.tree_spec.specs.Costs.{form_of}
-use Rattle.tree_spec.specs.Answers.{next}
+use Rattle.tree_spec.specs.Answers.{next_tree}
 use Rattle.tree_spec.specs.Operations.{Trunc}
 use Rattle.ice_base.specs.Fields.{long_at}
 use Rattle.ice_base.specs.Lots.{sub_address}
@@ -37,7 +37,7 @@ returns-in_err-count_up-clause-sound g c = λ mode k t p s takes.
     let m' = g.K.View.map c.cut_to.new.keep c.cut_to.new.disk lot in
     let well = cut-made f one g.F.Form.ENTRY g.F.Form.is_one.1 mode lot m t k p c.args.number few c.args.len takes in
     rw (x.1, x.2)
-    (count_room f one mode lot m' (next (Trunc p c.args.len) t) k
+    (count_room f one mode lot m' (next_tree (Trunc p c.args.len) t) k
     (cut-recovers f one g.F.Form.ENTRY g.F.Form.is_one.1 mode lot m t k p c.args.number few c.args.len takes m' (c.in_ok-cut_to.ensures.cut s well))
     t (length lot.groups) f (Trunc p c.args.len) refl takes.accepted _ e.faults (λ q. e.full (ap (λ y. Err y) q) (c.cut_to.ensures.spent.shows s)))
 
@@ -50,7 +50,7 @@ returns-clause-set g c = λ mode k t p s takes.
     let m = g.K.View.map c.args.keep.now c.args.disk.now lot in
     let m' = g.K.View.map c.cut_to.new.keep c.cut_to.new.disk lot in
     let well = cut-made f one g.F.Form.ENTRY g.F.Form.is_one.1 mode lot m t k p c.args.number few c.args.len takes in
-    counts_up f one mode lot m' (next (Trunc p c.args.len) t) k
+    counts_up f one mode lot m' (next_tree (Trunc p c.args.len) t) k
     (cut-recovers f one g.F.Form.ENTRY g.F.Form.is_one.1 mode lot m t k p c.args.number few c.args.len takes m' (c.in_ok-cut_to.ensures.cut s well))
     few (g.K.View.map c.count_up.new.keep c.count_up.new.disk lot) (c.in_ok-count_up.ensures.counted (c.cut_to.ensures.spent.shows s))
 
