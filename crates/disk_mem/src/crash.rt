@@ -129,7 +129,8 @@ impl Replay {
         ensures blocks { self.new.blocks.items ≡ self.old.blocks.items }
         ensures here { slice_index_or self.new.loose.items k false ≡ false }
         ensures flags { (j : ℕ) → ¬ (j ≡ k) → slice_index_or self.new.loose.items j false ≡ slice_index_or self.old.loose.items j false }
-        ensures settled { block self.new.settled.items k ≡ (if slice_index_or self.old.loose.items k false then block self.old.blocks.items k else block self.old.settled.items k) }
+        ensures settled { block self.new.settled.items k
+            ≡ (if slice_index_or self.old.loose.items k false then block self.old.blocks.items k else block self.old.settled.items k) }
         ensures others { (j : ℕ) → ¬ (j ≡ k) → block self.new.settled.items j ≡ block self.old.settled.items j }
     {
         if self.loose[k] {
@@ -142,7 +143,8 @@ impl Replay {
     pub fn fill_loose(&mut self, fill: u64)
         requires { length self.old.blocks.items < 2 ^ 32 }
         ensures count { length self.new.blocks.items ≡ length self.old.blocks.items }
-        ensures settled { (k : ℕ) → slice_index_or self.old.loose.items k false ≡ false → block self.new.blocks.items k ≡ block self.old.blocks.items k }
+        ensures settled { (k : ℕ) → slice_index_or self.old.loose.items k false ≡ false
+            → block self.new.blocks.items k ≡ block self.old.blocks.items k }
         ensures loose { (k : ℕ) → slice_index_or self.old.loose.items k false ≡ true
             → Filled fill k (block self.old.settled.items k) (block self.old.blocks.items k) (block self.new.blocks.items k) }
     {
@@ -158,7 +160,8 @@ impl Replay {
         ensures flags { self.new.loose.items ≡ self.old.loose.items }
         ensures old { self.new.settled.items ≡ self.old.settled.items }
         ensures count { length self.new.blocks.items ≡ length self.old.blocks.items }
-        ensures settled { slice_index_or self.old.loose.items k false ≡ false → block self.new.blocks.items k ≡ block self.old.blocks.items k }
+        ensures settled { slice_index_or self.old.loose.items k false ≡ false
+            → block self.new.blocks.items k ≡ block self.old.blocks.items k }
         ensures others { (j : ℕ) → ¬ (j ≡ k) → block self.new.blocks.items j ≡ block self.old.blocks.items j }
         ensures loose { slice_index_or self.old.loose.items k false ≡ true
             → Filled fill k (block self.old.settled.items k) (block self.old.blocks.items k) (block self.new.blocks.items k) }

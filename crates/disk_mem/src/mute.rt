@@ -95,7 +95,8 @@ impl Host for MuteHost {
         ensures gives { Gives false (mute self.old).streams (mute self.new).streams bytes.now result }
         ensures calm { OnOk result ((mute self.new).streams.sink_faults ≡ (mute self.old).streams.sink_faults) }
         ensures host { Gives true (told_by self.old.host).streams (told_by self.new.host).streams bytes.now result }
-        ensures fails { Obeys (Planned (memory self.old.host)) ((0 < (memory self.old.host).room) × (min (length bytes.now) (memory self.old.host).piece ≤ (memory self.old.host).room_bytes)) result }
+        ensures fails { Obeys (Planned (memory self.old.host)) ((0 < (memory self.old.host).room)
+            × (min (length bytes.now) (memory self.old.host).piece ≤ (memory self.old.host).room_bytes)) result }
     {
         self.host.give(bytes)
     }

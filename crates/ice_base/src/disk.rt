@@ -57,10 +57,12 @@ pub trait Disk {
             → BarrierCounts (is_ok result) (state self.old) (state self.new) };
 
     /// At each moment a crash leaves what reads give, but for the loose blocks, and the bytes given out by then.
-    ghost agrees_now: { (d : Self) (image : Image) (out : List ℕ) → left d (state d).clock image out → AgreesOn Everywhere (state d) image × (out ≡ (state d).streams.aside) };
+    ghost agrees_now: { (d : Self) (image : Image) (out : List ℕ) → left d (state d).clock image out
+        → AgreesOn Everywhere (state d) image × (out ≡ (state d).streams.aside) };
 
     /// What reads give is one of the images.
-    ghost counts_now: { (d : Self) (t : ℕ) → (state d).tells ≡ true → t ≤ (state d).clock → left d t (state d).now (state d).streams.aside };
+    ghost counts_now: { (d : Self) (t : ℕ) → (state d).tells ≡ true → t ≤ (state d).clock
+        → left d t (state d).now (state d).streams.aside };
 
     /// Block numbers fit 32 bits.
     ghost small: { (d : Self) → (state d).size < 2 ^ 32 };

@@ -41,7 +41,8 @@ pub trait View<D: Disk> {
     ghost outside: { (v : Self) (d : D) (lot : LotView) (a : ℕ) → is_address lot a ≡ false → map v d lot a ≡ [] };
 
     /// What is steady from one moment to the next, and from there on, is steady over both.
-    ghost steady_trans: { (lot : LotView) (u : Self) (d : D) (v : Self) (e : D) (w : Self) (f : D) → steady lot u d v e → steady lot v e w f → steady lot u d w f };
+    ghost steady_trans: { (lot : LotView) (u : Self) (d : D) (v : Self) (e : D) (w : Self) (f : D)
+        → steady lot u d v e → steady lot v e w f → steady lot u d w f };
 
     /// What doesn't change is steady.
     ghost steady_refl: { (lot : LotView) (v : Self) (d : D) → steady lot v d v d };

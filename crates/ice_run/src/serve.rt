@@ -27,7 +27,9 @@ fn pass<H: Host>(
     ensures cause { IfErr result (λ status. StreamCause status (H.state host.old).streams (H.state host.new).streams) }
     ensures count { IfOk result (λ n. taken + n ≤ longest_script) }
     ensures ready { session.new.reader.ended ≡ false }
-    ensures passes { (w : World) (start : H) → Stands w (H.state start) → Fed H.state H.left w start taken host.old session.old.reader → Passes H.state H.left w start taken result host.new session.new.reader }
+    ensures passes { (w : World) (start : H) → Stands w (H.state start)
+        → Fed H.state H.left w start taken host.old session.old.reader
+        → Passes H.state H.left w start taken result host.new session.new.reader }
 {
     let count = match take_piece(host, piece, taken) {
         Ok(count) => count,
@@ -48,7 +50,8 @@ pub(crate) fn serve<H: Host>(host: &mut H, session: &mut Session) -> Status
     ensures disk { SameDisk (H.state host.old) (H.state host.new) }
     ensures counts { NoFewerFaults (H.state host.old).streams (H.state host.new).streams }
     ensures cause { (result ≡ Status.Done) ⊎ StreamCause result (H.state host.old).streams (H.state host.new).streams }
-    ensures served { (w : World) → Stands w (H.state host.old) → session.old.reader.text ≡ [] → Served H.state H.left w host.old result host.new }
+    ensures served { (w : World) → Stands w (H.state host.old) → session.old.reader.text ≡ []
+        → Served H.state H.left w host.old result host.new }
 {
     let mut piece = [0; PIECE];
     let mut taken: u32 = 0;

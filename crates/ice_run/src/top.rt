@@ -30,7 +30,8 @@ fn format_image<D: Disk>(disk: &mut D, sup: &Super) -> Status
     ensures within { Within D.state D.left (Below 32) disk.old disk.new }
     ensures cause { FormatCause sup.now result (D.state disk.old) (D.state disk.new) }
     ensures room { (D.state disk.old).size < total_blocks sup.now.slots sup.now.groups → (result ≡ Status.Small) × (disk.new ≡ disk.old) }
-    ensures fresh { (D.state disk.old).tells ≡ true → result ≡ Status.Done → IsFreshImage sup.now (D.state disk.new).now × Settled Everywhere (D.state disk.new) }
+    ensures fresh { (D.state disk.old).tells ≡ true → result ≡ Status.Done
+        → IsFreshImage sup.now (D.state disk.new).now × Settled Everywhere (D.state disk.new) }
     ensures starts { (D.state disk.old).tells ≡ true → result ≡ Status.Done → Starts (D.state disk.new) (empty_world sup.now) }
     ensures opens { (D.state disk.old).tells ≡ true → result ≡ Status.Done → Opens (D.state disk.new).now (empty_world sup.now) }
 {
@@ -54,7 +55,8 @@ fn run_session<H: Host>(alloc: Global, host: &mut H) -> Status
     ensures settled { (H.state host.old).tells ≡ true → HasAttached result → Settled Everywhere (H.state host.new) }
     ensures output { (w : World) → Starts (H.state host.old) w → EndsAs result w (H.state host.old) (H.state host.new) }
     ensures exit { (w : World) → Starts (H.state host.old) w → result ≡ Status.Done → Stands w (H.state host.new) }
-    ensures crash { (w : World) → Starts (H.state host.old) w → (image : Image) (out : List ℕ) → H.left host.new (H.state host.old).clock image out
+    ensures crash { (w : World) → Starts (H.state host.old) w → (image : Image) (out : List ℕ)
+        → H.left host.new (H.state host.old).clock image out
         → LeftByRun (H.state host.old).streams.aside w (script_lines (H.state host.old).streams.intake) image out }
 {
     let mut session = match Session::new(alloc) {
@@ -77,12 +79,17 @@ fn run_session<H: Host>(alloc: Global, host: &mut H) -> Status
 pub fn run<H: Host>(alloc: Global, words: &Words, host: &mut H) -> Status
     ensures usage { (result ≡ Status.Usage) ↔ (request_of words.now ≡ None) }
     ensures untouched { (result ≡ Status.Usage) ⊎ (result ≡ Status.Memory) → host.new ≡ host.old }
-    ensures format { (image : List ℕ) (sup : Geometry) → request_of words.now ≡ Some (Formats image sup) → FormatsImage H.state H.left sup result host.old host.new }
+    ensures format { (image : List ℕ) (sup : Geometry) → request_of words.now ≡ Some (Formats image sup)
+        → FormatsImage H.state H.left sup result host.old host.new }
     ensures session { (image : List ℕ) → request_of words.now ≡ Some (Runs image) → RunsSession H.state H.left result host.old host.new }
-    ensures output { (image : List ℕ) (w : World) → request_of words.now ≡ Some (Runs image) → Starts (H.state host.old) w → EndsAs result w (H.state host.old) (H.state host.new) }
-    ensures crash { (image : List ℕ) (w : World) → request_of words.now ≡ Some (Runs image) → Starts (H.state host.old) w → (crashed : Image) (out : List ℕ) → H.left host.new (H.state host.old).clock crashed out
+    ensures output { (image : List ℕ) (w : World) → request_of words.now ≡ Some (Runs image)
+        → Starts (H.state host.old) w → EndsAs result w (H.state host.old) (H.state host.new) }
+    ensures crash { (image : List ℕ) (w : World) → request_of words.now ≡ Some (Runs image)
+        → Starts (H.state host.old) w → (crashed : Image) (out : List ℕ)
+        → H.left host.new (H.state host.old).clock crashed out
         → LeftByRun (H.state host.old).streams.aside w (script_lines (H.state host.old).streams.intake) crashed out }
-    ensures exit { (image : List ℕ) (w : World) → request_of words.now ≡ Some (Runs image) → Starts (H.state host.old) w → result ≡ Status.Done → Stands w (H.state host.new) }
+    ensures exit { (image : List ℕ) (w : World) → request_of words.now ≡ Some (Runs image)
+        → Starts (H.state host.old) w → result ≡ Status.Done → Stands w (H.state host.new) }
 {
     match read_form(words) {
         Some(Form::Format { image: _, sup }) => format_image(host, &sup),

@@ -23,7 +23,8 @@ impl Model for Path {
 
     ghost view = { λ a. names_of (take a.len a.text) };
 
-    ghost invariant = { λ a. (a.len ≤ longest_text) × BeginsAtSlash (take a.len a.text) × IsNameList (names_of (take a.len a.text)) × (a.count ≡ length (names_of (take a.len a.text))) };
+    ghost invariant = { λ a. (a.len ≤ longest_text) × BeginsAtSlash (take a.len a.text)
+        × IsNameList (names_of (take a.len a.text)) × (a.count ≡ length (names_of (take a.len a.text))) };
 }
 
 /// Where the text has its first slash, or its end.
