@@ -1,3 +1,3 @@
-pub mod Planned
-pub mod Past
-pub mod Crashes
+mod Planned
+mod Past
+mod Crashes

@@ -4,10 +4,12 @@ use Rattle.std.proofs.lemmas.Bool.Decides.{nat_tests}
 use Rattle.std.proofs.lemmas.List.FromFn.{sum_by-map-range_with_len_more}
 use Rattle.ice_base.specs.Bits.{count_below, Inserts, Deletes}
 
+-- none is below 0
 pub count_below-zero : (p : ℕ → Bool) → count_below p 0 ≡ 0
 unfolding count_below
 count_below-zero p = refl
 
+-- one number more counts where it is in the set
 pub count_below-add_one : (p : ℕ → Bool) (n : ℕ) → count_below p (n + 1) ≡ count_below p n + cond (p n) 1 0
 unfolding count_below
 count_below-add_one p n = sum_by-map-range_with_len_more (λ bit. cond bit 1 0) p 0 n n (omega arith)
@@ -15,10 +17,12 @@ count_below-add_one p n = sum_by-map-range_with_len_more (λ bit. cond bit 1 0) 
 count_below-suc : (p : ℕ → Bool) (n : ℕ) → count_below p (suc n) ≡ count_below p n + cond (p n) 1 0
 count_below-suc p n = rw add-one at (count_below-add_one p n)
 
+-- no more are counted than there are numbers
 pub count_below-le : (p : ℕ → Bool) (n : ℕ) → count_below p n ≤ n
 count_below-le p zero = omega (arith, count_below-zero p)
 count_below-le p (suc n) = let r = count_below-le p n in let e = count_below-suc p n in grind arith
 
+-- sets that agree below a number have as many below it
 pub count_below-same : (p q : ℕ → Bool) (n : ℕ) → ((b : ℕ) → b < n → q b ≡ p b) → count_below q n ≡ count_below p n
 count_below-same p q zero h = count_below-zero q ∙ sym (count_below-zero p)
 count_below-same p q (suc n) h =

@@ -99,6 +99,7 @@ word-same xs ys at h =
 pub word-beside : (old new : List ℕ) (at n other : ℕ) → SameBeside at n old new → (other + 4 ≤ at) ⊎ (at + n ≤ other) → word_at new other ≡ word_at old other
 word-beside old new at n other same apart = word-same new old other (λ k low high. same k (grind arith))
 
+-- a long field apart from the changed bytes is as it was
 pub long-beside : (old new : List ℕ) (at n other : ℕ) → SameBeside at n old new → (other + 8 ≤ at) ⊎ (at + n ≤ other) → long_at new other ≡ long_at old other
 long-beside old new at n other same apart =
     let low = word-beside old new at n other same (grind arith) in

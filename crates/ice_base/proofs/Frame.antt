@@ -159,6 +159,7 @@ module _ {D : Type 0} (state : D → DiskState) (left : D → ℕ → Image → 
   pub leaves_with : (P Q : Image → Type 0) (aside : List ℕ) (a b : D) → ((i : Image) → P i → Q i) → LeavesOnly left a b (With aside P) → LeavesOnly left a b (With aside Q)
   leaves_with P Q aside a b sub v = leaves_more state left (With aside P) (With aside Q) a b (λ i o p. (sub i p.0, p.1)) v
 
+-- what holds anyway holds at Err
 pub OnErr-always : {T X : Type 0} (P : Type 0) (r : Result T X) → P → OnErr r P
 OnErr-always P (Ok x) p = tt
 OnErr-always P (Err e) p = p

@@ -7,6 +7,7 @@ use Rattle.ice_base.specs.Host.{SameDisk, Leaves, GaveOnly, FirstOf}
 take_more_of : (xs : List ℕ) (n m : ℕ) → take n xs ++ take m (drop n xs) ≡ take (n + m) xs
 take_more_of xs n m = sym (take-add n m xs)
 
+-- a disk that is as it was twice over is as it was
 pub same_then : (a b c : DiskState) → SameDisk a b → SameDisk b c → SameDisk a c
 same_then a b c v w = record {
   size = w.size ∙ v.size;
@@ -19,9 +20,11 @@ same_then a b c v w = record {
   loose = λ k. w.loose k ∙ v.loose k;
 }
 
+-- a disk is as it is
 pub same_refl : (s : DiskState) → SameDisk s s
 same_refl s = record { size = refl; tells = refl; faults = refl; clock = omega arith; barriers = refl; writes = refl; now = refl; loose = λ k. refl }
 
+-- two gives, one after the other, only gave
 pub gave_then : (a b c : Streams) → GaveOnly a b → GaveOnly b c → GaveOnly a c
 gave_then a b c v w = record { intake = w.intake ∙ v.intake; source_faults = w.source_faults ∙ v.source_faults; faults = omega (arith, v.faults, w.faults) }
 

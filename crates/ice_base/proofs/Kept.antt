@@ -4,9 +4,11 @@ use Rattle.ice_base.specs.Disk.{Image, DiskState, block}
 use Rattle.ice_base.specs.Frames.{Within, Every, RestsOn, Sure, Kept}
 use Rattle.ice_base.specs.Host.{SameDisk}
 
+-- nothing changed where nothing happened
 pub kept_refl : (on : ℕ → Type 0) (s : DiskState) → Kept on s s
 kept_refl on s = record { size = refl; tells = refl; same = λ k here. refl; settled = λ k here was. was }
 
+-- what is kept over two stretches is kept over both
 pub kept_then : (on : ℕ → Type 0) (a b c : DiskState) → Kept on a b → Kept on b c → Kept on a c
 kept_then on a b c v w = record {
   size = w.size ∙ v.size;
@@ -32,5 +34,6 @@ sure_kept on P a b rests kept sure = record {
   now = rests a.now b.now kept.same sure.now;
 }
 
+-- what every image of some blocks has, every image has where these blocks are kept
 pub every_kept : (on : ℕ → Type 0) (P : Image → Type 0) (a b : DiskState) → Kept on a b → Every on a P → Every on b P
 every_kept on P a b kept every i agrees = every i (record { count = agrees.count ∙ kept.size; same = λ k here was. agrees.same k here (kept.settled k here was) ∙ kept.same k here })

@@ -1,13 +1,13 @@
-pub mod Counts
+mod Counts
 pub mod FieldLaws
 pub mod Frame
 pub mod Gives
 pub mod Kept
-pub mod Rests
+mod Rests
 pub mod LotLaws
 pub mod SpareLaws
 pub mod UsedLaws
 pub mod CountLaws
 pub mod PutsLaws
-pub mod HomeLaws
-pub mod MadeLaws
+mod HomeLaws
+mod MadeLaws

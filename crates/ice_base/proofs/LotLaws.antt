@@ -70,6 +70,7 @@ place-apart lot a b l ha hb e =
     (address_cases lot b hb))
     (address_cases lot a ha)
 
+-- an address's home lies in the lot's extent
 pub place-in : (lot : LotView) (a : ℕ) → is_address lot a ≡ true → in_extent lot (place lot a) ≡ true
 unfolding in_extent
 place-in lot a k = ⊎_elim
@@ -81,18 +82,22 @@ place-in lot a k = ⊎_elim
     grind (arith, nat_tests))
     (address_cases lot a k)
 
+-- a lot that fits the disk lies below its size
 pub sited-below : (lot : LotView) (n : ℕ) → is_sited lot n ≡ true → lies_below lot n ≡ true
 unfolding is_sited
 sited-below lot n h = grind (arith, nat_tests)
 
+-- a lot that fits has a group
 pub sited-some : (lot : LotView) (n : ℕ) → is_sited lot n ≡ true → 1 ≤ length lot.groups
 unfolding is_sited
 sited-some lot n h = grind (arith, nat_tests)
 
+-- a lot that fits has at most 64 groups
 pub sited-few : (lot : LotView) (n : ℕ) → is_sited lot n ≡ true → length lot.groups ≤ 64
 unfolding is_sited
 sited-few lot n h = grind (arith, nat_tests)
 
+-- an address's home lies below the disk's size
 pub place-sited : (lot : LotView) (n a : ℕ) → is_sited lot n ≡ true → is_address lot a ≡ true → place lot a < n
 place-sited lot n a h k = place-below lot n a (sited-below lot n h) k
 
@@ -102,6 +107,7 @@ pub is_address_sub : (lot : LotView) → is_address lot sub_address ≡ true
 unfolding is_address
 is_address_sub lot = grind (arith, nat_tests)
 
+-- each number below that of a lot's blocks is an address
 pub is_address_at : (lot : LotView) (a : ℕ) → a < 256 * length lot.groups → is_address lot a ≡ true
 unfolding is_address
 is_address_at lot a h = grind (arith, nat_tests)
@@ -109,6 +115,7 @@ is_address_at lot a h = grind (arith, nat_tests)
 pub bitmap_below : (a n : ℕ) → a < n → 256 * (a / 256) < n
 bitmap_below a n h = omega (arith, div-add-mod' a 256)
 
+-- the bitmap block of an address's group is an address
 pub bitmap_address : (lot : LotView) (a : ℕ) → a < 256 * length lot.groups → is_address lot (256 * (a / 256)) ≡ true
 bitmap_address lot a h = is_address_at lot (256 * (a / 256)) (bitmap_below a (256 * length lot.groups) h)
 
@@ -116,10 +123,12 @@ pub ruleset address_laws = (is_address_sub, is_address_at, bitmap_address, bitma
 
 pub ruleset sited_laws = (sited-below, sited-some, sited-few)
 
+-- the 256 blocks of the slot's area are of the extent
 pub area_in : (lot : LotView) (k : ℕ) → area lot ≤ k → k < area lot + 256 → extent lot k
 unfolding in_extent
 area_in lot k low high = grind (arith, nat_tests)
 
+-- the slot's area lies below the disk's size
 pub area_below : (lot : LotView) (n : ℕ) → lies_below lot n ≡ true → area lot + 256 ≤ n
 unfolding lies_below
 area_below lot n h = grind (arith, nat_tests)
@@ -128,6 +137,7 @@ area_below lot n h = grind (arith, nat_tests)
 pub gate_in : (lot : LotView) → extent lot (gate_place lot)
 gate_in lot = area_in lot (gate_place lot) (omega arith) (omega arith)
 
+-- the journal's header is of the extent
 pub header_in : (lot : LotView) → extent lot (header_place lot)
 header_in lot = area_in lot (header_place lot) (omega arith) (omega arith)
 
@@ -170,6 +180,7 @@ any_index test (x ∷ xs) h =
           (suc found.0, omega (arith, found.1), found.2)
     ] refl
 
+-- a block of the extent is one of the area or of a group
 pub extent_cases : (lot : LotView) (k : ℕ) → extent lot k → ((area lot ≤ k) × (k < area lot + 256)) ⊎ InGroup lot k
 unfolding in_extent
 extent_cases lot k h =

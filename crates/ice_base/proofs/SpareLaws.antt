@@ -6,6 +6,7 @@ pub lacks_two : (held : ℕ → Bool) (a b : ℕ) → lacks held (a ∷ b ∷ []
 unfolding lacks
 lacks_two held a b = grind arith
 
+-- at most two of two addresses lack
 pub lacks_few : (held : ℕ → Bool) (a b n : ℕ) → 2 ≤ n → lacks held (a ∷ b ∷ []) ≤ n
 unfolding lacks
 lacks_few held a b n h = grind arith
@@ -65,6 +66,7 @@ unfolding lacks has
 has-lacks held [] a h = absurd cc
 has-lacks held (b ∷ wide) a h = let r = has-lacks held wide a in grind (arith, nat_tests)
 
+-- no more of two addresses lack than of a list that has both
 pub lacks_part : (held : ℕ → Bool) (wide : List ℕ) (a b : ℕ) → a ≢ b → has wide a ≡ true → has wide b ≡ true → lacks held (a ∷ b ∷ []) ≤ lacks held wide
 unfolding lacks has
 lacks_part held [] a b ne h k = absurd cc
@@ -74,11 +76,13 @@ lacks_part held (c ∷ wide) a b ne h k =
     let q = has-lacks held wide b in
     grind (arith, nat_tests)
 
+-- each group's bitmap block is among the bitmap blocks
 pub has-bitmaps : (n o : ℕ) → o < n → has (bitmaps n) (256 * o) ≡ true
 unfolding has bitmaps
 has-bitmaps zero o h = absurd (omega arith)
 has-bitmaps (suc n) o h = let r = has-bitmaps n o in grind (arith, nat_tests)
 
+-- no more bitmap blocks lack than there are groups
 pub lacks-bitmaps : (held : ℕ → Bool) (n : ℕ) → lacks held (bitmaps n) ≤ n
 unfolding lacks bitmaps
 lacks-bitmaps held zero = omega arith

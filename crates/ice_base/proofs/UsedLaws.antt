@@ -10,10 +10,12 @@ pub group_div : (inodes : Bool) (o i : ℕ) → i < bits_of inodes → (bits_of 
 group_div true o i h = omega (arith, div-add-mod' (64 * o + i) 64, mod_below (64 * o + i) 64)
 group_div false o i h = omega (arith, div-add-mod' (256 * o + i) 256, mod_below (256 * o + i) 256)
 
+-- a number's place in its group
 pub group_mod : (inodes : Bool) (o i : ℕ) → i < bits_of inodes → (bits_of inodes * o + i) % bits_of inodes ≡ i
 group_mod true o i h = omega (arith, div-add-mod' (64 * o + i) 64, mod_below (64 * o + i) 64)
 group_mod false o i h = omega (arith, div-add-mod' (256 * o + i) 256, mod_below (256 * o + i) 256)
 
+-- a number is used as the bit of its bitmap block says
 pub used-bit : (inodes : Bool) (map : ℕ → List ℕ) (i : ℕ) → used inodes map i ≡ bit_of (map (bitmap_of inodes i)) (bit_place inodes i)
 unfolding used
 used-bit inodes map i = refl
@@ -81,6 +83,7 @@ group_below false o i n h k = omega arith
 pub group_of : (inodes : Bool) (o i : ℕ) → i < bits_of inodes → bitmap_of inodes (bits_of inodes * o + i) ≡ 256 * o
 group_of inodes o i h = ap (λ x. 256 * x) (group_div inodes o i h)
 
+-- a number's group is one of the lot's
 pub ordinal_below : (inodes : Bool) (i n : ℕ) → i < bits_of inodes * n → i / bits_of inodes < n
 ordinal_below true i n h = div_below i 64 n (omega arith) (omega arith)
 ordinal_below false i n h = div_below i 256 n (omega arith) (omega arith)
@@ -154,14 +157,17 @@ bit_keeps inodes v m0 m1 block i bits at only b =
           ap (λ x. bit_of x (bit_place (not inodes) b)) (only (bitmap_of (not inodes) b) (bitmap_not_sub (b / bits_of (not inodes))) ne)
     ] refl
 
+-- from the tenth block of a group on there are data places
 pub data_of : (lot : LotView) (a : ℕ) → a < 256 * length lot.groups → 9 ≤ a % 256 → is_data lot a ≡ true
 unfolding is_data
 data_of lot a h p = grind (arith, nat_tests)
 
+-- a data place is one of the lot's blocks
 pub data_below : (lot : LotView) (a : ℕ) → is_data lot a ≡ true → a < 256 * length lot.groups
 unfolding is_data
 data_below lot a h = grind (arith, nat_tests)
 
+-- a data place is none of the first nine blocks of its group
 pub data_place : (lot : LotView) (a : ℕ) → is_data lot a ≡ true → 9 ≤ a % 256
 unfolding is_data
 data_place lot a h = grind (arith, nat_tests)

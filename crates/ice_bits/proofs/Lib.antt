@@ -1,1 +1,1 @@
-pub mod BitLaws
+mod BitLaws

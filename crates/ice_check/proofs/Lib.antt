@@ -1,12 +1,12 @@
-pub mod ShownLaws
-pub mod MarkLaws
-pub mod BitLaws
-pub mod LookLaws
-pub mod NameLaws
-pub mod VisitLaws
-pub mod EntryLaws
-pub mod Checks
-pub mod Walking
-pub mod Ends
-pub mod AgreeLaws
-pub mod WholeLaws
+mod ShownLaws
+mod MarkLaws
+mod BitLaws
+mod LookLaws
+mod NameLaws
+mod VisitLaws
+mod EntryLaws
+mod Checks
+mod Walking
+mod Ends
+mod AgreeLaws
+mod WholeLaws

@@ -1,6 +1,6 @@
-pub mod RowLaws
+mod RowLaws
 pub mod DirLaws
-pub mod SetLaws
+mod SetLaws
 pub mod PutLaws
-pub mod TakeLaws
-pub mod FaultLaws
+mod TakeLaws
+mod FaultLaws

@@ -1,11 +1,11 @@
 pub mod ByteLaws
 pub mod OwnLaws
 pub mod MoveLaws
-pub mod DueLaws
-pub mod PieceLaws
+mod DueLaws
+mod PieceLaws
 pub mod WriteLaws
 pub mod GrowthLaws
 pub mod SetLaws
 pub mod CutLaws
-pub mod FileLaws
+mod FileLaws
 pub mod DamageLaws

@@ -1,1 +1,1 @@
-pub mod JournalLaws
+mod JournalLaws

@@ -1,2 +1,2 @@
-pub mod ThroughLaws
-pub mod ListLaws
+mod ThroughLaws
+mod ListLaws

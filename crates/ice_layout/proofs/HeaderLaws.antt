@@ -155,6 +155,7 @@ few-slot lot header ts e =
     let i = if-some (word_at header 0 == slot_magic && slice_index header 4 == lot.slot) (targets_of 240 (is_address lot) header (word_at header 8)) ts e in
     (found-number _ _ _ _ ts (found 240 (is_address lot) header (word_at header 8) ts i.1)).1
 
+-- a header of the tables that is accepted has at most eight targets
 pub few-system : (header ts : List ℕ) → system_targets header ≡ Some ts → length ts ≤ 8
 unfolding system_targets
 few-system header ts e =
@@ -275,6 +276,7 @@ no-header : (o : Option (List ℕ)) → option_map (λ ts. header_with ts) o ≡
 no-header None e = refl
 no-header (Some ts) e = absurd (cc e)
 
+-- a refused header names no targets
 pub no_targets : (lot : LotView) (bytes : List ℕ) → None ≡ header_of lot bytes → slot_targets lot bytes ≡ None
 no_targets lot bytes e = no-header (slot_targets lot bytes) (sym e)
 

@@ -1,4 +1,4 @@
 pub mod HeaderLaws
 pub mod HeaderRows
-pub mod SubLaws
+mod SubLaws
 pub mod SuperLaws

@@ -21,6 +21,7 @@ zeros_at zero k = refl
 zeros_at (suc n) zero = refl
 zeros_at (suc n) (suc k) = zeros_at n k
 
+-- each byte of the zero block is 0
 pub zero_at : (k : ℕ) → slice_index zero_block k ≡ 0
 zero_at k = zeros_at 1024 k
 

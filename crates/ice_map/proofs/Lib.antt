@@ -1,12 +1,12 @@
-pub mod CodecLaws
-pub mod InodeLaws
+mod CodecLaws
+mod InodeLaws
 pub mod ListLaws
 pub mod MarkLaws
 pub mod MapLaws
 pub mod PutsLaws
-pub mod FailLaws
+mod FailLaws
 pub mod CutLaws
 pub mod DamageLaws
 pub mod UsesLaws
 pub mod GrowLaws
-pub mod ShortLaws
+mod ShortLaws

@@ -1,3 +1,3 @@
-pub mod Texts
-pub mod Faults
+mod Texts
+mod Faults
 pub mod Prefixes

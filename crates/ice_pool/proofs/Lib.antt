@@ -1,1 +1,1 @@
-pub mod EitherLaws
+mod EitherLaws

@@ -6,10 +6,10 @@ pub mod Losses
 pub mod Moves
 pub mod Numbers
 pub mod Sorted
-pub mod Unique
+mod Unique
 pub mod Walks
-pub mod Rests
+mod Rests
 pub mod Recovering
-pub mod FreshBits
+mod FreshBits
 pub mod FreshLots
 pub mod UsedCosts

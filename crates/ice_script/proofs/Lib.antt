@@ -1,3 +1,3 @@
 pub mod Kept
-pub mod Only
-pub mod Tokens
+mod Only
+mod Tokens

@@ -4,14 +4,14 @@ pub mod Lengths
 pub mod Quotas
 pub mod SubLaws
 pub mod Keeps
-pub mod Still
+mod Still
 pub mod Takes
 pub mod Made
 pub mod Walks
-pub mod Others
-pub mod Sets
+mod Others
+mod Sets
 pub mod Files
-pub mod Rows
+mod Rows
 pub mod Losses
 pub mod Fresh
 pub mod Cuts

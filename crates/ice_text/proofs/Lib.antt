@@ -1,5 +1,5 @@
 pub mod Closings
-pub mod Endings
-pub mod Laws
-pub mod Whole
-pub mod Items
+mod Endings
+mod Laws
+mod Whole
+mod Items

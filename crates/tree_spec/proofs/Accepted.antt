@@ -16,10 +16,12 @@ Names = List (List ℕ)
 
 -- ---- tests that fail
 
+-- of two tests of which none holds the first fails
 pub first_false : (a b : Bool) → (a || b) ≡ false → a ≡ false
 first_false true b h = absurd (subst T h tt)
 first_false false b h = refl
 
+-- of two tests of which none holds the second fails
 pub second_false : (a b : Bool) → (a || b) ≡ false → b ≡ false
 second_false true b h = absurd (subst T h tt)
 second_false false b h = h
@@ -33,6 +35,7 @@ pub and_given : (a b : Bool) → (a && b) ≡ false → a ≡ true → b ≡ fal
 and_given true b h e = h
 and_given false b h e = absurd (subst T (sym e) tt)
 
+-- what is not less is at least as much
 pub at_most : (x y : ℕ) → nat_lt x y ≡ false → y ≤ x
 at_most x y h = grind (arith, nat_tests)
 
@@ -57,13 +60,16 @@ pub walk-last : (p : Names) (t : Tree) → is_root p ≡ false → walk p t ≡ 
 walk-last [] t h = absurd (subst T h tt)
 walk-last (c ∷ p) t h = ap (λ q. walk q t) (sym (parent-last c p)) ∙ walk-append (parent (c ∷ p)) (last_name (c ∷ p) ∷ []) t
 
+-- a parent's path is one name shorter
 pub length-parent : (p : Names) → is_root p ≡ false → length (parent p) + 1 ≡ length p
 length-parent [] h = absurd (subst T h tt)
 length-parent (c ∷ p) h = omega (arith, ap length (parent-last c p), length-append (parent (c ∷ p)) (last_name (c ∷ p) ∷ []))
 
+-- the walk ends at a directory
 abbrev pub IsDirWalk : Walk → Type 0
 IsDirWalk w = (es : Entries) × (w ≡ Found (Dir es))
 
+-- a walk that finds a directory ends at one
 pub dir_walk : (w : Walk) → is_not_found (needs_dir w) ≡ false → is_not_dir (needs_dir w) ≡ false → IsDirWalk w
 dir_walk (Found (File bytes)) h k = absurd (subst T k tt)
 dir_walk (Found (Dir es)) h k = (es, refl)
@@ -73,6 +79,7 @@ dir_walk NotDir h k = absurd (subst T k tt)
 abbrev pub IsTreeWalk : Walk → Type 0
 IsTreeWalk w = (v : Tree) × (w ≡ Found v)
 
+-- a walk that is not refused ends at a file or directory
 pub tree_walk : (w : Walk) → is_not_found w ≡ false → is_not_dir w ≡ false → IsTreeWalk w
 tree_walk (Found v) h k = (v, refl)
 tree_walk NotFound h k = absurd (subst T h tt)
@@ -128,11 +135,13 @@ has_entry p t v r h =
 -- ---- what each accepted operation found
 
 module _ (t : Tree) (done n : ℕ) (f : Form) where
+  -- an accepted mkdir has a place
   pub accepted-mkdir : (p : Names) → refusal t done n f (Mkdir p) ≡ None → HasPlace p t
   accepted-mkdir p h =
       let d = dir_walk (walk (parent p) t) (first_false _ _ (refusal-none t done n f (Mkdir p) why.NotFound h)) (first_false _ _ (first_false _ _ (refusal-none t done n f (Mkdir p) why.NotDir h))) in
       has_place p t d.0 (refusal-none t done n f (Mkdir p) why.IsRoot h) d.1 (refusal-none t done n f (Mkdir p) why.Exists h)
 
+  -- an accepted make has a place
   pub accepted-make : (p : Names) → refusal t done n f (Make p) ≡ None → HasPlace p t
   accepted-make p h =
       let d = dir_walk (walk (parent p) t) (first_false _ _ (refusal-none t done n f (Make p) why.NotFound h)) (first_false _ _ (first_false _ _ (refusal-none t done n f (Make p) why.NotDir h))) in
@@ -155,6 +164,7 @@ module _ (t : Tree) (done n : ℕ) (f : Form) where
     pub within : off ≤ length old
     pub small : off + length bytes ≤ f.longest_file
 
+  -- an accepted write has a file that it fits
   pub accepted-write : (p : Names) (off : ℕ) (bytes : List ℕ) → refusal t done n f (Write p off bytes) ≡ None → WritesFile p off bytes
   accepted-write p off bytes h =
       let op = Write p off bytes in
@@ -172,6 +182,7 @@ module _ (t : Tree) (done n : ℕ) (f : Form) where
     pub found : walk p t ≡ Found (File old)
     pub within : len ≤ length old
 
+  -- an accepted cut has a file of so many bytes
   pub accepted-trunc : (p : Names) (len : ℕ) → refusal t done n f (Trunc p len) ≡ None → CutsFile p len
   accepted-trunc p len h =
       let op = Trunc p len in
@@ -184,6 +195,7 @@ module _ (t : Tree) (done n : ℕ) (f : Form) where
     pub entry : HasEntry p t gone
     pub empty : is_full_found (Found gone) ≡ false
 
+  -- an accepted removal has something that may go
   pub accepted-remove : (p : Names) → refusal t done n f (Remove p) ≡ None → Removes p
   accepted-remove p h =
       let op = Remove p in

@@ -125,6 +125,7 @@ module _ (t : Tree) (done n : ℕ) (f : Form) (p q : Names) (h : refusal t done 
   abbrev op : Operation
   op = Rename p q
 
+  -- an accepted rename has what moves, and a place for it
   pub accepted-rename : Moves p q t
   accepted-rename =
       let missing = refusal-none t done n f op why.NotFound h in

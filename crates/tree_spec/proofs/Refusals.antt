@@ -131,9 +131,11 @@ module _ (t : Tree) (done n : ℕ) (f : Form) (op : Operation) where
       few : (z : Bool) → nat_lt y x ≡ z → z ≡ false → x ≤ y
       few z i j = grind (arith, nat_tests)
 
+  -- an accepted change leaves no more nodes than the quota
   pub nodes-next : refusal t done n f op ≡ None → is_change op ≡ true → nodes (next_tree op t) ≤ node_quota n
   nodes-next h c = within (is_change op) (nodes (next_tree op t)) (node_quota n) c (refusal-none why.NoNodes h)
 
+  -- an accepted change leaves no more blocks than the quota
   pub blocks-next : refusal t done n f op ≡ None → is_change op ≡ true → blocks f (next_tree op t) ≤ block_quota n
   blocks-next h c = within (is_change op) (blocks f (next_tree op t)) (block_quota n) c (refusal-none why.NoSpace h)
 

@@ -19,6 +19,7 @@ some_same t u e = cc
 
 -- ---- the number of entries
 
+-- an entry put over another leaves as many
 pub length-over : (c : List ℕ) (g : Tree → Tree) (es : Entries) → length (rows (over_entry c g es)) ≡ length (rows es)
 length-over c g Nil = refl
 length-over c g (Entry d t es) = elim (is_same_name c d) as (λ b. length (rows (cond b (Entry d (g t) es) (Entry d t (over_entry c g es)))) ≡ suc (length (rows es))) [ true ↦ refl | false ↦ ap suc (length-over c g es) ]
@@ -158,6 +159,7 @@ less_differs Greater p = absurd p
 other : (c d x : List ℕ) → is_same_name c d ≡ true → T (is_lt (by_bytes d x)) → is_same_name c x ≡ false
 other c d x e h = ap (λ y. is_same_name y x) (same_name c d e) ∙ less_differs (by_bytes d x) h
 
+-- taking out a name that comes before all leaves all
 pub no_later : (c d : List ℕ) (es : Entries) → is_same_name c d ≡ true → T (below_all by_bytes d (rows es)) → without c es ≡ es
 no_later c d Nil e h = refl
 no_later c d (Entry x t es) e h =

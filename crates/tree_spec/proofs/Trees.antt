@@ -13,10 +13,12 @@ use Rattle.tree_spec.specs.Routes.{is_prefix, is_same_name}
 
 -- ---- entries as lists
 
+-- entries made of rows have these rows
 pub rows-from_rows : (es : List (List ℕ × Tree)) → rows (from_rows es) ≡ es
 rows-from_rows [] = refl
 rows-from_rows (e ∷ es) = ap (λ xs. e ∷ xs) (rows-from_rows es)
 
+-- the rows of entries make these entries
 pub from_rows-rows : (es : Entries) → from_rows (rows es) ≡ es
 from_rows-rows Nil = refl
 from_rows-rows (Entry c t es) = ap (λ xs. Entry c t xs) (from_rows-rows es)
@@ -37,9 +39,11 @@ tie Greater e = absurd (subst T (sym e) tt)
 pub same_name : (c d : List ℕ) → is_same_name c d ≡ true → c ≡ d
 same_name c d e = slice_cmp-IsAntisymmetric nat_cmp-IsAntisymmetric c d (tie (by_bytes c d) e)
 
+-- a name is the same as itself
 pub is_same_name-refl : (c : List ℕ) → is_same_name c c ≡ true
 is_same_name-refl c = (eq_by_cmp_equiv nat_list_cmp_total).refl c
 
+-- two names are the same either way
 pub is_same_name-sym : (c d : List ℕ) → is_same_name c d ≡ is_same_name d c
 is_same_name-sym c d = (eq_by_cmp_equiv nat_list_cmp_total).symm c d
 
@@ -73,6 +77,7 @@ gone_cond false o = refl
 pub child-with_entry : (c d : List ℕ) (s : Tree) (es : Entries) → child d (with_entry c s (Dir es)) ≡ cond (is_same_name d c) (Found s) (child d (Dir es))
 child-with_entry c d s es = ap found_or_not (find-with c d s es) ∙ found_cond (is_same_name d c) s (find by_bytes d (rows es))
 
+-- a child of a directory without one entry
 pub child-without_entry : (c d : List ℕ) (es : Entries) → child d (without_entry c (Dir es)) ≡ cond (is_same_name c d) NotFound (child d (Dir es))
 child-without_entry c d es = ap found_or_not (find-without c d es) ∙ gone_cond (is_same_name c d) (find by_bytes d (rows es))
 
@@ -103,6 +108,7 @@ on_found g (Found t) = Found (g t)
 on_found g NotFound = NotFound
 on_found g NotDir = NotDir
 
+-- what is there is changed, and nothing else
 abbrev pub on_some : (Tree → Tree) → Option Tree → Option Tree
 on_some g None = None
 on_some g (Some t) = Some (g t)
