@@ -136,6 +136,7 @@ impl<D: Disk> View<D> for ListKeep {
 
 impl<D: Disk> Keep<D> for ListKeep {
     fn put(&mut self, disk: &mut D, lot: &Lot, at: u32, from: &Block) -> Result<(), BlockFault> {
+        // This call tells the prover that the disk has fewer than 2^32 blocks.
         let _ = disk.blocks();
         match lot.place(at) {
             None => Err(BlockFault::Range),
