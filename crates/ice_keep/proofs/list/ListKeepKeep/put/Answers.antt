@@ -21,12 +21,12 @@ returns-in-Some-clause-puts g c =
     let w = c.put.new.self in
     let is : c.self.inside.set ≡ v = c.self.view_is in
     let map : (a : ℕ) → over w.entries m a ≡ cond (at == a) c.args.from.now (over v.entries m a) =
-        λ a. c.put.ensures.map m a ∙ ap (λ (x : SetView). cond (at == a) c.args.from.now (over x.entries m a)) is in
+    λ a. c.put.ensures.map m a ∙ ap (λ (x : SetView). cond (at == a) c.args.from.now (over x.entries m a)) is in
     let has : (a : ℕ) → holds w.entries a ≡ cond (at == a) true (holds v.entries a) =
-        λ a. c.put.ensures.holds a ∙ ap (λ (x : SetView). cond (at == a) true (holds x.entries a)) is in
+    λ a. c.put.ensures.holds a ∙ ap (λ (x : SetView). cond (at == a) true (holds x.entries a)) is in
     let most : w.most ≡ v.most = c.put.ensures.most ∙ ap (λ (x : SetView). x.most) is in
     let count : length w.entries ≡ length v.entries + cond (holds v.entries at) 0 1 =
-        c.put.ensures.count ∙ ap (λ (x : SetView). length x.entries + cond (holds x.entries at) 0 1) is in
+    c.put.ensures.count ∙ ap (λ (x : SetView). length x.entries + cond (holds x.entries at) 0 1) is in
     record {
       only = λ a ne. inside_same c.args.lot.now (over v.entries m) (over w.entries m) a
           (λ is. put_else (over v.entries m) (over w.entries m) at a c.args.from.now ne (map a));
