@@ -250,7 +250,7 @@ impl Disk for MemHost {
 
     ghost agrees_now = { λ m image out left.
         let is = holds_now (past_of m.first.items m.steps.items) m.calls m.remembered m.blocks.items m.loose.items
-            m.output.items m.linked image out left in
+        m.output.items m.linked image out left in
         (record { count = is.0; same = λ k inside flag. is.1 k flag }, is.2) };
 
     ghost counts_now = { λ m t tells le. may_leave_now (past_of m.first.items m.steps.items) m.calls m.remembered
