@@ -1,6 +1,6 @@
 -- What is known of a host over a file.
 use Rattle.std.specs.Prelude.{◌≡◌, ℕ, ◌<◌, ◌^◌, Bool, false, List, []}
-use Rattle.ice_base.specs.Disk.{Image, DiskState}
+use Rattle.ice_base.specs.Disk.{Image, DiskState, untold}
 
 -- The number of whole blocks, and how often each kind of call failed; the bytes given that are held back, and whether sending
 -- such bytes has ever failed.
@@ -28,17 +28,7 @@ pub record SameKnown (old new : Known) : Type 0 where
 
 -- a disk that tells nothing of its content
 abbrev pub silent_state : Known → DiskState
-silent_state c = record {
-  size = c.blocks;
-  faults = c.disk_faults;
-  streams = record { aside = []; intake = []; source_faults = c.source_faults; sink_faults = c.sink_faults };
-  tells = false;
-  now = [];
-  loose = λ k. false;
-  clock = 0;
-  barriers = 0;
-  writes = 0;
-}
+silent_state c = untold c.blocks c.disk_faults c.source_faults c.sink_faults
 
 -- of which no crash image is told
 abbrev pub silent_left : Known → ℕ → Image → List ℕ → Type 0

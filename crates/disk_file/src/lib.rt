@@ -60,7 +60,15 @@ impl Model for FileHost {
 
     ghost Value = { Known };
 
-    ghost view = { λ h. record { blocks = h.blocks; fits = h.fits; disk_faults = h.disk_faults; source_faults = h.source_faults; sink_faults = h.sink_faults; held = writer_buffer h.output.output; lost = h.output.lost } };
+    ghost view = { λ h. record {
+      blocks = h.blocks;
+      fits = h.fits;
+      disk_faults = h.disk_faults;
+      source_faults = h.source_faults;
+      sink_faults = h.sink_faults;
+      held = writer_buffer h.output.output;
+      lost = h.output.lost;
+    } };
 }
 
 fn open_fault(error: io::Error) -> OpenFault
@@ -257,7 +265,8 @@ impl Disk for FileHost {
         ensures cause { HasCause (silent_state self.old) (silent_state self.new) result }
         ensures calm { OnOk result ((silent_state self.new).faults ≡ (silent_state self.old).faults) }
         ensures bytes { (silent_state self.old).tells ≡ true → OnOk result (block (silent_state self.new).now at ≡ from.now) }
-        ensures counts { (silent_state self.old).tells ≡ true → WriteCounts at (is_ok result) (silent_state self.old) (silent_state self.new) }
+        ensures counts { (silent_state self.old).tells ≡ true
+            → WriteCounts at (is_ok result) (silent_state self.old) (silent_state self.new) }
         ensures sent { self.new.lost ≡ false → self.new.held ≡ [] }
         ensures lost { OnOk result (self.new.lost ≡ false) }
         ensures before { self.old.lost ≡ true → self.new.lost ≡ true }
@@ -276,7 +285,8 @@ impl Disk for FileHost {
         ensures within { Within silent_state silent_left Nowhere self.old self.new }
         ensures cause { HasCause (silent_state self.old) (silent_state self.new) result }
         ensures calm { OnOk result ((silent_state self.new).faults ≡ (silent_state self.old).faults) }
-        ensures counts { (silent_state self.old).tells ≡ true → BarrierCounts (is_ok result) (silent_state self.old) (silent_state self.new) }
+        ensures counts { (silent_state self.old).tells ≡ true
+            → BarrierCounts (is_ok result) (silent_state self.old) (silent_state self.new) }
         ensures sent { self.new.lost ≡ false → self.new.held ≡ [] }
         ensures lost { OnOk result (self.new.lost ≡ false) }
         ensures before { self.old.lost ≡ true → self.new.lost ≡ true }
@@ -317,7 +327,8 @@ impl Host for FileHost {
         requires { 0 < length bytes.now }
         ensures disk { SameDisk (silent_state self.old) (silent_state self.new) }
         ensures ticks { (silent_state self.old).tells ≡ true → Rose (silent_state self.old).clock (silent_state self.new).clock }
-        ensures leaves { Leaves silent_state silent_left (FirstOf (silent_state self.old).streams.aside bytes.now (moved_count result)) self.old self.new }
+        ensures leaves { Leaves silent_state silent_left
+            (FirstOf (silent_state self.old).streams.aside bytes.now (moved_count result)) self.old self.new }
         ensures gives { Gives (silent_state self.old).tells (silent_state self.old).streams (silent_state self.new).streams bytes.now result }
         ensures calm { OnOk result ((silent_state self.new).streams.sink_faults ≡ (silent_state self.old).streams.sink_faults) }
         ensures lost { IsErr result ↔ self.new.lost ≡ true }

@@ -33,7 +33,9 @@ impl<W: Write + Drop> Sink<W> {
     pub(crate) fn give(&mut self, bytes: &[u8]) -> Option<usize>
         ensures some { IfSome result (λ n. 0 < n) }
         ensures count { IfSome result (λ n. n ≤ length bytes.now) }
-        ensures order { MatchOption result (Keeps (writer_contents W.contents self.old.output) (writer_contents W.contents self.new.output)) (λ n. Appends (writer_contents W.contents self.old.output) (writer_contents W.contents self.new.output) (take n bytes.now)) }
+        ensures order { MatchOption result
+            (Keeps (writer_contents W.contents self.old.output) (writer_contents W.contents self.new.output))
+            (λ n. Appends (writer_contents W.contents self.old.output) (writer_contents W.contents self.new.output) (take n bytes.now)) }
         ensures lost { MatchOption result (self.new.lost ≡ true) (λ n. self.new.lost ≡ false) }
         ensures before { self.old.lost ≡ true → IsNone result }
     {

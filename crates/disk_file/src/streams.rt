@@ -12,7 +12,9 @@ const TRIES: u32 = 1000;
 pub(crate) fn take_piece<R: Read>(input: &mut R, into: &mut [u8]) -> Option<usize>
     requires { 0 < length into.old }
     ensures count { IfSome result (λ n. n ≤ length into.new) }
-    ensures order { MatchOption result (Keeps (R.remaining input.old) (R.remaining input.new)) (λ n. Consumes (R.remaining input.old) (R.remaining input.new) (take n into.new)) }
+    ensures order { MatchOption result
+        (Keeps (R.remaining input.old) (R.remaining input.new))
+        (λ n. Consumes (R.remaining input.old) (R.remaining input.new) (take n into.new)) }
     ensures end { IfSome result (λ n. n ≡ 0 → IsAtEnd (R.remaining input.new)) }
 {
     for _ in 0..TRIES {
@@ -30,7 +32,9 @@ pub(crate) fn take_piece<R: Read>(input: &mut R, into: &mut [u8]) -> Option<usiz
 pub(crate) fn give_piece<W: Write>(output: &mut W, bytes: &[u8]) -> Option<usize>
     ensures some { IfSome result (λ n. 0 < n) }
     ensures count { IfSome result (λ n. n ≤ length bytes.now) }
-    ensures order { MatchOption result (Keeps (W.contents output.old) (W.contents output.new)) (λ n. Appends (W.contents output.old) (W.contents output.new) (take n bytes.now)) }
+    ensures order { MatchOption result
+        (Keeps (W.contents output.old) (W.contents output.new))
+        (λ n. Appends (W.contents output.old) (W.contents output.new) (take n bytes.now)) }
 {
     for _ in 0..TRIES {
         match output.write(bytes) {

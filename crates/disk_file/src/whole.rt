@@ -33,7 +33,8 @@ pub(crate) trait Places {
     fn write_piece(&mut self, bytes: &[u8], from: u64) -> io::Result<usize>
         ensures count { IfOk result (λ n. n ≤ length bytes.now) }
         ensures here { tells self.old ≡ true → IfOk result (λ n. (j : ℕ) → j < n → byte self.new (from + j) ≡ slice_index bytes.now j) }
-        ensures others { tells self.old ≡ true → IfOk result (λ n. (k : ℕ) → (k < from) ⊎ (from + n ≤ k) → byte self.new k ≡ byte self.old k) }
+        ensures others { tells self.old ≡ true
+            → IfOk result (λ n. (k : ℕ) → (k < from) ⊎ (from + n ≤ k) → byte self.new k ≡ byte self.old k) }
         ensures none { tells self.old ≡ true → OnErr result ((k : ℕ) → byte self.new k ≡ byte self.old k) }
         ensures still { tells self.new ≡ tells self.old };
 }
@@ -54,7 +55,8 @@ impl Places for File {
 
 /// Reads the bytes of a block. After an `Err` any bytes may stand in `into`.
 pub(crate) fn read_whole<F: Places>(file: &mut F, at: u32, into: &mut Block) -> io::Result<()>
-    ensures bytes { F.tells file.old ≡ true → OnOk result ((j : ℕ) → j < 1024 → slice_index into.new j ≡ F.byte file.old (1024 * at + j)) }
+    ensures bytes { F.tells file.old ≡ true
+        → OnOk result ((j : ℕ) → j < 1024 → slice_index into.new j ≡ F.byte file.old (1024 * at + j)) }
     ensures same { (k : ℕ) → F.byte file.new k ≡ F.byte file.old k }
 {
     let start = u64::from(at) * BLOCK_BYTES;
@@ -75,8 +77,10 @@ pub(crate) fn read_whole<F: Places>(file: &mut F, at: u32, into: &mut Block) -> 
 
 /// Writes the bytes of a block. After an `Err` any bytes may stand there; no others change.
 pub(crate) fn write_whole<F: Places>(file: &mut F, at: u32, from: &Block) -> io::Result<()>
-    ensures bytes { F.tells file.old ≡ true → OnOk result ((j : ℕ) → j < 1024 → F.byte file.new (1024 * at + j) ≡ slice_index from.now j) }
-    ensures others { F.tells file.old ≡ true → (k : ℕ) → (k < 1024 * at) ⊎ (1024 * at + 1024 ≤ k) → F.byte file.new k ≡ F.byte file.old k }
+    ensures bytes { F.tells file.old ≡ true
+        → OnOk result ((j : ℕ) → j < 1024 → F.byte file.new (1024 * at + j) ≡ slice_index from.now j) }
+    ensures others { F.tells file.old ≡ true → (k : ℕ) → (k < 1024 * at) ⊎ (1024 * at + 1024 ≤ k)
+        → F.byte file.new k ≡ F.byte file.old k }
 {
     let start = u64::from(at) * BLOCK_BYTES;
     let mut done = 0;

@@ -143,7 +143,8 @@ impl Replay {
     pub fn fill_loose(&mut self, fill: u64)
         requires { length self.old.blocks.items < 2 ^ 32 }
         ensures count { length self.new.blocks.items ≡ length self.old.blocks.items }
-        ensures settled { (k : ℕ) → slice_index_or self.old.loose.items k false ≡ false → block self.new.blocks.items k ≡ block self.old.blocks.items k }
+        ensures settled { (k : ℕ) → slice_index_or self.old.loose.items k false ≡ false
+            → block self.new.blocks.items k ≡ block self.old.blocks.items k }
         ensures loose { (k : ℕ) → slice_index_or self.old.loose.items k false ≡ true
             → Filled fill k (block self.old.settled.items k) (block self.old.blocks.items k) (block self.new.blocks.items k) }
     {
@@ -159,7 +160,8 @@ impl Replay {
         ensures flags { self.new.loose.items ≡ self.old.loose.items }
         ensures old { self.new.settled.items ≡ self.old.settled.items }
         ensures count { length self.new.blocks.items ≡ length self.old.blocks.items }
-        ensures settled { slice_index_or self.old.loose.items k false ≡ false → block self.new.blocks.items k ≡ block self.old.blocks.items k }
+        ensures settled { slice_index_or self.old.loose.items k false ≡ false
+            → block self.new.blocks.items k ≡ block self.old.blocks.items k }
         ensures others { (j : ℕ) → ¬ (j ≡ k) → block self.new.blocks.items j ≡ block self.old.blocks.items j }
         ensures loose { slice_index_or self.old.loose.items k false ≡ true
             → Filled fill k (block self.old.settled.items k) (block self.old.blocks.items k) (block self.new.blocks.items k) }

@@ -94,7 +94,8 @@ impl MemHost {
     pub fn reserve(&mut self, calls: u32, bytes: u32) -> Result<(), AllocError>
         ensures calls { OnOk result (calls ≤ (memory self.new).room) }
         ensures bytes { OnOk result (bytes ≤ (memory self.new).room_bytes) }
-        ensures rest { memory self.new ≡ record (memory self.old) { room = (memory self.new).room; room_bytes = (memory self.new).room_bytes } }
+        ensures rest { memory self.new
+            ≡ record (memory self.old) { room = (memory self.new).room; room_bytes = (memory self.new).room_bytes } }
         ensures less { ((memory self.old).room ≤ (memory self.new).room) × ((memory self.old).room_bytes ≤ (memory self.new).room_bytes) }
         ensures same { OnErr result (memory self.new ≡ memory self.old) }
     {
@@ -205,7 +206,8 @@ impl MemHost {
     pub fn crashed(&self, alloc: Global, moment: u64, fill: u64) -> Result<MemHost, AllocError>
         requires { moment ≤ (memory self.now).calls }
         ensures new { IfOk result (λ m. IsNew (memory m).blocks (memory m)) }
-        ensures left { IfOk result (λ m. left_by self.now moment (memory m).blocks (take ((memory self.now).past moment).given (memory self.now).output)) }
+        ensures left { IfOk result (λ m. left_by self.now moment (memory m).blocks
+            (take ((memory self.now).past moment).given (memory self.now).output)) }
         ensures filled { IfOk result (λ m. LeavesFilled fill ((memory self.now).past moment) (memory m).blocks) }
         // Where the record of a failed write found no memory, there is none for a crash after it.
         ensures remembered { OnOk result (moment ≤ (memory self.now).remembered) }
@@ -246,9 +248,13 @@ impl Disk for MemHost {
 
     ghost left = { left_by };
 
-    ghost agrees_now = { λ m image out left. let is = holds_now (past_of m.first.items m.steps.items) m.calls m.remembered m.blocks.items m.loose.items m.output.items m.linked image out left in (record { count = is.0; same = λ k inside flag. is.1 k flag }, is.2) };
+    ghost agrees_now = { λ m image out left.
+        let is = holds_now (past_of m.first.items m.steps.items) m.calls m.remembered m.blocks.items m.loose.items
+        m.output.items m.linked image out left in
+        (record { count = is.0; same = λ k inside flag. is.1 k flag }, is.2) };
 
-    ghost counts_now = { λ m t tells le. may_leave_now (past_of m.first.items m.steps.items) m.calls m.remembered m.blocks.items m.loose.items m.output.items m.linked t le };
+    ghost counts_now = { λ m t tells le. may_leave_now (past_of m.first.items m.steps.items) m.calls m.remembered
+        m.blocks.items m.loose.items m.output.items m.linked t le };
 
     ghost small = { λ m. m.few };
 
@@ -295,7 +301,8 @@ impl Disk for MemHost {
         ensures counts { (told_by self.old).tells ≡ true → WriteCounts at (is_ok result) (told_by self.old) (told_by self.new) }
         ensures fails { Obeys (Planned (memory self.old)) (0 < (memory self.old).room) result }
         ensures kept { OnErr result ((memory self.new).blocks ≡ (memory self.old).blocks) }
-        ensures faults { (memory self.new).disk_faults ≡ (if is_ok result then (memory self.old).disk_faults else next (memory self.old).disk_faults) }
+        ensures faults { (memory self.new).disk_faults
+            ≡ (if is_ok result then (memory self.old).disk_faults else next (memory self.old).disk_faults) }
         ensures ticks { Ticks (memory self.old) (memory self.new) }
         ensures spends { Spends 0 (memory self.old) (memory self.new) }
         ensures past { KeepsPast (memory self.old) (memory self.new) }
@@ -351,7 +358,8 @@ impl Disk for MemHost {
         ensures calm { OnOk result ((told_by self.new).faults ≡ (told_by self.old).faults) }
         ensures counts { (told_by self.old).tells ≡ true → BarrierCounts (is_ok result) (told_by self.old) (told_by self.new) }
         ensures fails { Obeys (Planned (memory self.old)) (0 < (memory self.old).room) result }
-        ensures faults { (memory self.new).disk_faults ≡ (if is_ok result then (memory self.old).disk_faults else next (memory self.old).disk_faults) }
+        ensures faults { (memory self.new).disk_faults
+            ≡ (if is_ok result then (memory self.old).disk_faults else next (memory self.old).disk_faults) }
         ensures kept { (memory self.new).blocks ≡ (memory self.old).blocks }
         ensures ticks { Ticks (memory self.old) (memory self.new) }
         ensures spends { Spends 0 (memory self.old) (memory self.new) }
@@ -430,7 +438,8 @@ impl Host for MemHost {
         ensures fails { Obeys (Planned (memory self.old)) ((0 < (memory self.old).room)
             × (min (length bytes.now) (memory self.old).piece ≤ (memory self.old).room_bytes)) result }
         ensures moves { IfOk result (λ n. n ≡ min (length bytes.now) (memory self.old).piece) }
-        ensures faults { (memory self.new).sink_faults ≡ (if is_ok result then (memory self.old).sink_faults else next (memory self.old).sink_faults) }
+        ensures faults { (memory self.new).sink_faults
+            ≡ (if is_ok result then (memory self.old).sink_faults else next (memory self.old).sink_faults) }
         ensures counts { Ticks (memory self.old) (memory self.new) }
         ensures spends { Spends (moved_count result) (memory self.old) (memory self.new) }
         ensures past { KeepsPast (memory self.old) (memory self.new) }

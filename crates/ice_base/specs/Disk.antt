@@ -29,6 +29,20 @@ pub record DiskState : Type 0 where
   pub barriers : ℕ
   pub writes : ℕ
 
+-- what a disk tells that tells nothing of its content: its size, and how often its calls, taking and giving failed
+abbrev pub untold : (size faults source_faults sink_faults : ℕ) → DiskState
+untold size faults source_faults sink_faults = record {
+  size = size;
+  faults = faults;
+  streams = record { aside = []; intake = []; source_faults = source_faults; sink_faults = sink_faults };
+  tells = false;
+  now = [];
+  loose = λ k. false;
+  clock = 0;
+  barriers = 0;
+  writes = 0;
+}
+
 -- the count rose by n at least, or stands at its last value
 abbrev pub RoseBy : ℕ → ℕ → ℕ → Type 0
 RoseBy n before now = min (before + n) (2 ^ 64 - 1) ≤ now

@@ -61,7 +61,8 @@ pub trait Disk {
         → AgreesOn Everywhere (state d) image × (out ≡ (state d).streams.aside) };
 
     /// What reads give is one of the images.
-    ghost counts_now: { (d : Self) (t : ℕ) → (state d).tells ≡ true → t ≤ (state d).clock → left d t (state d).now (state d).streams.aside };
+    ghost counts_now: { (d : Self) (t : ℕ) → (state d).tells ≡ true → t ≤ (state d).clock
+        → left d t (state d).now (state d).streams.aside };
 
     /// Block numbers fit 32 bits.
     ghost small: { (d : Self) → (state d).size < 2 ^ 32 };

@@ -20,7 +20,7 @@ pub use field::{read_u32, read_u64, write_u32, write_u64};
 pub use form::{Form, FormOne};
 pub use host::{Host, SinkFault, SourceFault, give_all};
 pub use keep::Keep;
-pub use lot::{Lot, SUB};
+pub use lot::{BLOCKS_AT, DONE_AT, Lot, NODES_AT, SUB};
 pub use pool::Pool;
 pub use reach::{fetch, store};
 pub use status::{Image, ImageFault, Status};

@@ -7,6 +7,15 @@ use std::marker::Model;
 /// The address of the sub-super block.
 pub const SUB: u32 = 0xFFFF_FFFF;
 
+/// Where the sub-super block has the number of accepted commands, in eight bytes.
+pub const DONE_AT: usize = 16;
+
+/// Where it has the number of used data blocks and indirect blocks, in four bytes.
+pub const BLOCKS_AT: usize = 24;
+
+/// Where it has the number of used inodes, in four bytes.
+pub const NODES_AT: usize = 28;
+
 /// The blocks that one cube owns: the 256 blocks of its slot's area, and those of up to 64 groups of 256 blocks.
 /// A cube address is `256 ordinal + place` for place `place` of the group with that ordinal, or `0xFFFFFFFF` for the sub-super block.
 #[derive(Drop)]

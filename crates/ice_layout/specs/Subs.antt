@@ -1,6 +1,7 @@
 -- The sub-super block of a cube, and the blocks of a fresh group, byte by byte.
-use Rattle.std.specs.Prelude.{◌≡◌, ◌≤◌, ◌<◌, ◌^◌, ℕ, Bool, false, not, ◌==◌, ◌&&◌, nat_lt, if◌then◌else◌, List, Option, Some, None, slice_index, slice_set}
+use Rattle.std.specs.Prelude.{◌≡◌, ◌≤◌, ◌<◌, ◌^◌, ℕ, Bool, true, false, not, ◌==◌, ◌&&◌, nat_lt, if◌then◌else◌, List, Option, Some, None, slice_index, slice_set}
 use Rattle.ice_base.specs.Fields.{word_at, long_at}
+use Rattle.ice_base.specs.Used.{count_place}
 use Rattle.ice_base.specs.declared.fault.Rule.{Rule}
 use Rattle.ice_base.specs.declared.fault.Rule.TheVariants.{Magic, Version, Slot, Mode, Done}
 use Rattle.ice_layout.specs.Geometry.{zero_block}
@@ -22,7 +23,7 @@ sub_rule slot bytes =
 
 -- what a sub-super block says
 abbrev pub sub_of : List ℕ → SubSuper
-sub_of bytes = record { version = word_at bytes 4; slot = slice_index bytes 8; mode = slice_index bytes 9; done = long_at bytes 16; blocks = word_at bytes 24; nodes = word_at bytes 28 }
+sub_of bytes = record { version = word_at bytes 4; slot = slice_index bytes 8; mode = slice_index bytes 9; done = long_at bytes 16; blocks = word_at bytes (count_place false); nodes = word_at bytes (count_place true) }
 
 -- the bytes break none of these rules, and say this
 pub record IsSub (slot : ℕ) (sub : SubSuper) (bytes : List ℕ) : Type 0 where

@@ -86,6 +86,7 @@ fn are_targets(targets: &[u32; 240], count: usize, lot: &Lot) -> bool
     ensures few { length lot.now.groups ≤ 64 }
     ensures right { result ≡ (list_all (is_address lot.now) (take count targets.now) && all_differ (take count targets.now)) }
 {
+    // This call tells the prover that the lot is one, with at most 64 groups.
     let _ = lot.len();
     are_addresses(&targets[..count], lot) && are_different(targets, count)
 }

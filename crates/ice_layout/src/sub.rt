@@ -2,7 +2,9 @@
 ghost use Rattle.std.specs.Prelude.{◌≡◌, ◌<◌, true, if◌then◌else◌, Some, IfOk, IfErr};
 ghost use Rattle.ice_layout.specs.Subs.{sub_rule, is_proper_sub, IsSub, SubZeros, fresh_bitmap, fresh_inodes, fresh_place};
 
-use ice_base::{Block, Rule, read_u32, read_u64, write_u32, write_u64};
+use ice_base::{
+    BLOCKS_AT, Block, DONE_AT, NODES_AT, Rule, read_u32, read_u64, write_u32, write_u64,
+};
 
 const MAGIC: u32 = 0x4365_6349;
 
@@ -37,9 +39,9 @@ pub fn write_sub(sub: &SubSuper, into: &mut Block)
     write_u32(into, 4, sub.version);
     into[8] = sub.slot;
     into[9] = sub.mode;
-    write_u64(into, 16, sub.done);
-    write_u32(into, 24, sub.blocks);
-    write_u32(into, 28, sub.nodes);
+    write_u64(into, DONE_AT, sub.done);
+    write_u32(into, BLOCKS_AT, sub.blocks);
+    write_u32(into, NODES_AT, sub.nodes);
 }
 
 #[tactic(auto, unfolding(crate::specs::Subs::sub_rule))]
@@ -61,7 +63,7 @@ pub fn read_sub(from: &Block, slot: u8) -> Result<SubSuper, Rule>
     if from[9] != 0 {
         return Err(Rule::Mode);
     }
-    let done = read_u64(from, 16);
+    let done = read_u64(from, DONE_AT);
     if done >= 1 << 63 {
         return Err(Rule::Done);
     }
@@ -70,8 +72,8 @@ pub fn read_sub(from: &Block, slot: u8) -> Result<SubSuper, Rule>
         slot,
         mode: 0,
         done,
-        blocks: read_u32(from, 24),
-        nodes: read_u32(from, 28),
+        blocks: read_u32(from, BLOCKS_AT),
+        nodes: read_u32(from, NODES_AT),
     })
 }
 

@@ -4,11 +4,7 @@ ghost use Rattle.std.specs.List.{list_all, list_any};
 ghost use Rattle.tree_spec.specs.Names.{is_dots, longest_text, names_of, text_of, BeginsAtSlash, IsNameList};
 ghost use Rattle.ice_path.specs.Paths.{begins_elsewhere, is_empty_name, is_long_name, is_path_byte, is_slash, path_fault, path_names};
 
-use tree_spec::{Name, Path, split_name};
-
-const NAME_LIMIT: usize = 123;
-
-const TEXT_LIMIT: usize = 3200;
+use tree_spec::{NAME_LIMIT, Name, Path, TEXT_LIMIT, only_dots, split_name};
 
 /// Why a text is no path, in the order in which the faults are looked for.
 #[derive(Clone, Copy, Debug, PartialEq, Eq)]
@@ -65,16 +61,6 @@ fn all_path_bytes(bytes: &[u8]) -> bool
     bytes.iter().all(|b| path_byte(*b))
 }
 
-fn dots(bytes: &[u8]) -> bool
-    ensures { result ≡ is_dots bytes.now }
-{
-    match bytes {
-        [a] => *a == b'.',
-        [a, b] => *a == b'.' && *b == b'.',
-        _ => false,
-    }
-}
-
 fn seen_with(seen: Seen, name: &[u8]) -> Seen
     ensures empty { result.empty ≡ (seen.empty || is_empty_name name.now) }
     ensures dots { result.dots ≡ (seen.dots || is_dots name.now) }
@@ -82,7 +68,7 @@ fn seen_with(seen: Seen, name: &[u8]) -> Seen
 {
     Seen {
         empty: seen.empty || name.is_empty(),
-        dots: seen.dots || dots(name),
+        dots: seen.dots || only_dots(name),
         long: seen.long || name.len() > NAME_LIMIT,
     }
 }

@@ -15,7 +15,8 @@ ghost use Rattle.ice_pool.specs.Either.{absent, IsTakeFault, IsAbsentFault, IsCo
 
 use crate::find::find;
 use ice_base::{
-    Block, Disk, Keep, Lot, OpFault, Rule, SUB, View, fetch, read_u32, store, write_u32,
+    BLOCKS_AT, Block, Disk, Keep, Lot, NODES_AT, OpFault, Rule, SUB, View, fetch, read_u32, store,
+    write_u32,
 };
 use ice_bits::{bit, clear, set};
 
@@ -58,7 +59,7 @@ pub fn move_count<D: Disk, V: View<D>>(
     ensures failed { Caused D.state FaultDisk result disk.old disk.new }
 {
     fetch(view, disk, lot, SUB, sub)?;
-    let at = if inodes { 28 } else { 24 };
+    let at = if inodes { NODES_AT } else { BLOCKS_AT };
     let before = read_u32(sub, at);
     let after = if up {
         before.checked_add(1)
@@ -136,6 +137,7 @@ pub fn take<D: Disk, K: Keep<D>>(
 {
     let mut bitmap = [0; 1024];
     let mut sub = [0; 1024];
+    // This call tells the prover that the lot is one, with at most 64 groups.
     let _ = lot.len();
     let taken = find(keep, disk, lot, inodes, &mut bitmap)?;
     move_count(keep, disk, lot, inodes, true, &mut sub)?;
@@ -171,6 +173,7 @@ pub fn give<D: Disk, K: Keep<D>>(
 {
     let mut bitmap = [0; 1024];
     let mut sub = [0; 1024];
+    // This call tells the prover that the lot is one, with at most 64 groups.
     let _ = lot.len();
     let at = bitmap_at(inodes, given);
     let place = place_in(inodes, given);

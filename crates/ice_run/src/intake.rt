@@ -24,7 +24,8 @@ pub(crate) fn take_piece<H: Host>(
     ensures leaves { Leaves H.state H.left (λ out. out ≡ (H.state host.old).streams.aside) host.old host.new }
     ensures cause { OnErr result (Rose (H.state host.old).streams.source_faults (H.state host.new).streams.source_faults) }
     ensures only { TookOnly (H.state host.old).streams (H.state host.new).streams }
-    ensures count { IfOk result (λ n. (n ≤ 4096) × (taken < longest_script → taken + n ≤ longest_script) × (taken ≡ longest_script → n ≤ 1)) }
+    ensures count { IfOk result (λ n. (n ≤ 4096) × (taken < longest_script → taken + n ≤ longest_script)
+        × (taken ≡ longest_script → n ≤ 1)) }
     ensures bytes { (H.state host.old).tells ≡ true
         → IfOk result (λ n. TookPiece n piece.new (H.state host.old).streams.intake (H.state host.new).streams.intake) }
     ensures none { OnErr result ((H.state host.new).streams.intake ≡ (H.state host.old).streams.intake) }

@@ -50,7 +50,8 @@ pub(crate) fn serve<H: Host>(host: &mut H, session: &mut Session) -> Status
     ensures disk { SameDisk (H.state host.old) (H.state host.new) }
     ensures counts { NoFewerFaults (H.state host.old).streams (H.state host.new).streams }
     ensures cause { (result ≡ Status.Done) ⊎ StreamCause result (H.state host.old).streams (H.state host.new).streams }
-    ensures served { (w : World) → Stands w (H.state host.old) → session.old.reader.text ≡ [] → Served H.state H.left w host.old result host.new }
+    ensures served { (w : World) → Stands w (H.state host.old) → session.old.reader.text ≡ []
+        → Served H.state H.left w host.old result host.new }
 {
     let mut piece = [0; PIECE];
     let mut taken: u32 = 0;

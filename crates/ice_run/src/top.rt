@@ -55,7 +55,8 @@ fn run_session<H: Host>(alloc: Global, host: &mut H) -> Status
     ensures settled { (H.state host.old).tells ≡ true → HasAttached result → Settled Everywhere (H.state host.new) }
     ensures output { (w : World) → Starts (H.state host.old) w → EndsAs result w (H.state host.old) (H.state host.new) }
     ensures exit { (w : World) → Starts (H.state host.old) w → result ≡ Status.Done → Stands w (H.state host.new) }
-    ensures crash { (w : World) → Starts (H.state host.old) w → (image : Image) (out : List ℕ) → H.left host.new (H.state host.old).clock image out
+    ensures crash { (w : World) → Starts (H.state host.old) w → (image : Image) (out : List ℕ)
+        → H.left host.new (H.state host.old).clock image out
         → LeftByRun (H.state host.old).streams.aside w (script_lines (H.state host.old).streams.intake) image out }
 {
     let mut session = match Session::new(alloc) {

@@ -1,4 +1,5 @@
 //! A disk in memory for tests. It tells nothing of its content, so that no proof of a test knows what it reads.
+ghost use Rattle.ice_base.specs.Disk.{untold};
 ghost use Rattle.std.specs.Prelude.{◌≡◌, false, [], length};
 ghost use Rattle.std.proofs.Common.{arith};
 
@@ -20,7 +21,7 @@ impl Ram {
 }
 
 impl Disk for Ram {
-    ghost state = { λ d. record { size = 544; faults = 0; streams = record { aside = []; intake = []; source_faults = 0; sink_faults = 0 }; tells = false; now = []; loose = λ k. false; clock = 0; barriers = 0; writes = 0 } };
+    ghost state = { λ d. untold 544 0 0 0 };
 
     ghost left = { λ d t image out. ⊥ };
 

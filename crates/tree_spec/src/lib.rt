@@ -10,7 +10,7 @@ mod room;
 mod tests;
 
 pub use command::Command;
-pub use name::Name;
-pub use path::{Path, split_name};
+pub use name::{NAME_LIMIT, Name, only_dots};
+pub use path::{Path, TEXT_LIMIT, split_name};
 pub use reply::{CubeRow, Entry, Refusal, Reply, StateWord, Value};
 pub use room::Room;

@@ -5,7 +5,8 @@ ghost use Rattle.tree_spec.specs.Names.{is_dots, is_name, is_name_byte, longest_
 
 use std::marker::Model;
 
-const NAME_LIMIT: usize = 123;
+/// The most bytes of a name in a cube of any version.
+pub const NAME_LIMIT: usize = 123;
 
 /// A name of 1 to 123 bytes of 0x21 to 0x7E without `/`, and neither `.` nor `..`. It takes no memory.
 #[derive(Drop)]
@@ -37,7 +38,8 @@ fn all_name_bytes(bytes: &[u8]) -> bool
     bytes.iter().all(|b| name_byte(*b))
 }
 
-fn dots(bytes: &[u8]) -> bool
+/// Whether these bytes are `.` or `..`.
+pub fn only_dots(bytes: &[u8]) -> bool
     ensures { result ≡ is_dots bytes.now }
 {
     match bytes {
@@ -52,7 +54,7 @@ fn is_proper_name(bytes: &[u8]) -> bool
     ensures value { result ≡ is_name bytes.now }
     ensures short { result ≡ true → length bytes.now ≤ longest_name }
 {
-    !bytes.is_empty() && bytes.len() <= NAME_LIMIT && all_name_bytes(bytes) && !dots(bytes)
+    !bytes.is_empty() && bytes.len() <= NAME_LIMIT && all_name_bytes(bytes) && !only_dots(bytes)
 }
 
 /// Puts the bytes at a place.

@@ -5,7 +5,8 @@ ghost use Rattle.tree_spec.specs.Names.{longest_text, parts, names_of, text_of, 
 use crate::name::{Name, put_at};
 use std::marker::Model;
 
-const TEXT_LIMIT: usize = 3200;
+/// The most bytes of a path's text.
+pub const TEXT_LIMIT: usize = 3200;
 
 /// A path of at most 3,200 bytes of text, seen as the list of its names. It takes no memory.
 #[derive(Drop)]

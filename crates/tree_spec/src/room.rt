@@ -29,7 +29,8 @@ impl Model for Room {
 
     ghost view = { λ a. record { bytes = a.bytes.items; entries = a.entries.items; rows = a.rows.items } };
 
-    ghost invariant = { λ a. HasRoom (record { bytes = a.bytes.items; entries = a.entries.items; rows = a.rows.items }) (vec_capacity a.bytes) (vec_capacity a.entries) (vec_capacity a.rows) };
+    ghost invariant = { λ a. HasRoom (record { bytes = a.bytes.items; entries = a.entries.items; rows = a.rows.items })
+        (vec_capacity a.bytes) (vec_capacity a.entries) (vec_capacity a.rows) };
 }
 
 fn compare_names(a: &Entry, b: &Entry) -> Ordering

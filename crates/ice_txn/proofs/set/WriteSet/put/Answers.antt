@@ -1,8 +1,8 @@
 use Rattle.std.proofs.Common.{rules, ◌≡◌, ◌==◌, ◌<◌, ◌≤◌, cond, true, false, [], ◌∷◌, ◌++◌, List, ℕ, length, ap, sym, ◌∙◌, subst, arith}
-use Rattle.ice_keep.specs.declared.list.Entry.{Entry}
-use Rattle.ice_keep.specs.Lists.{address, holds, over, Differ}
-use Rattle.ice_keep.proofs.ListLaws.{at_of, over_set, holds_set, differ_set, count_set, over_push, holds_push, differ_push, count_push}
-use Rattle.ice_keep.proofs.list.ListKeep.store.Goals as goal
+use Rattle.ice_txn.specs.declared.set.Entry.{Entry}
+use Rattle.ice_txn.specs.Sets.{address, holds, over, Differ}
+use Rattle.ice_txn.proofs.SetLaws.{at_of, over_set, holds_set, differ_set, count_set, over_push, holds_push, differ_push, count_push}
+use Rattle.ice_txn.proofs.set.WriteSet.put.Goals as goal
 
 pub invariant_of-self : goal.invariant_of-self
 invariant_of-self c =
@@ -13,7 +13,7 @@ invariant_of-self c =
     let t = at_of s j c.index_mut.result.now c.index_mut.result.now less c.index_mut.ensures.value in
     let new : Entry = record { at = c.index_mut.result.now.at; block = c.args.from.now } in
     let n = count_set s j new in
-    record { differ = differ_set s j new less t c.self.invariant.differ; few = omega (arith, n, c.self.invariant.few); reserved = c.self.invariant.reserved }
+    record { differ = differ_set s j new less t c.self.invariant.differ; few = omega (arith, n, c.self.invariant.few); small = c.self.invariant.small; reserved = c.self.invariant.reserved }
 
 pub invariant_of-self-in-None : goal.invariant_of-self-in-None
 invariant_of-self-in-None c =
@@ -23,12 +23,13 @@ invariant_of-self-in-None c =
     let new : Entry = record { at = c.args.at; block = c.args.from.now } in
     let n = count_push s new in
     let i : c.push_reserved.new.self.items ≡ s ++ new ∷ [] = c.push_reserved.ensures.items in
-    let room : length c.args.self.now.entries < c.args.self.now.most = c.requires.room c.in-None.ensures in
+    let room : length c.args.self.now.entries < c.args.self.now.most = c.requires.space c.in-None.ensures in
     let most : c.self.inside.most ≡ c.args.self.now.most = cc in
     let few : length s < c.self.inside.most = subst (λ (m : ℕ). length s < m) (sym most) (subst (λ (x : List Entry). length x < c.args.self.now.most) (sym e) room) in
     record {
       differ = subst (λ (x : List Entry). Differ x) (sym i) (differ_push s new free c.self.invariant.differ);
       few = subst (λ (x : List Entry). length x ≤ c.self.inside.most) (sym i) (omega arith);
+      small = c.self.invariant.small;
       reserved = search rules;
     }
 
