@@ -240,16 +240,16 @@ module _ (f : Form) (one : f ≡ form_one) (mode : ℕ) (lot : LotView) (few : l
   pub spot-takes : (e : OpFault) → IsRemovalFault e → (e ≡ Damaged Counts → counted false m + uses_of (entry_blocks form ((inode_of m gone.spot.number).size - 1)) < uses_of (entry_blocks form (inode_of m gone.spot.number).size))
       → (e ≡ Damaged Kind → ¬ IsDirectory lot (inode_of m gone.spot.number)) → (e ≡ Damaged Pointer → ¬ WellMade lot form m gone.spot.number) → (e ≡ Damaged Bitmap → ¬ WellMade lot form m gone.spot.number) → e ≡ Disk
   spot-takes e is zero kind pointer unused =
-      let P : ℕ → ℕ → Type 0 = λ w i. (e ≡ Damaged Counts → counted false m + uses_of (entry_blocks w ((inode_of m i).size - 1)) < uses_of (entry_blocks w (inode_of m i).size)) in
+      let P : Form → ℕ → Type 0 = λ w i. (e ≡ Damaged Counts → counted false m + uses_of (entry_blocks w ((inode_of m i).size - 1)) < uses_of (entry_blocks w (inode_of m i).size)) in
       can-take mode lot few m t k recovers-one p goes.gone goes.entry e is
-      (subst (P 64) spot-here (subst (λ w. P w gone.spot.number) wide zero))
+      (subst (P form_one) spot-here (subst (λ w. P w gone.spot.number) wide zero))
       (subst (λ i. e ≡ Damaged Kind → ¬ IsDirectory lot (inode_of m i)) spot-here kind)
       (λ q. absurd (pointer q spot-made))
       (λ q. absurd (unused q spot-made))
 
   pub spot-left : (m' : Map) → DirSet lot form m m' gone.spot.number (rows_without name (dir_rows_of form m gone.spot.number)) → StandsLoose f mode lot m' (next_tree (Remove p) t) k gone.number gone.bytes
   spot-left m' set =
-      let P : ℕ → ℕ → List ℕ → Type 0 = λ w i c. DirSet lot w m m' i (rows_without c (dir_rows_of w m i)) in
+      let P : Form → ℕ → List ℕ → Type 0 = λ w i c. DirSet lot w m m' i (rows_without c (dir_rows_of w m i)) in
       let here : P form_one (inode_on form_one (own form_one m) 0 (parent p)) (last_name p) = subst (λ c. P form_one (inode_on form_one (own form_one m) 0 (parent p)) c) l.name_is (subst (λ i. P form_one i name) spot-here (subst (λ w. P w gone.spot.number name) wide set)) in
       let s = entry-left mode lot few m t k recovers-one p goes.gone goes.entry m' here goes.empty in
       subst (λ g. StandsLoose g mode lot m' (next_tree (Remove p) t) k gone.number gone.bytes) (sym one)

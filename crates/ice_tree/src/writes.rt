@@ -118,7 +118,7 @@ fn check_write<D: Disk, K: Keep<D>, P: Pool<D, K>, F: Form>(
     requires sited { is_sited lot.now (D.state disk.old).size ≡ true }
     requires some { 1 ≤ length lot.now.groups }
     requires depth { depth ≤ length path.now }
-    requires few { length bytes.now ≤ most_at_once }
+    requires few { length bytes.now ≤ most_bytes }
     // Over a lot that recovers a tree, it finds what the tree has.
     ensures file { IfRecovers K.View F.VERSION lot.now keep.old disk.old (λ old t k.
         Accepts (λ number. number ≡ inode_at F.VERSION old (drop depth path.now))
@@ -220,7 +220,7 @@ fn put_bytes<D: Disk, K: Keep<D>, P: Pool<D, K>, F: Form>(
     requires sited { is_sited lot.now (D.state disk.old).size ≡ true }
     requires number { number < 64 * length lot.now.groups }
     requires room { 49 ≤ K.room keep.old }
-    requires few { length bytes.now ≤ most_at_once }
+    requires few { length bytes.now ≤ most_bytes }
     requires short { at + length bytes.now ≤ (form_of F.VERSION).longest_file }
     // Where it takes the operation, the lot recovers the changed tree; the disk alone may fail.
     ensures set { (mode k : ℕ) (t : Tree) (p : List (List ℕ))
@@ -303,7 +303,7 @@ pub fn write<D: Disk, K: Keep<D>, P: Pool<D, K>, F: Form>(
     requires some { 1 ≤ length lot.now.groups }
     requires depth { depth ≤ length path.now }
     requires room { 96 ≤ K.room keep.old }
-    requires few { length bytes.now ≤ most_at_once }
+    requires few { length bytes.now ≤ most_bytes }
     // Over a lot that recovers a tree, the answer and the change are the model's.
     ensures answers { AnswersAs K.View F.VERSION lot.now keep.old disk.old
         (Write (drop depth path.now) at bytes.now) (meant_plain result) }
