@@ -1,4 +1,4 @@
-//! The commands of a tree beside a plain slow tree: 12,000 generated lines, boundary sizes among them, over both keeps.
+//! The commands of a tree beside a plain slow tree: 3,200 generated lines, boundary sizes among them, over both keeps.
 ghost use Rattle.std.specs.Prelude.{◌≡◌, ◌≤◌, ◌<◌};
 
 use cube_lines::Session;
@@ -13,7 +13,7 @@ use tree_spec::{Reply, Value};
 /// The seeds of the rounds, each with the number of the cube's groups.
 const ROUNDS: [(u32, u32); 4] = [(20, 1), (7, 1), (1_999, 1), (4_242, 2)];
 
-const LINES: u32 = 1500;
+const LINES: u32 = 400;
 
 /// The lines that fill the cube.
 const FIRST: u32 = 58;
@@ -240,7 +240,7 @@ fn a_lot_answers_as_the_plain_tree_does(rt: HostRuntime) -> Result<(), Fail> {
                 "{count} answers {which}"
             );
         }
-        assert!(rt; times[0] > 300 && times[34] > 500, "{times:?}");
+        assert!(rt; times[0] > 50 && times[34] > 300, "{times:?}");
     }
     Ok(())
 }
