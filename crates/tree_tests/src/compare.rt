@@ -77,23 +77,16 @@ fn some_size(random: &mut Random, most: u32) -> u32
 
 /// The hexadecimal digits of so many bytes, which differ from place to place and from one to the next.
 fn some_digits(alloc: Global, random: &mut Random, count: u32) -> Result<String, AllocError> {
-    let mut digits = String::new(alloc);
+    let first = random.next(251) as usize;
     if count == 0 {
-        digits.push('-')?;
+        return format!(in alloc; "-");
     }
-    let first = random.next(251);
-    for k in 0..count {
-        let byte = first.wrapping_add(k) % 251;
-        for digit in [byte / 16, byte % 16] {
-            digits.push_str(DIGITS[digit as usize])?;
-        }
+    let mut bytes = vec![in alloc; 0u8; count as usize]?;
+    for (k, byte) in bytes.iter_mut().enumerate() {
+        *byte = (first.wrapping_add(k) % 251) as u8;
     }
-    Ok(digits)
+    hex::encode(alloc, bytes.as_slice())
 }
-
-const DIGITS: [&str; 16] = [
-    "0", "1", "2", "3", "4", "5", "6", "7", "8", "9", "a", "b", "c", "d", "e", "f",
-];
 
 /// The words of lines, each as often as it is to come.
 const WORDS: [&str; 24] = [
