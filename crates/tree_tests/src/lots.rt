@@ -2,7 +2,7 @@
 use cube_lines::reply_to;
 use disk_mem::{MemHost, MuteHost};
 use fresh_lots::{BITMAP, BLOCKS, INODES, SUB_BLOCK, fresh, one_group, two_groups};
-use ice_base::{Disk, Keep, View};
+use ice_base::{DONE_AT, Disk, Keep, View, write_u64};
 use ice_keep::{ListKeep, ThroughKeep};
 use std::process::Abort;
 use std::str;
@@ -33,7 +33,7 @@ fn the_last_command_is_counted_and_none_after_it(rt: HostRuntime) -> Result<(), 
     let mut room = Room::new(rt.alloc())?;
     assert!(rt; host.blocks() == BLOCKS && host.calls() == 0);
     let mut sub = *host.block(SUB_BLOCK);
-    sub[16..24].copy_from_slice(&[0xfe, 0xff, 0xff, 0xff, 0xff, 0xff, 0xff, 0x7f]);
+    write_u64(&mut sub, DONE_AT, (1 << 63) - 2);
     host.set_block(SUB_BLOCK, &sub);
     let table: [(&[u8], Reply); 6] = [
         (b"mkdir /a/x", PLAIN),
@@ -122,19 +122,19 @@ fn a_keep_that_holds_a_list_is_filled_to_its_last_room(rt: HostRuntime) -> Resul
     ];
     replies(&rt, &mut keep, &mut host, &mut room, &table)?;
     assert_eq!(rt; room.bytes(), b"\x01\x02".as_slice());
-    let mut at = 300u32;
-    assert!(rt; host.blocks() == BLOCKS);
-    while Keep::<MemHost>::spare(&keep) > 0 {
-        assert!(rt; at < 400);
+    for at in 300..395u32 {
+        let spare = Keep::<MemHost>::spare(&keep);
+        assert!(rt; host.blocks() == BLOCKS && spare > 0);
+        assert_eq!(rt; spare, 395 - at);
         assert!(rt;
             keep.put(&mut host, &two_groups(), at, &[(at % 251) as u8; 1024])
                 .is_ok()
         );
-        at += 1;
     }
-    assert_eq!(rt; at, 395);
+    assert_eq!(rt; Keep::<MemHost>::spare(&keep), 0);
     let mut block = [0; 1024];
     for at in 300..395u32 {
+        assert!(rt; host.blocks() == BLOCKS);
         assert!(rt; keep.get(&mut host, &two_groups(), at, &mut block).is_ok());
         assert_eq!(rt; block[..], [(at % 251) as u8; 1024][..]);
     }
