@@ -225,15 +225,14 @@ fn a_lot_answers_as_the_plain_tree_does(rt: HostRuntime) -> Result<(), Fail> {
                 round(&rt, rt.alloc(), &mut ThroughKeep::new(), seed, &mut times)?;
             }
         }
-        // Every refusal of a tree but Spent, and no other.
+        // Each refusal of a tree but Spent and those of want, which the stored session has, and none that is no tree's.
         for (which, count) in times.iter().enumerate() {
-            assert_eq!(rt;
-                *count > 0,
-                which < 14 || which == 34,
-                "{count} answers {which}"
-            );
+            let comes = which < 12 || which == 34;
+            let may_come = which < 14 || which == 34;
+            assert!(rt; !comes || *count > 0, "no answer {which}");
+            assert!(rt; may_come || *count == 0, "{count} answers {which}");
         }
-        assert!(rt; times[0] > 50 && times[34] > 300, "{times:?}");
+        assert!(rt; times[34] > 200, "{times:?}");
     }
     Ok(())
 }
