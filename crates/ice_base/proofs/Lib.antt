@@ -3,7 +3,7 @@ pub mod FieldLaws
 pub mod Frame
 pub mod Gives
 pub mod Kept
-mod Rests
+pub mod Rests
 pub mod LotLaws
 pub mod SpareLaws
 pub mod UsedLaws
