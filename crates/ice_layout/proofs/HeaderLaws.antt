@@ -18,7 +18,7 @@ use Rattle.ice_layout.proofs.SuperLaws.{zero_at}
 use Rattle.ice_base.specs.Lots.{LotView, is_address}
 use Rattle.ice_base.specs.Spare.{has}
 use Rattle.ice_layout.specs.Geometry.{zero_block, between}
-use Rattle.ice_layout.specs.Headers.{is_open, gate_block, slot_magic, system_magic, is_table, all_differ, targets_in, targets_of, slot_targets, system_targets, filled, header_with, header_of, system_header_of, counted_of, targets_said, may_be_address, AreTargets, IsProperHeader, HeaderZeros, HeaderFields}
+use Rattle.ice_layout.specs.Headers.{is_open, gate_block, slot_magic, system_magic, is_table, all_differ, targets_in, targets_of, slot_targets, system_targets, filled, header_with, header_of, system_header_of, header_in, targets_said, may_be_address, AreTargets, IsProperHeader, HeaderZeros, HeaderFields}
 use Rattle.ice_layout.specs.declared.header.Header.{Header}
 
 -- ---- gates
@@ -235,29 +235,37 @@ all-may p q weaker (x ∷ xs) h =
     grind arith
 
 -- a header is refused by its number of targets, or where two are equal
-pub refused-number : (most : ℕ) (bytes : List ℕ) (n : ℕ) → n ≡ word_at bytes 8 → between 1 most n ≡ false → None ≡ counted_of most bytes
-refused-number most bytes n is not_in = let number : between 1 most (word_at bytes 8) ≡ false = subst (λ k. between 1 most k ≡ false) is not_in in rw number refl
+pub refused-number : (most : ℕ) (bytes : List ℕ) (n : ℕ) → n ≡ word_at bytes 8 → between 1 most n ≡ false → None ≡ header_in most (λ a. true) bytes
+refused-number most bytes n is not_in =
+    let number : between 1 most (word_at bytes 8) ≡ false = subst (λ k. between 1 most k ≡ false) is not_in in
+    rw number refl
 
-module _ (most : ℕ) (bytes : List ℕ) (n : ℕ) (xs : List ℕ) (is : n ≡ word_at bytes 8) (fits : between 1 most n ≡ true) (all : xs ≡ filled (targets_in bytes n)) where
+module _ (most : ℕ) (bytes : List ℕ) (n : ℕ) (xs : List ℕ) (is : n ≡ word_at bytes 8)
+    (fits : between 1 most n ≡ true) (all : xs ≡ filled (targets_in bytes n)) where
   number : between 1 most (word_at bytes 8) ≡ true
   number = subst (λ k. between 1 most k ≡ true) is fits
 
   said : take n xs ≡ targets_in bytes n
-  said = ap (λ (x : List ℕ). take n x) all ∙ subst (λ (k : ℕ). take k (filled (targets_in bytes n)) ≡ targets_in bytes n) (targets-length bytes n) (take-filled (targets_in bytes n))
+  said =
+      let us = targets_in bytes n in
+      ap (λ (x : List ℕ). take n x) all ∙ subst (λ (k : ℕ). take k (filled us) ≡ us) (targets-length bytes n) (take-filled us)
 
-  tested : (b : Bool) → all_differ (take n xs) ≡ b → (list_all (λ a. true) (targets_in bytes (word_at bytes 8)) && all_differ (targets_in bytes (word_at bytes 8))) ≡ b
+  tested : (b : Bool) → all_differ (take n xs) ≡ b
+      → (list_all (λ a. true) (targets_in bytes (word_at bytes 8)) && all_differ (targets_in bytes (word_at bytes 8))) ≡ b
   tested b differ =
       let us : take n xs ≡ targets_in bytes (word_at bytes 8) = said ∙ ap (λ (k : ℕ). targets_in bytes k) is in
       rw (all-any (targets_in bytes (word_at bytes 8))) (subst (λ (x : List ℕ). all_differ x ≡ b) us differ)
 
-  pub refused-equal : all_differ (take n xs) ≡ false → None ≡ counted_of most bytes
+  pub refused-equal : all_differ (take n xs) ≡ false → None ≡ header_in most (λ a. true) bytes
   refused-equal equal = let test = tested false equal in rw (number, test) refl
 
-  pub counted : all_differ (take n xs) ≡ true → Some (record { count = n; targets = xs }) ≡ counted_of most bytes
+  pub counted : all_differ (take n xs) ≡ true → Some (record { count = n; targets = xs }) ≡ header_in most (λ a. true) bytes
   unfolding make
   counted differ =
       let test = tested true differ in
-      let whole : make n xs ≡ make (length (targets_in bytes n)) (filled (targets_in bytes n)) = ap (λ (k : ℕ). make k xs) (sym (targets-length bytes n)) ∙ ap (λ (x : List ℕ). make (length (targets_in bytes n)) x) all in
+      let us = targets_in bytes n in
+      let long : make n xs ≡ make (length us) xs = ap (λ (k : ℕ). make k xs) (sym (targets-length bytes n)) in
+      let whole : make n xs ≡ make (length us) (filled us) = long ∙ ap (λ (x : List ℕ). make (length us) x) all in
       rw (number, test) (ap (λ (h : Header). Some h) (whole ∙ ap (λ (k : ℕ). header_with (targets_in bytes k)) is))
 
 -- ---- their homes
@@ -273,21 +281,22 @@ refused-system bytes other = let mark : (word_at bytes 0 == system_magic) ≡ fa
 
 -- with its magic it says what its targets do
 pub slot-marked : (lot : LotView) (bytes : List ℕ) (o : Option Header) → (word_at bytes 0 == slot_magic && slice_index bytes 4 == lot.slot) ≡ true
-    → o ≡ option_map (λ ts. header_with ts) (targets_of 240 (is_address lot) bytes (word_at bytes 8)) → o ≡ header_of lot bytes
+    → o ≡ header_in 240 (is_address lot) bytes → o ≡ header_of lot bytes
 unfolding slot_targets
 slot-marked lot bytes o mark e = rw mark e
 
 pub system-marked : (bytes : List ℕ) (o : Option Header) → word_at bytes 0 ≡ system_magic
-    → o ≡ option_map (λ ts. header_with ts) (targets_of 8 is_table bytes (word_at bytes 8)) → o ≡ system_header_of bytes
+    → o ≡ header_in 8 is_table bytes → o ≡ system_header_of bytes
 unfolding system_targets
 system-marked bytes o first e = let mark : (word_at bytes 0 == system_magic) ≡ true = rw first refl in rw mark e
 
 module _ (most : ℕ) (home : ℕ → Bool) (bytes : List ℕ) where
   -- a header is refused where its number and targets are
-  pub refused-counted : None ≡ counted_of most bytes → None ≡ option_map (λ ts. header_with ts) (targets_of most home bytes (word_at bytes 8))
+  pub refused-counted : None ≡ header_in most (λ a. true) bytes → None ≡ header_in most home bytes
   refused-counted e =
       let us = targets_in bytes (word_at bytes 8) in
-      by us (between 1 most (word_at bytes 8)) (list_all (λ a. true) us) (all_differ us) (list_all home us) (all-any us) (no-header (targets_of most (λ a. true) bytes (word_at bytes 8)) (sym e))
+      let none = no-header (targets_of most (λ a. true) bytes (word_at bytes 8)) (sym e) in
+      by us (between 1 most (word_at bytes 8)) (list_all (λ a. true) us) (all_differ us) (list_all home us) (all-any us) none
     where
       by : (us : List ℕ) (fits any differ homes : Bool) → any ≡ true → (if fits && (any && differ) then Some us else None) ≡ None
           → None ≡ option_map (λ ts. header_with ts) (if fits && (homes && differ) then Some us else None)
@@ -297,33 +306,46 @@ module _ (most : ℕ) (home : ℕ → Bool) (bytes : List ℕ) where
       by us true true true true is none = absurd (cc none)
       by us true false true true is none = absurd (cc is)
 
-  module _ (header : Header) (e : Some header ≡ counted_of most bytes) where
+  module _ (header : Header) (e : Some header ≡ header_in most (λ a. true) bytes) where
     it : Found most (λ a. true) bytes (word_at bytes 8) (targets_said header)
-    it = found most (λ a. true) bytes (word_at bytes 8) (targets_said header) (header-said (targets_of most (λ a. true) bytes (word_at bytes 8)) header (sym e))
+    it =
+        let n = word_at bytes 8 in
+        found most (λ a. true) bytes n (targets_said header) (header-said (targets_of most (λ a. true) bytes n) header (sym e))
 
     rest : header ≡ header_with (targets_said header)
     rest = header-rest (targets_of most (λ a. true) bytes (word_at bytes 8)) header e
 
+    count-said : header.count ≡ word_at bytes 8
+    count-said = ap (λ (h : Header). h.count) rest ∙ (ap (λ (x : List ℕ). length x) it.are ∙ targets-length bytes (word_at bytes 8))
+
     -- where a target is at no home
-    pub refused-homes : list_all home (targets_said header) ≡ false → None ≡ option_map (λ ts. header_with ts) (targets_of most home bytes (word_at bytes 8))
-    refused-homes away = let fits = it.number in let homes : list_all home (targets_in bytes (word_at bytes 8)) ≡ false = subst (λ (x : List ℕ). list_all home x ≡ false) it.are away in rw (fits, homes) refl
+    pub refused-homes : list_all home (targets_said header) ≡ false → None ≡ header_in most home bytes
+    refused-homes away =
+        let fits = it.number in
+        let homes : list_all home (targets_in bytes (word_at bytes 8)) ≡ false = subst (λ (x : List ℕ). list_all home x ≡ false) it.are away in
+        rw (fits, homes) refl
 
     module _ (homes : list_all home (targets_said header) ≡ true) where
       -- else it is accepted
-      pub accepted : Some header ≡ option_map (λ ts. header_with ts) (targets_of most home bytes (word_at bytes 8))
+      pub accepted : Some header ≡ header_in most home bytes
       accepted =
           let fits = it.number in
-          let right : (list_all home (targets_in bytes (word_at bytes 8)) && all_differ (targets_in bytes (word_at bytes 8))) ≡ true = subst (λ (x : List ℕ). (list_all home x && all_differ x) ≡ true) it.are (rw homes it.differ) in
+          let us = targets_in bytes (word_at bytes 8) in
+          let right : (list_all home us && all_differ us) ≡ true =
+          subst (λ (x : List ℕ). (list_all home x && all_differ x) ≡ true) it.are (rw homes it.differ) in
           rw (fits, right) (ap (λ (h : Header). Some h) (rest ∙ ap (λ (x : List ℕ). header_with x) it.are))
 
       -- and its targets are right
       pub read_right : AreTargets most home (targets_said header)
-      read_right = found-right most home bytes (word_at bytes 8) (targets_said header) (record { number = it.number; homes = homes; differ = it.differ; are = it.are })
+      read_right =
+          let ours : Found most home bytes (word_at bytes 8) (targets_said header) =
+          record { number = it.number; homes = homes; differ = it.differ; are = it.are } in
+          found-right most home bytes (word_at bytes 8) (targets_said header) ours
 
       -- and it may be written again, wherever its homes may be
       pub read_proper : (may : ℕ → Bool) → ((a : ℕ) → home a ≡ true → may a ≡ true) → IsProperHeader most may header
       read_proper may weaker = record {
-        number = let long : header.count ≡ word_at bytes 8 = ap (λ (h : Header). h.count) rest ∙ (ap (λ (x : List ℕ). length x) it.are ∙ targets-length bytes (word_at bytes 8)) in rw long it.number;
+        number = rw count-said it.number;
         homes = all-may home may weaker (targets_said header) homes;
         differ = it.differ;
         rest = rest;
@@ -376,13 +398,16 @@ write-more header b0 b b' n v said others w is = (
     far k (inl h) = inl h
     far k (inr h) = inr (omega (arith, h))
 
-module _ (magic byte : ℕ) (header : Header) (b1 b2 b3 b4 : List ℕ) (w1 : WordSet zero_block 0 magic b1) (long : length b1 ≡ 1024) (is : b2 ≡ slice_set b1 4 byte) (n : ℕ) (same : n ≡ header.count) (w3 : WordSet b2 8 n b3)
+module _ (magic byte : ℕ) (header : Header) (b1 b2 b3 b4 : List ℕ)
+    (w1 : WordSet zero_block 0 magic b1) (long : length b1 ≡ 1024) (is : b2 ≡ slice_set b1 4 byte) (n : ℕ) (same : n ≡ header.count) (w3 : WordSet b2 8 n b3)
     (targets : (i : ℕ) → i < header.count → word_at b4 (16 + 4 * i) ≡ slice_index header.targets i) (others : SameBeside 16 (4 * header.count) b3 b4) where
   set-beside : SameBeside 4 1 b1 b2
   set-beside k apart = let e : b2 ≡ slice_set b1 4 byte = is in grind (arith, elements)
 
   mark-there : word_at b4 0 ≡ magic
-  mark-there = word-beside b3 b4 16 (4 * header.count) 0 others (inl (omega arith)) ∙ word-beside b2 b3 8 4 0 w3.others (inl (omega arith)) ∙ word-beside b1 b2 4 1 0 set-beside (inl (omega arith)) ∙ w1.value
+  mark-there =
+      word-beside b3 b4 16 (4 * header.count) 0 others (inl (omega arith))
+      ∙ word-beside b2 b3 8 4 0 w3.others (inl (omega arith)) ∙ word-beside b1 b2 4 1 0 set-beside (inl (omega arith)) ∙ w1.value
 
   byte-there : slice_index b4 4 ≡ byte
   byte-there = others 4 (inl (omega arith)) ∙ w3.others 4 (inl (omega arith)) ∙ rw is (let l = long in grind (arith, elements))
@@ -411,8 +436,9 @@ module _ (magic byte : ℕ) (header : Header) (b1 b2 b3 b4 : List ℕ) (w1 : Wor
   }
 
 -- the targets that were written are read back by each reader whose homes have them
-fields_read : (most magic byte : ℕ) (may home : ℕ → Bool) (header : Header) (bytes : List ℕ) → most ≤ 240 → IsProperHeader most may header → HeaderFields magic byte header bytes → list_all home (targets_said header) ≡ true
-    → option_map (λ ts. header_with ts) (targets_of most home bytes (word_at bytes 8)) ≡ Some header
+fields_read : (most magic byte : ℕ) (may home : ℕ → Bool) (header : Header) (bytes : List ℕ) → most ≤ 240
+    → IsProperHeader most may header → HeaderFields magic byte header bytes → list_all home (targets_said header) ≡ true
+    → header_in most home bytes ≡ Some header
 fields_read most magic byte may home header bytes small proper fields homes =
     let number : between 1 most header.count ≡ true = proper.number in
     let few : header.count ≤ 240 = counted-few most header.count small number in
@@ -428,11 +454,14 @@ slot_written slot header bytes proper fields lot of homes =
     let first = fields.mark in
     let fifth = fields.fifth in
     let mark : (word_at bytes 0 == slot_magic && slice_index bytes 4 == lot.slot) ≡ true = rw (first, fifth, of) (grind (arith, nat_tests)) in
-    sym (slot-marked lot bytes (Some header) mark (sym (fields_read 240 slot_magic slot may_be_address (is_address lot) header bytes (omega arith) proper fields homes)))
+    let read = fields_read 240 slot_magic slot may_be_address (is_address lot) header bytes (omega arith) proper fields homes in
+    sym (slot-marked lot bytes (Some header) mark (sym read))
 
-pub system_written : (header : Header) (bytes : List ℕ) → IsProperHeader 8 is_table header → HeaderFields system_magic 0 header bytes → system_header_of bytes ≡ Some header
+pub system_written : (header : Header) (bytes : List ℕ) → IsProperHeader 8 is_table header
+    → HeaderFields system_magic 0 header bytes → system_header_of bytes ≡ Some header
 system_written header bytes proper fields =
-    sym (system-marked bytes (Some header) fields.mark (sym (fields_read 8 system_magic 0 is_table is_table header bytes (omega arith) proper fields proper.homes)))
+    let read = fields_read 8 system_magic 0 is_table is_table header bytes (omega arith) proper fields proper.homes in
+    sym (system-marked bytes (Some header) fields.mark (sym read))
 
 -- with a zero after the magic one more byte is zero
 pub system_zeros : (magic : ℕ) (header : Header) (bytes : List ℕ) → HeaderFields magic 0 header bytes → HeaderZeros 4 header.count bytes

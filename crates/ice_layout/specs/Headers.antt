@@ -71,9 +71,9 @@ header_of lot bytes = option_map (λ ts. header_with ts) (slot_targets lot bytes
 abbrev pub system_header_of : List ℕ → Option Header
 system_header_of bytes = option_map (λ ts. header_with ts) (system_targets bytes)
 
--- what the bytes say as the number and the targets of a header, wherever these lie
-abbrev pub counted_of : ℕ → List ℕ → Option Header
-counted_of most bytes = option_map (λ ts. header_with ts) (targets_of most (λ a. true) bytes (word_at bytes 8))
+-- what the number and the targets in a block say as a header: 1 to `most` different homes, else None
+abbrev pub header_in : (most : ℕ) (home : ℕ → Bool) → List ℕ → Option Header
+header_in most home bytes = option_map (λ ts. header_with ts) (targets_of most home bytes (word_at bytes 8))
 
 -- the targets of a header
 abbrev pub targets_said : Header → List ℕ

@@ -4,7 +4,7 @@ ghost use Rattle.std.specs.List.{list_all};
 ghost use Rattle.std.specs.List.Sorted.{IsStrictlyIncreasing};
 ghost use Rattle.ice_base.specs.Fields.{word_at, SameBeside};
 ghost use Rattle.ice_base.specs.Lots.{LotView, is_address};
-ghost use Rattle.ice_layout.specs.Headers.{is_open, is_table, gate_block, slot_magic, header_of, system_header_of, counted_of, targets_said, targets_in, all_differ, may_be_address, AreTargets, IsProperHeader, HeaderZeros, HeaderFields, filled};
+ghost use Rattle.ice_layout.specs.Headers.{is_open, is_table, gate_block, slot_magic, header_of, system_header_of, header_in, targets_said, targets_in, all_differ, may_be_address, AreTargets, IsProperHeader, HeaderZeros, HeaderFields, filled};
 
 use crate::sub::byte_if;
 use crate::superblock::is_between;
@@ -70,19 +70,27 @@ fn are_different(targets: &[u32; 240], count: usize) -> bool
     rises(said)
 }
 
-fn are_addresses(targets: &[u32], lot: &Lot) -> bool
+fn are_addresses(header: &Header, lot: &Lot) -> bool
+    requires { header.now.count ≤ 240 }
     ensures few { length lot.now.groups ≤ 64 }
-    ensures right { result ≡ list_all (is_address lot.now) targets.now }
+    ensures right { result ≡ list_all (is_address lot.now) (targets_said header.now) }
 {
     // This call tells the prover that the lot is one, with at most 64 groups.
     let _ = lot.len();
-    targets.iter().all(|target| lot.place(*target).is_some())
+    header
+        .said()
+        .iter()
+        .all(|target| lot.place(*target).is_some())
 }
 
-fn are_tables(targets: &[u32]) -> bool
-    ensures { result ≡ list_all is_table targets.now }
+fn are_tables(header: &Header) -> bool
+    requires { header.now.count ≤ 240 }
+    ensures { result ≡ list_all is_table (targets_said header.now) }
 {
-    targets.iter().all(|target| 11 <= *target && *target < 19)
+    header
+        .said()
+        .iter()
+        .all(|target| 11 <= *target && *target < 19)
 }
 
 fn read_targets(from: &Block, count: usize) -> [u32; 240]
@@ -96,10 +104,10 @@ fn read_targets(from: &Block, count: usize) -> [u32; 240]
     targets
 }
 
-/// The number of targets and the targets, where they are 1 to `most` different ones.
+/// The number of targets and the targets, wherever these lie: None exactly where they are not 1 to `most` different ones.
 fn read_counted(from: &Block, most: u32) -> Option<Header>
     requires { most ≤ 240 }
-    ensures header { result ≡ counted_of most from.now }
+    ensures header { result ≡ header_in most (λ a. true) from.now }
     ensures few { IfSome result (λ header. header.count ≤ 240) }
 {
     let count = read_u32(from, 8);
@@ -133,7 +141,7 @@ pub fn read_header(from: &Block, lot: &Lot) -> Option<Header>
         return None;
     }
     let header = read_counted(from, 240)?;
-    if !are_addresses(header.said(), lot) {
+    if !are_addresses(&header, lot) {
         return None;
     }
     Some(header)
@@ -150,7 +158,7 @@ pub fn read_system_header(from: &Block) -> Option<Header>
         return None;
     }
     let header = read_counted(from, 8)?;
-    if !are_tables(header.said()) {
+    if !are_tables(&header) {
         return None;
     }
     Some(header)

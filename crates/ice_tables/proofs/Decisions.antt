@@ -98,7 +98,9 @@ is-path p q = tested _ (slice_eq-Decides {E = bytes_eq} bytes_eq-Decides p q _ r
 -- ---- names
 
 text_decided : (m : ℕ → List ℕ) (s : ℕ) → Decided (IsCubeText m s)
-text_decided m s = alike (λ h. record { some = h.0; few = h.1.0; path = h.1.1 }) (λ h. (h.some, (h.few, h.path))) (both (is-at-most 1 (length_at m s)) (both (is-at-most (length_at m s) 199) (is-none (path_fault (text_at m s)))))
+text_decided m s =
+    alike (λ h. record { some = h.0; few = h.1.0; path = h.1.1 }) (λ h. (h.some, (h.few, h.path)))
+    (both (is-at-most 1 (length_at m s)) (both (is-at-most (length_at m s) 199) (is-none (path_fault (text_at m s)))))
 
 -- a slot is not free
 taken : (m : ℕ → List ℕ) (s : ℕ) → Decided (mark_at m s ≢ 0)
@@ -133,10 +135,18 @@ module _ (t : Tables) (held_low : (g s : ℕ) → t.holder g ≡ Some s → g < 
   Once s g h = t.holder g ≡ Some s → t.holder h ≡ Some s → t.ordinal g ≡ t.ordinal h → g ≡ h
 
   once_decided : (s g h : ℕ) → Decided (Once s g h)
-  once_decided s g h = implied (is-held (t.holder g) s) (implied (is-held (t.holder h) s) (implied (is-number (t.ordinal g) (t.ordinal h)) (is-number g h)))
+  once_decided s g h =
+      let same = implied (is-number (t.ordinal g) (t.ordinal h)) (is-number g h) in
+      implied (is-held (t.holder g) s) (implied (is-held (t.holder h) s) same)
+
+  has_one_decided : (s o : ℕ) → Decided ((g : ℕ) × (g < t.groups) × Has s o g)
+  has_one_decided s o = some_below (λ g. Has s o g) (λ g. both (is-held (t.holder g) s) (is-number (t.ordinal g) o)) t.groups
 
   has_decided : (s n : ℕ) → Decided (HasGroups t s n)
   has_decided s n =
+      let below = all_below (λ g. t.holder g ≡ Some s → t.ordinal g < n) (λ g. implied (is-held (t.holder g) s) (is-at-most (suc (t.ordinal g)) n)) t.groups in
+      let each = all_below (λ o. (g : ℕ) × (g < t.groups) × Has s o g) (λ o. has_one_decided s o) n in
+      let once = all_below (λ g. (h : ℕ) → h < t.groups → Once s g h) (λ g. all_below (λ h. Once s g h) (λ h. once_decided s g h) t.groups) t.groups in
       alike (λ h. record {
         some = h.0;
         few = h.1.0;
@@ -144,14 +154,16 @@ module _ (t : Tables) (held_low : (g s : ℕ) → t.holder g ≡ Some s → g < 
         each = λ o less. let one = h.1.1.1.0 o less in (one.0, one.2.0, one.2.1);
         once = λ g k held keeps same. h.1.1.1.1 g (held_low g s held) k (held_low k s keeps) held keeps same;
       })
-      (λ h. (h.some, (h.few, (λ g low. h.below g, (λ o less. let one = h.each o less in (one.0, held_low one.0 s one.1, (one.1, one.2)), λ g low k less. h.once g k)))))
-      (both (is-at-most 1 n) (both (is-at-most n 64)
-      (both (all_below (λ g. t.holder g ≡ Some s → t.ordinal g < n) (λ g. implied (is-held (t.holder g) s) (is-at-most (suc (t.ordinal g)) n)) t.groups)
-      (both (all_below (λ o. (g : ℕ) × (g < t.groups) × Has s o g) (λ o. some_below (λ g. Has s o g) (λ g. both (is-held (t.holder g) s) (is-number (t.ordinal g) o)) t.groups) n)
-      (all_below (λ g. (h : ℕ) → h < t.groups → Once s g h) (λ g. all_below (λ h. Once s g h) (λ h. once_decided s g h) t.groups) t.groups)))))
+      (λ h. (h.some, (h.few, (λ g low. h.below g, (λ o less. placed (h.each o less), λ g low k less. h.once g k)))))
+      (both (is-at-most 1 n) (both (is-at-most n 64) (both below (both each once))))
+    where
+      placed : {o : ℕ} → (g : ℕ) × (t.holder g ≡ Some s) × (t.ordinal g ≡ o) → (g : ℕ) × (g < t.groups) × Has s o g
+      placed one = (one.0, held_low one.0 s one.1, (one.1, one.2))
 
   groups_decided : (s : ℕ) → Decided ((n : ℕ) × HasGroups t s n)
-  groups_decided s = alike (λ one. (one.0, one.2)) (λ one. let few = (one.1).few in (one.0, omega (arith, few), one.1)) (some_below (λ n. HasGroups t s n) (λ n. has_decided s n) 65)
+  groups_decided s =
+      alike (λ one. (one.0, one.2)) (λ one. let few = (one.1).few in (one.0, omega (arith, few), one.1))
+      (some_below (λ n. HasGroups t s n) (λ n. has_decided s n) 65)
 
   live_decided : (g : ℕ) → Decided ((s : ℕ) → t.holder g ≡ Some s → IsSome (t.row s))
   live_decided g = by (t.holder g)
@@ -162,11 +174,16 @@ module _ (t : Tables) (held_low : (g s : ℕ) → t.holder g ≡ Some s → g < 
 
   owners_of_decided : (m : ℕ → List ℕ) → Decided (AreOwners t m)
   owners_of_decided m =
-      alike (λ h. record { live = λ g s held. h.0 g (held_low g s held) s held; groups = λ s live. h.1.0 s (live_low s live) live; no_more = λ g high low. h.1.1 g low high })
+      let live = all_below (λ g. (s : ℕ) → t.holder g ≡ Some s → IsSome (t.row s)) live_decided t.groups in
+      let groups = all_below (λ s. IsSome (t.row s) → (n : ℕ) × HasGroups t s n) (λ s. implied (is-there (t.row s)) (groups_decided s)) t.slots in
+      let no_more = all_below (λ g. t.groups ≤ g → owner_byte m g ≡ 0) (λ g. implied (is-at-most t.groups g) (is-number (owner_byte m g) 0)) 1024 in
+      alike (λ h. record {
+        live = λ g s held. h.0 g (held_low g s held) s held;
+        groups = λ s has. h.1.0 s (live_low s has) has;
+        no_more = λ g high low. h.1.1 g low high;
+      })
       (λ h. (λ g low s. h.live g s, (λ s low. h.groups s, λ g low high. h.no_more g high low)))
-      (both (all_below (λ g. (s : ℕ) → t.holder g ≡ Some s → IsSome (t.row s)) live_decided t.groups)
-      (both (all_below (λ s. IsSome (t.row s) → (n : ℕ) × HasGroups t s n) (λ s. implied (is-there (t.row s)) (groups_decided s)) t.slots)
-      (all_below (λ g. t.groups ≤ g → owner_byte m g ≡ 0) (λ g. implied (is-at-most t.groups g) (is-number (owner_byte m g) 0)) 1024)))
+      (both live (both groups no_more))
 
 -- the owners of the tables are sound or not
 pub owners_decided : (sup : Super) (m : ℕ → List ℕ) → Decided (AreOwners (tables_in sup m) m)

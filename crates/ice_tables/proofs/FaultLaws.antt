@@ -25,7 +25,9 @@ some_is : (f g : LayoutFault) → Some g ≡ Some f → OfSuper g ≡ true → O
 some_is f g e is = subst (λ (h : LayoutFault). OfSuper h ≡ true) (ap (λ (o : Option LayoutFault). unwrap_or o g) e) is
 
 first_of : (a b c d e h : Bool) (f : LayoutFault)
-    → (if not a then Some Magic else if not b then Some Version else if not c then Some Slots else if not d then Some Groups else if not e then Some Total else if not h then Some Zero else None) ≡ Some f → OfSuper f ≡ true
+    → (if not a then Some Magic else if not b then Some Version else if not c then Some Slots
+    else if not d then Some Groups else if not e then Some Total else if not h then Some Zero else None) ≡ Some f
+    → OfSuper f ≡ true
 first_of true true true true true true f is = absurd (cc is)
 first_of true true true true true false f is = some_is f Zero is refl
 first_of true true true true false h f is = some_is f Total is refl
@@ -37,7 +39,8 @@ first_of false b c d e h f is = some_is f Magic is refl
 super_only : (bytes : List ℕ) (f : LayoutFault) → super_fault bytes ≡ Some f → OfSuper f ≡ true
 unfolding super_fault
 super_only bytes f is =
-    first_of (word_at bytes 0 == super_magic) (word_at bytes 4 == 1) (between 1 16 (word_at bytes 8)) (between 1 1024 (word_at bytes 12)) (word_at bytes 16 == total_blocks (word_at bytes 8) (word_at bytes 12)) (zero_from 20 bytes) f is
+    first_of (word_at bytes 0 == super_magic) (word_at bytes 4 == 1) (between 1 16 (word_at bytes 8)) (between 1 1024 (word_at bytes 12))
+    (word_at bytes 16 == total_blocks (word_at bytes 8) (word_at bytes 12)) (zero_from 20 bytes) f is
 
 -- such a fault is the first
 super_first : (image : Image) (f : LayoutFault) → OfSuper f ≡ true → super_fault (block image 0) ≡ Some f → FirstFault image f
@@ -59,10 +62,12 @@ module _ (image : Image) (right : super_fault (block image 0) ≡ None) (without
   abbrev sup : Super
   sup = super_of (block image 0)
 
-  of_blocks : (m : ℕ → List ℕ) → table_blocks image ≡ Some m → Decided (AreNames sup.slots m) → Decided (AreOwners (tables_in sup m) m) → (f : LayoutFault) × FirstFault image f
+  of_blocks : (m : ℕ → List ℕ) → table_blocks image ≡ Some m → Decided (AreNames sup.slots m)
+      → Decided (AreOwners (tables_in sup m) m) → (f : LayoutFault) × FirstFault image f
   of_blocks m shown (inr bad) owners = (Names, (right, record { blocks = m; effective = shown; names = bad }))
   of_blocks m shown (inl names) (inr bad) = (Owners, (right, record { blocks = m; effective = shown; names = names; owners = bad }))
-  of_blocks m shown (inl names) (inl owners) = absurd (without (tables_in sup m) (record { superblock = right; blocks = m; effective = shown; says = refl; names = names; owners = owners }))
+  of_blocks m shown (inl names) (inl owners) =
+      absurd (without (tables_in sup m) (record { superblock = right; blocks = m; effective = shown; says = refl; names = names; owners = owners }))
 
   of_tables : (o : Option (ℕ → List ℕ)) → table_blocks image ≡ o → (f : LayoutFault) × FirstFault image f
   of_tables None shown = (Header, (right, shown))
@@ -92,7 +97,9 @@ with_tables image t Zero h is = cc (h.superblock, is)
 with_tables image t Header h is = cc (h.effective, is.1)
 with_tables image t Names h is =
     let names = subst (λ (u : Tables). AreNames u.slots h.blocks) h.says h.names in
-    (is.1).names (subst (λ (m : ℕ → List ℕ). AreNames (super_of (block image 0)).slots m) (same_blocks image h.blocks (is.1).blocks h.effective (is.1).effective) names)
+    let same = same_blocks image h.blocks (is.1).blocks h.effective (is.1).effective in
+    (is.1).names (subst (λ (m : ℕ → List ℕ). AreNames (super_of (block image 0)).slots m) same names)
 with_tables image t Owners h is =
     let owners = subst (λ (u : Tables). AreOwners u h.blocks) h.says h.owners in
-    (is.1).owners (subst (λ (m : ℕ → List ℕ). AreOwners (tables_in (super_of (block image 0)) m) m) (same_blocks image h.blocks (is.1).blocks h.effective (is.1).effective) owners)
+    let same = same_blocks image h.blocks (is.1).blocks h.effective (is.1).effective in
+    (is.1).owners (subst (λ (m : ℕ → List ℕ). AreOwners (tables_in (super_of (block image 0)) m) m) same owners)
