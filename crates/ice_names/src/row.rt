@@ -1,0 +1,143 @@
+//! A row of the cube table, read and written.
+ghost use Rattle.std.specs.Prelude.{◌≡◌, ◌≢◌, ◌≤◌, ◌<◌, ◌+◌, ◌%◌, ◌*◌, ℕ, List, true, false, None, Some, length, take, drop, IfSome, IfNone, MatchOption};
+ghost use Rattle.tree_spec.specs.Names.{IsNameList, longest_text, text_of};
+ghost use Rattle.ice_path.specs.Paths.{path_fault, path_names};
+ghost use Rattle.ice_tables.specs.Tables.{Row, blocks_from, row_of, mark_at, text_at, row_byte, IsCubeText};
+ghost use Rattle.ice_names.specs.Names.{path_of, IsCubePath};
+ghost use Rattle.ice_names.specs.Bytes.{IsRowBytes, IsRowSound, row_bytes};
+
+use crate::bytes::{byte_at, put_bytes, text_bytes};
+use ice_base::Block;
+use ice_path::read_path;
+use std::marker::Model;
+use tree_spec::Path;
+
+/// The row of a slot that isn't free.
+#[derive(Drop)]
+pub(crate) struct NameRow {
+    path: Path,
+    offline: bool,
+}
+
+impl Model for NameRow {
+    ghost use Rattle.ice_tables.specs.Tables.{Row};
+
+    ghost Value = { Row };
+
+    ghost view = { λ r. record { path = r.path; offline = r.offline } };
+}
+
+impl NameRow {
+    pub(crate) fn new(path: Path, offline: bool) -> NameRow
+        ensures { result ≡ record { path = path; offline = offline } }
+    {
+        NameRow { path, offline }
+    }
+
+    pub(crate) fn path(&self) -> &Path
+        ensures { result.now ≡ self.now.path }
+    {
+        &self.path
+    }
+
+    pub(crate) fn is_offline(&self) -> bool
+        ensures { result ≡ self.now.offline }
+    {
+        self.offline
+    }
+}
+
+/// Whether two paths have the same names.
+pub(crate) fn same_path(a: &Path, b: &Path) -> bool
+    ensures yes { result ≡ true → a.now ≡ b.now }
+    ensures no { result ≡ false → a.now ≢ b.now }
+{
+    a.text() == b.text()
+}
+
+/// Another path of the same names.
+pub(crate) fn copy_path(path: &Path) -> Path
+    ensures { result ≡ path.now }
+{
+    match read_path(path.text()) {
+        Ok(copy) => copy,
+        Err(_) => unreachable!(),
+    }
+}
+
+/// The path of a cube that a text of 1 to 199 bytes names.
+fn cube_path(text: &[u8]) -> Option<Path>
+    ensures path { IfSome result (λ p. p ≡ path_names text.now) }
+    ensures cube { IfSome result IsCubePath }
+    ensures text { IfSome result (λ p. (1 ≤ length text.now) × (length text.now ≤ 199) × (path_fault text.now ≡ None)) }
+    ensures refuses { result ≡ None → 1 ≤ length text.now → length text.now ≤ 199 → path_fault text.now ≢ None }
+{
+    if text.is_empty() || text.len() > 199 {
+        return None;
+    }
+    match read_path(text) {
+        Ok(path) => {
+            let _ = path.text();
+            Some(path)
+        }
+        Err(_) => None,
+    }
+}
+
+/// The row of a slot. None: its mark is above 2, or it isn't free and its text is no path of a cube.
+pub(crate) fn read_row(blocks: &[Block; 4], slot: u8) -> Option<Option<NameRow>>
+    requires { slot < 16 }
+    ensures row { let m = blocks_from 11 blocks.now in IfSome result (λ row. row ≡ row_of (mark_at m slot) (text_at m slot)) }
+    ensures cube { IfSome result (λ row. (p : List (List ℕ)) → path_of row ≡ Some p → IsCubePath p) }
+    ensures sound { IfSome result (λ row. IsRowSound (blocks_from 11 blocks.now) slot) }
+    ensures refuses { result ≡ None → ¬ IsRowSound (blocks_from 11 blocks.now) slot }
+{
+    let mark = byte_at(blocks, slot, 0);
+    if mark == 0 {
+        return Some(None);
+    }
+    if mark > 2 {
+        return None;
+    }
+    let length = byte_at(blocks, slot, 1);
+    if length > 199 {
+        return None;
+    }
+    match cube_path(text_bytes(blocks, slot, length as usize)) {
+        None => None,
+        Some(path) => Some(Some(NameRow::new(path, mark == 2))),
+    }
+}
+
+/// The bytes of a row: the mark, the length of the text, zeros from 2 on, the text from 8 on, and zeros behind it.
+fn bytes_of(row: &Option<NameRow>) -> [u8; 256]
+    requires { (p : List (List ℕ)) → path_of row.now ≡ Some p → IsCubePath p }
+    ensures { IsRowBytes row.now result }
+{
+    match row {
+        None => [0; 256],
+        Some(row) => bytes_of_cube(row),
+    }
+}
+
+fn bytes_of_cube(row: &NameRow) -> [u8; 256]
+    requires { IsCubePath row.now.path }
+    ensures { IsRowBytes (Some row.now) result }
+{
+    let mut bytes = [0; 256];
+    let text = row.path().text();
+    bytes[0] = if row.is_offline() { 2 } else { 1 };
+    bytes[1] = text.len() as u8;
+    bytes[8..8 + text.len()].copy_from_slice(text);
+    bytes
+}
+
+/// Writes the row of a slot.
+pub(crate) fn write_row(into: &mut [Block; 4], slot: u8, row: &Option<NameRow>)
+    requires slot { slot < 16 }
+    requires cube { (p : List (List ℕ)) → path_of row.now ≡ Some p → IsCubePath p }
+    ensures here { IsRowBytes row.now (row_bytes (blocks_from 11 into.new) slot) }
+    ensures others { (s : ℕ) → s ≢ slot → row_bytes (blocks_from 11 into.new) s ≡ row_bytes (blocks_from 11 into.old) s }
+{
+    put_bytes(into, slot, &bytes_of(row));
+}
