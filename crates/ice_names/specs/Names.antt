@@ -1,5 +1,5 @@
 -- The cube table as a value: for each slot of the image the path of its cube, and whether the cube is offline.
-use Rattle.std.specs.Prelude.{◌≡◌, ◌≢◌, ◌≤◌, ◌<◌, ℕ, Bool, true, false, cond, List, length, slice_index_or, Option, Some, None, IsSome}
+use Rattle.std.specs.Prelude.{◌≡◌, ◌≢◌, ◌≤◌, ◌<◌, ◌+◌, ℕ, Bool, nat_lt, if◌then◌else◌, true, false, cond, List, length, slice_index_or, Option, Some, None, IsSome}
 use Rattle.std.specs.Option.{option_map}
 use Rattle.tree_spec.specs.Names.{IsNameList, text_of}
 use Rattle.tree_spec.specs.Routes.{is_prefix}
@@ -60,20 +60,31 @@ pub record RowSet (old : NamesView) (slot : ℕ) (row : Option Row) (new : Names
   pub others : (s : ℕ) → s ≢ slot → row_at new s ≡ row_at old s
   pub slots : new.slots ≡ old.slots
 
--- the lowest free slot is this one
-pub record IsLowestFree (v : NamesView) (slot : ℕ) : Type 0 where
-  pub low : slot < v.slots
-  pub free : row_at v slot ≡ None
-  pub least : (s : ℕ) → s < slot → row_at v s ≢ None
-
 -- the slot of a route that was answered with the number of names of its path
 abbrev pub slot_in : Option (ℕ × ℕ) → Option ℕ
 slot_in answer = option_map (λ (a : ℕ × ℕ). a.0) answer
 
--- the cube in the slot has a path of so many names, which begin the path p
-pub record Catches (v : NamesView) (p : List (List ℕ)) (slot names : ℕ) : Type 0 where
+-- one more than the number of names that was answered, and 0 for no answer
+abbrev pub names_in : Option (ℕ × ℕ) → ℕ
+names_in None = 0
+names_in (Some a) = a.1 + 1
+
+-- the answer after a slot whose path begins p with so many names, where it does: that slot's where it has more of them
+abbrev pub longer_one : Option (ℕ × ℕ) → (slot : ℕ) → Option ℕ → Option (ℕ × ℕ)
+longer_one best slot None = best
+longer_one best slot (Some n) = if nat_lt (names_in best) (n + 1) then Some (slot, n) else best
+
+-- the row has a path of n names, which begin the path p
+pub record Begins (row : Option Row) (p : List (List ℕ)) (n : ℕ) : Type 0 where
+  pub path : List (List ℕ)
+  pub is : path_of row ≡ Some path
+  pub names : n ≡ length path
+  pub prefix : is_prefix path p ≡ true
+
+-- the cube in the slot has a path of n names, which begin the path p
+pub record Catches (v : NamesView) (p : List (List ℕ)) (slot n : ℕ) : Type 0 where
   pub low : slot < v.slots
   pub live : IsSome (row_at v slot)
-  pub names : (q : List (List ℕ)) → path_at v slot ≡ Some q → names ≡ length q
+  pub names : (q : List (List ℕ)) → path_at v slot ≡ Some q → n ≡ length q
   pub prefix : (q : List (List ℕ)) → path_at v slot ≡ Some q → is_prefix q p ≡ true
-  pub few : names ≤ length p
+  pub few : n ≤ length p

@@ -33,7 +33,8 @@ pub(crate) fn text_bytes(blocks: &[Block; 4], slot: u8, len: usize) -> &[u8]
 
 fn put_in_block(block: &mut Block, at: usize, bytes: &[u8; 256])
     requires { at < 4 }
-    ensures { block.new ≡ take (256 * at) block.old ++ bytes.now ++ drop (256 * at + 256) block.old }
+    ensures whole { length block.old ≡ 1024 }
+    ensures put { block.new ≡ take (256 * at) block.old ++ bytes.now ++ drop (256 * at + 256) block.old }
 {
     let from = ROW * at;
     block[from..from + ROW].copy_from_slice(bytes);

@@ -1,14 +1,15 @@
 //! A row of the cube table, read and written.
-ghost use Rattle.std.specs.Prelude.{◌≡◌, ◌≢◌, ◌≤◌, ◌<◌, ◌+◌, ◌%◌, ◌*◌, ℕ, List, true, false, None, Some, length, take, drop, IfSome, IfNone, MatchOption};
+ghost use Rattle.std.specs.Prelude.{◌≡◌, ◌≢◌, ◌≤◌, ◌<◌, ◌+◌, ◌%◌, ◌*◌, ℕ, List, true, false, None, Some, length, replicate, take, drop, ◌++◌, IfSome, IfNone, MatchOption};
 ghost use Rattle.tree_spec.specs.Names.{IsNameList, longest_text, text_of};
+ghost use Rattle.tree_spec.specs.Routes.{caught};
 ghost use Rattle.ice_path.specs.Paths.{path_fault, path_names};
 ghost use Rattle.ice_tables.specs.Tables.{Row, blocks_from, row_of, mark_at, text_at, row_byte, IsCubeText};
-ghost use Rattle.ice_names.specs.Names.{path_of, IsCubePath};
-ghost use Rattle.ice_names.specs.Bytes.{IsRowBytes, IsRowSound, row_bytes};
+ghost use Rattle.ice_names.specs.Names.{path_of, Begins, IsCubePath};
+ghost use Rattle.ice_names.specs.Bytes.{IsRowBytes, IsRowSound, mark_byte, row_bytes};
 
 use crate::bytes::{byte_at, put_bytes, text_bytes};
 use ice_base::Block;
-use ice_path::read_path;
+use ice_path::{is_prefix, read_path};
 use std::marker::Model;
 use tree_spec::Path;
 
@@ -45,6 +46,19 @@ impl NameRow {
     {
         self.offline
     }
+
+    pub(crate) fn set_offline(&mut self, offline: bool)
+        ensures { self.new ≡ record { path = self.old.path; offline = offline } }
+    {
+        self.offline = offline;
+    }
+}
+
+fn same_bytes(a: &[u8], b: &[u8]) -> bool
+    ensures yes { result ≡ true → a.now ≡ b.now }
+    ensures no { result ≡ false → a.now ≢ b.now }
+{
+    *a == *b
 }
 
 /// Whether two paths have the same names.
@@ -52,7 +66,46 @@ pub(crate) fn same_path(a: &Path, b: &Path) -> bool
     ensures yes { result ≡ true → a.now ≡ b.now }
     ensures no { result ≡ false → a.now ≢ b.now }
 {
-    a.text() == b.text()
+    same_bytes(a.text(), b.text())
+}
+
+/// Whether the row has the path.
+pub(crate) fn has_path(row: &Option<NameRow>, path: &Path) -> bool
+    ensures yes { result ≡ true → path_of row.now ≡ Some path.now }
+    ensures no { result ≡ false → path_of row.now ≢ Some path.now }
+{
+    match row {
+        None => false,
+        Some(row) => same_path(row.path(), path),
+    }
+}
+
+/// How many names the row's path has, where they begin the path.
+pub(crate) fn names_caught(row: &Option<NameRow>, path: &Path) -> Option<usize>
+    ensures caught { MatchOption result (caught path.now (path_of row.now) ≡ 0) (λ n. caught path.now (path_of row.now) ≡ n + 1) }
+    ensures begins { IfSome result (Begins row.now path.now) }
+{
+    match row {
+        None => None,
+        Some(row) => {
+            let short = row.path();
+            if is_prefix(short, path) {
+                Some(short.len())
+            } else {
+                None
+            }
+        }
+    }
+}
+
+/// Another row of the same path and mark.
+pub(crate) fn copy_row(row: &Option<NameRow>) -> Option<NameRow>
+    ensures { result ≡ row.now }
+{
+    match row {
+        None => None,
+        Some(row) => Some(NameRow::new(copy_path(row.path()), row.is_offline())),
+    }
 }
 
 /// Another path of the same names.
@@ -109,27 +162,46 @@ pub(crate) fn read_row(blocks: &[Block; 4], slot: u8) -> Option<Option<NameRow>>
     }
 }
 
-/// The bytes of a row: the mark, the length of the text, zeros from 2 on, the text from 8 on, and zeros behind it.
-fn bytes_of(row: &Option<NameRow>) -> [u8; 256]
-    requires { (p : List (List ℕ)) → path_of row.now ≡ Some p → IsCubePath p }
-    ensures { IsRowBytes row.now result }
+fn no_bytes() -> [u8; 256]
+    ensures { result ≡ replicate 256 0 }
 {
-    match row {
-        None => [0; 256],
-        Some(row) => bytes_of_cube(row),
-    }
+    [0; 256]
+}
+
+fn mark_byte(row: &NameRow) -> u8
+    ensures { result ≡ mark_byte (Some row.now) }
+{
+    if row.is_offline() { 2 } else { 1 }
+}
+
+fn put_text(bytes: &mut [u8; 256], text: &[u8])
+    requires { length text.now ≤ 199 }
+    ensures { bytes.new ≡ take 8 bytes.old ++ text.now ++ drop (8 + length text.now) bytes.old }
+{
+    bytes[8..8 + text.len()].copy_from_slice(text);
 }
 
 fn bytes_of_cube(row: &NameRow) -> [u8; 256]
     requires { IsCubePath row.now.path }
     ensures { IsRowBytes (Some row.now) result }
 {
-    let mut bytes = [0; 256];
     let text = row.path().text();
-    bytes[0] = if row.is_offline() { 2 } else { 1 };
+    let mut bytes = no_bytes();
+    put_text(&mut bytes, text);
+    bytes[0] = mark_byte(row);
     bytes[1] = text.len() as u8;
-    bytes[8..8 + text.len()].copy_from_slice(text);
     bytes
+}
+
+/// The bytes of a row: the mark, the length of the text, zeros from 2 on, the text from 8 on, and zeros behind it.
+fn bytes_of(row: &Option<NameRow>) -> [u8; 256]
+    requires { (p : List (List ℕ)) → path_of row.now ≡ Some p → IsCubePath p }
+    ensures { IsRowBytes row.now result }
+{
+    match row {
+        None => no_bytes(),
+        Some(row) => bytes_of_cube(row),
+    }
 }
 
 /// Writes the row of a slot.
