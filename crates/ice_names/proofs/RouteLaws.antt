@@ -87,3 +87,11 @@ module _ (v : NamesView) (p : List (List ℕ)) where
   pub route_none : slot_in None ≡ route paths 0 p
   unfolding route
   route_none = refl
+
+  -- the answer after a slot more
+  pub step : (i : ℕ) (best answer : Option (ℕ × ℕ)) (names : Option ℕ) (row : Option Row) → i < v.slots → row ≡ row_at v i → answer ≡ longer_one best i names → slot_in best ≡ route paths i p → IsCaught best
+      → MatchOption names (caught p (path_of row) ≡ 0) (λ n. caught p (path_of row) ≡ n + 1) → IfSome names (Begins row p) → (slot_in answer ≡ route paths (i + 1) p) × IsCaught answer
+  step i best answer names row low at is one two three four = (
+    ap slot_in is ∙ route_more i best names one two (subst (λ (r : Option Row). MatchOption names (caught p (path_of r) ≡ 0) (λ n. caught p (path_of r) ≡ n + 1)) at three),
+    subst IsCaught (sym is) (caught_more i best names low two (subst (λ (r : Option Row). IfSome names (Begins r p)) at four)),
+  )

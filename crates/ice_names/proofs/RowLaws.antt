@@ -4,6 +4,7 @@ use Rattle.std.specs.Prelude.{slice_index, nat_lt, if◌then◌else◌, ◌==◌
 use Rattle.std.proofs.lemmas.List.{get_or-take, get_or-drop, drop-drop, take-take, drop-take}
 use Rattle.std.proofs.lemmas.Bool.{cases_eq, cases_lt}
 use Rattle.std.proofs.lemmas.Bool.Decides.{nat_tests}
+use borrow.Author.Count.{below_more}
 use Rattle.tree_spec.specs.Names.{text_of, IsNameList, longest_text}
 use Rattle.ice_path.specs.Paths.{path_names, path_fault}
 use Rattle.ice_tables.specs.Tables.{Row, row_byte, mark_at, length_at, text_at, row_of, row_in, AreNames, IsCubeText}
@@ -129,6 +130,14 @@ module _ (v : NamesView) (m : ℕ → List ℕ) (sound : IsNameTable v) (written
         omega (arith, less, e);
     no_more = λ s high less. mark_is s less ∙ ap mark_byte (sound.no_more s high);
   }
+
+-- one row more is written
+pub written_more : (v : NamesView) (old new : ℕ → List ℕ) (n : ℕ) (row : Option Row) → row ≡ row_at v n → IsRowBytes row (row_bytes new n) → ((s : ℕ) → s ≢ n → row_bytes new s ≡ row_bytes old s)
+    → ((s : ℕ) → s < n → IsRowBytes (row_at v s) (row_bytes old s)) → (s : ℕ) → s < n + 1 → IsRowBytes (row_at v s) (row_bytes new s)
+written_more v old new n row is here others before =
+    below_more (λ s. IsRowBytes (row_at v s) (row_bytes new s)) n
+        (λ s less. subst (λ (x : List ℕ). IsRowBytes (row_at v s) x) (sym (others s (λ e. omega (arith, less, e)))) (before s less))
+        (subst (λ (x : Option Row). IsRowBytes x (row_bytes new n)) is here)
 
 -- ---- a table that is read
 

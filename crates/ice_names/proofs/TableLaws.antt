@@ -1,10 +1,13 @@
 -- A table whose rows are free, and a table with another row in one slot.
-use Rattle.std.proofs.Common.{◌≡◌, ◌≢◌, ◌⊎◌, inl, inr, ℕ, zero, suc, ◌+◌, ◌<◌, ◌≤◌, List, [], ◌∷◌, length, get_or, Option, Some, None, sym, refl, ap, ◌∙◌, subst, arith, length-set}
+use Rattle.std.proofs.Common.{◌≡◌, ◌≢◌, ◌⊎◌, inl, inr, ℕ, zero, suc, ◌+◌, ◌<◌, ◌≤◌, List, [], ◌∷◌, length, get_or, Option, Some, None, sym, refl, ap, ◌∙◌, subst, arith, length-set, true, false}
 use Rattle.std.specs.Prelude.{slice_set, replicate}
 use Rattle.std.proofs.lemmas.List.{get_or-set_same, get_or-set_other, same_lists, get_or_default}
 use Rattle.std.proofs.lemmas.Bool.{cases_eq, cases_lt}
+use borrow.Author.Count.{below_more}
 use Rattle.ice_tables.specs.Tables.{Row}
-use Rattle.ice_names.specs.Names.{NamesView, IsNameTable, IsCubePath, NoneHas, RowSet, row_at, path_of, path_at}
+use Rattle.ice_names.specs.Names.{NamesView, IsNameTable, IsCubePath, NoneHas, RowSet, row_at, path_of, path_at, marked, says_offline}
+use Rattle.ice_names.specs.declared.mark.Mark.{Mark}
+use Rattle.ice_names.specs.declared.mark.Mark.TheVariants.{Free, Online, Offline}
 use Rattle.ice_names.proofs.RowLaws.{HasCubePath}
 
 -- ---- no rows
@@ -99,7 +102,37 @@ pub put_is_sound : (v w : NamesView) (slot : ℕ) (row : Option Row) → v ≡ w
 put_is_sound v w slot row e sound low cube alone =
     set_is_sound v slot row sound (subst (λ (x : NamesView). slot < x.slots) (sym e) low) cube (subst (λ (x : NamesView). IsAlone x slot row) (sym e) alone)
 
+-- another mark
+pub marked_is_sound : (v w : NamesView) (slot : ℕ) (row : Option Row) → v ≡ w → IsNameTable v → slot < w.slots → path_of row ≡ path_at w slot → IsNameTable (with_row v slot row)
+marked_is_sound v w slot row e sound low same =
+    let known : IsNameTable w = subst IsNameTable e sound in
+    put_is_sound v w slot row e sound low (λ p is. known.paths slot p (sym same ∙ is)) (λ p s a b. known.differ s slot p b (sym same ∙ a))
+
+pub marked_path : (mark : Mark) (row : Option Row) → mark ≢ Free → path_of (marked mark row) ≡ path_of row
+marked_path Free row live = absurd (live refl)
+marked_path Online None live = refl
+marked_path Online (Some r) live = refl
+marked_path Offline None live = refl
+marked_path Offline (Some r) live = refl
+
+pub marked_some : (mark : Mark) (r : Row) → mark ≢ Free → Some (record { path = r.path; offline = says_offline mark }) ≡ marked mark (Some r)
+marked_some Free r live = absurd (live refl)
+marked_some Online r live = refl
+marked_some Offline r live = refl
+
+pub marked_none : (mark : Mark) → marked mark None ≡ None
+marked_none Free = refl
+marked_none Online = refl
+marked_none Offline = refl
+
 -- ---- looks
+
+-- a row that is read from the table
+pub inside_row : (v w : NamesView) (s : ℕ) (d : Option Row) → v ≡ w → IsNameTable v → s < 16 → get_or v.rows s d ≡ row_at w s
+inside_row v w s d e sound low = get_or_default v.rows s d None (omega (arith, low, sound.room)) ∙ ap (λ (x : NamesView). row_at x s) e
+
+pub inside_cube : (v w : NamesView) (s : ℕ) (d row : Option Row) → v ≡ w → IsNameTable v → s < 16 → row ≡ get_or v.rows s d → HasCubePath row
+inside_cube v w s d row e sound low is p has = (subst IsNameTable e sound).paths s p (sym (ap path_of (is ∙ inside_row v w s d e sound low)) ∙ has)
 
 -- a slot that has a path is one of the image's
 pub slot_low : (v : NamesView) (s : ℕ) (p : List (List ℕ)) → IsNameTable v → path_at v s ≡ Some p → s < v.slots
@@ -115,7 +148,28 @@ none_has v p sound none s is = none s (slot_low v s p sound is) is
 
 -- ---- copies
 
+-- tables of the same rows
 pub same_table : (v w : NamesView) → length v.rows ≡ 16 → length w.rows ≡ 16 → v.slots ≡ w.slots → ((s : ℕ) → row_at v s ≡ row_at w s) → v ≡ w
 same_table v w a b e same =
     let rows : v.rows ≡ w.rows = same_lists v.rows w.rows (a ∙ sym b) (λ k d less. get_or_default v.rows k d None less ∙ same k ∙ get_or_default w.rows k None d (omega (arith, less, a, b))) in
     λ i. record { slots = e i; rows = rows i }
+
+-- no other slot of a copy of the first slots has the path of the next
+pub copy_alone : (v w : NamesView) (n : ℕ) (row : Option Row) → IsNameTable v → row ≡ row_at v n → ((s : ℕ) → s < n → row_at w s ≡ row_at v s) → ((s : ℕ) → n ≤ s → row_at w s ≡ None) → IsAlone w n row
+copy_alone v w n row sound is same free p s a b = by (cases_lt s n)
+  where
+    by : (s < n) ⊎ (n ≤ s) → s ≡ n
+    by (inl less) = sound.differ s n p (sym (ap path_of (same s less)) ∙ b) (sym (ap path_of is) ∙ a)
+    by (inr high) = absurd (let bad : no_path ≡ Some p = sym (ap path_of (free s high)) ∙ b in cc bad)
+
+-- the slots that are copied are all
+pub copied : (v w : NamesView) (n : ℕ) → IsNameTable v → IsNameTable w → w.slots ≡ v.slots → v.slots ≤ n → ((s : ℕ) → s < n → row_at w s ≡ row_at v s) → ((s : ℕ) → n ≤ s → row_at w s ≡ None) → w ≡ v
+copied v w n sound also slots all same free = same_table w v also.room sound.room slots (λ s. by s (cases_lt s n))
+  where
+    by : (s : ℕ) → (s < n) ⊎ (n ≤ s) → row_at w s ≡ row_at v s
+    by s (inl less) = same s less
+    by s (inr high) = free s high ∙ sym (sound.no_more s (omega (arith, high, all)))
+
+-- one slot more
+pub same_more : (v w new : NamesView) (n : ℕ) (row : Option Row) → row ≡ row_at v n → RowSet w n row new → ((s : ℕ) → s < n → row_at w s ≡ row_at v s) → (s : ℕ) → s < n + 1 → row_at new s ≡ row_at v s
+same_more v w new n row is set same = below_more (λ s. row_at new s ≡ row_at v s) n (λ s less. set.others s (λ e. omega (arith, less, e)) ∙ same s less) (set.here ∙ is)

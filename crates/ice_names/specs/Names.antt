@@ -48,6 +48,12 @@ abbrev pub mark_of : Option Row → Mark
 mark_of None = Free
 mark_of (Some r) = cond r.offline Offline Online
 
+-- whether a mark says that the cube is offline
+abbrev pub says_offline : Mark → Bool
+says_offline Free = false
+says_offline Online = false
+says_offline Offline = true
+
 -- a row with another mark
 abbrev pub marked : Mark → Option Row → Option Row
 marked Free row = None

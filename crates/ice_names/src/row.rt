@@ -4,10 +4,12 @@ ghost use Rattle.tree_spec.specs.Names.{IsNameList, longest_text, text_of};
 ghost use Rattle.tree_spec.specs.Routes.{caught};
 ghost use Rattle.ice_path.specs.Paths.{path_fault, path_names};
 ghost use Rattle.ice_tables.specs.Tables.{Row, blocks_from, row_of, mark_at, text_at, row_byte, IsCubeText};
-ghost use Rattle.ice_names.specs.Names.{path_of, Begins, IsCubePath};
+ghost use Rattle.ice_names.specs.Names.{path_of, marked, Begins, IsCubePath};
+ghost use Rattle.ice_names.specs.declared.mark.Mark.TheVariants.{Free};
 ghost use Rattle.ice_names.specs.Bytes.{IsRowBytes, IsRowSound, mark_byte, row_bytes};
 
 use crate::bytes::{byte_at, put_bytes, text_bytes};
+use crate::mark::Mark;
 use ice_base::Block;
 use ice_path::{is_prefix, read_path};
 use std::marker::Model;
@@ -95,6 +97,16 @@ pub(crate) fn names_caught(row: &Option<NameRow>, path: &Path) -> Option<usize>
                 None
             }
         }
+    }
+}
+
+/// Marks a row that isn't free.
+pub(crate) fn mark_row(row: &mut Option<NameRow>, mark: Mark)
+    requires { mark ≢ Free }
+    ensures { row.new ≡ marked mark row.old }
+{
+    if let Some(row) = row {
+        row.set_offline(mark.is_offline());
     }
 }
 

@@ -9,7 +9,7 @@ ghost use Rattle.ice_names.specs.declared.mark.Mark.TheVariants.{Free};
 
 use crate::bytes::byte_at;
 use crate::mark::Mark;
-use crate::row::{NameRow, copy_path, copy_row, has_path, names_caught, read_row, write_row};
+use crate::row::{NameRow, copy_path, copy_row, has_path, mark_row, names_caught, read_row, write_row};
 use ice_base::Block;
 use ice_path::is_prefix;
 use std::marker::Model;
@@ -215,10 +215,7 @@ impl Names {
         requires mark { mark ≢ Free }
         ensures { RowSet self.old slot (marked mark (row_at self.old slot)) self.new }
     {
-        let offline = mark == Mark::Offline;
-        if let Some(row) = &mut self.rows[slot as usize] {
-            row.set_offline(offline);
-        }
+        mark_row(&mut self.rows[slot as usize], mark);
     }
 
     /// The slot of the cube whose path is the longest one that begins this path by whole names, with the number of its names.
