@@ -1,8 +1,8 @@
 //! The table of the cubes' names.
-ghost use Rattle.std.specs.Prelude.{◌≡◌, ◌≢◌, ◌≤◌, ◌<◌, ◌+◌, ℕ, List, nat_lt, Bool, true, false, None, Some, Option, length, replicate, IfSome, IfNone, IsSome, MatchOption};
-ghost use Rattle.tree_spec.specs.Names.{text_of, IsNameList, longest_text};
-ghost use Rattle.tree_spec.specs.Routes.{route, caught, caught_by};
-ghost use Rattle.ice_tables.specs.Tables.{Row, AreNames, blocks_from, row_in, mark_at};
+ghost use Rattle.std.specs.Prelude.{◌≡◌, ◌≢◌, ◌≤◌, ◌<◌, ◌+◌, ℕ, List, nat_lt, true, false, None, Some, length, replicate, IfSome, IfNone, IsSome, MatchOption};
+ghost use Rattle.tree_spec.specs.Names.{text_of};
+ghost use Rattle.tree_spec.specs.Routes.{route};
+ghost use Rattle.ice_tables.specs.Tables.{AreNames, blocks_from, row_in};
 ghost use Rattle.ice_names.specs.Names.{NamesView, IsNameTable, IsCubePath, RowSet, NoneHas, Catches, row_at, path_of, path_at, mark_of, marked, slot_in, names_in, longer_one};
 ghost use Rattle.ice_names.specs.Bytes.{IsReadTo, RowZeros};
 ghost use Rattle.ice_names.specs.declared.mark.Mark.TheVariants.{Free};
@@ -13,7 +13,6 @@ use crate::row::{
     NameRow, copy_path, copy_row, has_path, mark_row, names_caught, read_row, write_row,
 };
 use ice_base::Block;
-use ice_path::is_prefix;
 use std::marker::Model;
 use tree_spec::Path;
 
