@@ -61,6 +61,7 @@ impl Names {
     /// Puts a row into a slot.
     fn put(&mut self, slot: u8, row: Option<NameRow>)
         requires slot { slot < self.old.slots }
+        // The path of the row is a cube's, and no other slot has it.
         requires cube { (p : List (List ℕ)) → path_of row ≡ Some p → IsCubePath p }
         requires alone { (p : List (List ℕ)) (s : ℕ) → path_of row ≡ Some p → path_at self.old s ≡ Some p → s ≡ slot }
         ensures set { RowSet self.old slot row self.new }
@@ -108,6 +109,7 @@ impl Names {
     /// Reads the row of a slot into the table. False: it is refused, or another cube has its path.
     fn read_slot(&mut self, blocks: &[Block; 4], slot: u8) -> bool
         requires slot { slot < 16 }
+        // The slots before it are read, and afterwards it is too, or the blocks are refused.
         requires before { IsReadTo (blocks_from 11 blocks.now) slot self.old }
         ensures read { result ≡ true → IsReadTo (blocks_from 11 blocks.now) (slot + 1) self.new }
         ensures refused { result ≡ false → ¬ AreNames self.old.slots (blocks_from 11 blocks.now) }
@@ -152,8 +154,10 @@ impl Names {
 
     /// Writes the four blocks of the cube table, each byte of them.
     pub fn write(&self, into: &mut [Block; 4])
+        // The blocks are accepted, and say the rows of the table.
         ensures accepted { AreNames self.now.slots (blocks_from 11 into.new) }
         ensures rows { (s : ℕ) → row_in self.now.slots (blocks_from 11 into.new) s ≡ row_at self.now s }
+        // The bytes without a meaning are zero, and the blocks have 1,024 bytes.
         ensures zeros { (s : ℕ) → s < 16 → RowZeros (blocks_from 11 into.new) s }
         ensures whole { (k : ℕ) → 11 ≤ k → k < 15 → length (blocks_from 11 into.new k) ≡ 1024 }
         ensures sound { IsNameTable self.now }
@@ -165,6 +169,7 @@ impl Names {
 
     /// The slot of the cube that has the path.
     pub fn find(&self, path: &Path) -> Option<u8>
+        // A cube of the image with the path, or none has it.
         ensures slot { IfSome result (λ s. s < self.now.slots) }
         ensures found { MatchOption result (NoneHas self.now path.now) (λ s. path_at self.now s ≡ Some path.now) }
     {
@@ -178,6 +183,7 @@ impl Names {
 
     /// The lowest slot that is free.
     pub fn free_slot(&self) -> Option<u8>
+        // The slot is free, and none below it is; or none is.
         ensures slot { IfSome result (λ s. s < self.now.slots) }
         ensures free { IfSome result (λ s. row_at self.now s ≡ None) }
         ensures least { IfSome result (λ s. (r : ℕ) → r < s → row_at self.now r ≢ None) }
@@ -195,6 +201,7 @@ impl Names {
     pub fn add(&mut self, slot: u8, path: &Path)
         requires slot { slot < self.old.slots }
         requires free { row_at self.old slot ≡ None }
+        // No cube has the path, whose text has at most 199 bytes.
         requires absent { NoneHas self.old path.now }
         requires short { length (text_of path.now) ≤ 199 }
         ensures { RowSet self.old slot (Some (record { path = path.now; offline = false })) self.new }
@@ -223,6 +230,7 @@ impl Names {
 
     /// The slot of the cube whose path is the longest one that begins this path by whole names, with the number of its names.
     pub fn route(&self, path: &Path) -> Option<(u8, usize)>
+        // The slot is the route's, and the number is that of the names of its path.
         ensures slot { slot_in result ≡ route (λ s. path_at self.now s) self.now.slots path.now }
         ensures caught { IfSome result (λ a. Catches self.now path.now a.0 a.1) }
     {
