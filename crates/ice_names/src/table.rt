@@ -3,7 +3,8 @@ ghost use Rattle.std.specs.Prelude.{◌≡◌, ◌≢◌, ◌≤◌, ◌<◌, �
 ghost use Rattle.tree_spec.specs.Names.{text_of};
 ghost use Rattle.tree_spec.specs.Routes.{route};
 ghost use Rattle.ice_tables.specs.Tables.{AreNames, blocks_from, row_in};
-ghost use Rattle.ice_names.specs.Names.{NamesView, IsNameTable, IsCubePath, RowSet, NoneHas, Catches, row_at, path_of, path_at, mark_of, marked, slot_in, names_in, longer_one};
+ghost use Rattle.ice_names.specs.Names.{NamesView, IsNameTable, IsCubePath, RowSet, NoneHas, Catches};
+ghost use Rattle.ice_names.specs.Names.{row_at, path_of, path_at, mark_of, marked, slot_in, names_in, longer_one};
 ghost use Rattle.ice_names.specs.Bytes.{IsReadTo, RowZeros};
 ghost use Rattle.ice_names.specs.declared.mark.Mark.TheVariants.{Free};
 
