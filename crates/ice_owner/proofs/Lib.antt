@@ -1,2 +1,4 @@
 mod Held
+mod Kept
+mod MarkLaws
 pub mod Laws

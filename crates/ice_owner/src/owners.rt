@@ -1,5 +1,5 @@
 //! The groups of the slots.
-ghost use Rattle.std.specs.Prelude.{◌≡◌, ◌≢◌, ◌≤◌, ◌<◌, ◌+◌, ◌*◌, ◌↔◌, ◌++◌, ℕ, [], ◌∷◌, take, length, slice_index, None, Err, IfSome, IsOk, IsErr};
+ghost use Rattle.std.specs.Prelude.{◌≡◌, ◌≢◌, ◌≤◌, ◌<◌, ◌+◌, ◌*◌, ◌/◌, ◌%◌, ◌↔◌, ◌++◌, ℕ, [], ◌∷◌, take, length, slice_index, None, Err, IfSome, IsOk, IsErr};
 ghost use Rattle.ice_tables.specs.Tables.{Tables, AreOwners, blocks_from, holder_in, ordinal_in, owner_byte, ordinal_byte};
 ghost use Rattle.ice_owner.specs.Owners.{AreLots, OwnerTables, Changes, groups_at, holder, ordinal, free_groups};
 ghost use Rattle.ice_owner.specs.Places.{mark_slot, mark_ordinal};
