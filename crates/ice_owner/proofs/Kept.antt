@@ -1,8 +1,9 @@
 -- What counts and places say.
-use Rattle.std.proofs.Common.{◌≡◌, ◌≢◌, ◌∙◌, ◌≤◌, ◌<◌, ◌+◌, ◌*◌, ◌/◌, ◌%◌, inl, inr, ℕ, zero, suc, List, [], ◌∷◌, ◌++◌, length, take, drop, set, get_or, None, refl, sym, ap, subst, arith, length-set, length-take-le, length-drop, get_or-set_same, get_or-set_other}
+use Rattle.std.proofs.Common.{◌≡◌, ◌≢◌, ◌∙◌, ◌≤◌, ◌<◌, ◌+◌, ◌*◌, ◌/◌, ◌%◌, inl, inr, ℕ, zero, suc, List, [], ◌∷◌, ◌++◌, length, take, drop, set, get_or, None, refl, sym, ap, subst, arith, length-set, length-take, length-take-le, length-drop, get_or-set_same, get_or-set_other}
 use Rattle.std.specs.Prelude.{◌⊎◌, slice_index, slice_index_or}
 use Rattle.std.proofs.lemmas.Bool.{cases_lt, cases_eq}
-use Rattle.std.proofs.lemmas.List.{get_or-take, get_or-drop, get_or_past, drop-set-add, take_more_set, ext_get_or}
+use Rattle.std.proofs.lemmas.List.{get_or-take, get_or-drop, get_or_past, take_all, take_more, drop-set-add, take_more_set, ext_get_or}
+use Rattle.ice_base.specs.Lots.{LotView}
 use Rattle.ice_owner.specs.Owners.{OwnersView, AreLots, Changes, groups_at, holder}
 use Rattle.ice_owner.specs.Places.{lots_from, view_of, AreKept, IsTaken}
 use Rattle.ice_owner.proofs.Held.{none_held}
@@ -106,6 +107,32 @@ module _ (n : ℕ) (counts places : List ℕ) (kept : AreKept n counts places) w
       let at_too = taken_at n counts places kept.slots kept.all kept.few j also in
       let e = kept.lots.apart (k / 64) (j / 64) (k % 64) (j % 64) at.0 at_too.0 (at.1 ∙ same ∙ sym at_too.1) in
       omega (arith, e.0, e.1)
+
+  -- what stands before a group in the list of its slot differs from it
+  pub lot_fresh : (s o : ℕ) → o < slice_index counts s → (i : ℕ) → i < length (take o (groups_at (view_of n counts places) s))
+      → slice_index (take o (groups_at (view_of n counts places) s)) i ≢ slice_index places (64 * s + o)
+  lot_fresh s o low i inside same =
+      let xs = groups_at (view_of n counts places) s in
+      let long = lot_length n counts places kept.slots kept.all kept.few s in
+      let less : i < o = omega (arith, length-take o xs, inside) in
+      let e = kept.lots.apart s s i o (omega (arith, long, less, low)) (omega (arith, long, low))
+          (sym (get_or-take o xs i 0 less) ∙ same ∙ sym (lot_at n counts places kept.slots kept.all kept.few s o low)) in
+      omega (arith, e.1, less)
+
+  pub lot_more : (s o : ℕ) → o < slice_index counts s → take o (groups_at (view_of n counts places) s) ++ slice_index places (64 * s + o) ∷ [] ≡ take (o + 1) (groups_at (view_of n counts places) s)
+  lot_more s o low =
+      let xs = groups_at (view_of n counts places) s in
+      ap (λ (g : ℕ). take o xs ++ g ∷ []) (sym (lot_at n counts places kept.slots kept.all kept.few s o low))
+      ∙ sym (take_more xs o 0 (omega (arith, lot_length n counts places kept.slots kept.all kept.few s, low)))
+
+  pub lot_all : (s o : ℕ) → slice_index counts s ≤ o → take o (groups_at (view_of n counts places) s) ≡ groups_at (view_of n counts places) s
+  lot_all s o all = take_all o (groups_at (view_of n counts places) s) (omega (arith, lot_length n counts places kept.slots kept.all kept.few s, all))
+
+-- a lot by its parts
+pub same_view : (lot : LotView) (s b : ℕ) (groups : List ℕ) → lot.slot ≡ s → lot.base ≡ b → lot.groups ≡ groups → lot ≡ record { slot = s; base = b; groups = groups }
+same_view lot s b groups e f h =
+    let made : ℕ → ℕ → List ℕ → LotView = λ x y z. record { slot = x; base = y; groups = z } in
+    ap (λ (x : ℕ). made x lot.base lot.groups) e ∙ ap (λ (y : ℕ). made s y lot.groups) f ∙ ap (λ (z : List ℕ). made s b z) h
 
 -- ---- the groups of one slot change
 
