@@ -130,3 +130,46 @@ still_free v w slot xs changed g free never = holder_none w g (λ s o low at. by
 pub free_all : (v : OwnersView) → free_groups v ≡ filter (λ g. is_free v g) (range_with_len 0 v.groups)
 unfolding free_groups
 free_all v = refl
+
+-- a slot has got the first of the free groups below g, up to a count, of which so many are left
+pub record IsPushed (v w : OwnersView) (slot count left g : ℕ) : Type 0 where
+  pub pushed : Changes v w slot (groups_at v slot ++ take count (filter (λ h. is_free v h) (range_with_len 0 g)))
+  pub rest : left + length (take count (filter (λ h. is_free v h) (range_with_len 0 g))) ≡ count
+
+pub pushed_none : (v : OwnersView) (slot count : ℕ) → IsPushed v v slot count count 0
+pushed_none v slot zero = record { pushed = changes_none v slot; rest = omega arith }
+pushed_none v slot (suc count) = record { pushed = changes_none v slot; rest = omega arith }
+
+module _ (v w : OwnersView) (slot count left g : ℕ) (is : IsPushed v w slot count left g) where
+  abbrev Got : ℕ → List ℕ
+  Got n = take count (filter (λ h. is_free v h) (range_with_len 0 n))
+
+  pub pushed_more : (u : OwnersView) (less : ℕ) → is_free v g ≡ true → left ≡ less + 1 → Changes w u slot (groups_at w slot ++ g ∷ []) → IsPushed v u slot count less (g + 1)
+  pushed_more u less free some changed =
+      let next : Got (g + 1) ≡ Got g ++ g ∷ [] = first_next (λ h. is_free v h) count g free (omega (arith, is.rest, some)) in record {
+        pushed = subst (λ (xs : List ℕ). Changes v u slot (groups_at v slot ++ xs)) (sym next) (changes_more v w u slot (Got g) (g ∷ []) is.pushed changed);
+        rest = omega (arith, ap length next, length-append (Got g) (g ∷ []), is.rest, some);
+      }
+
+  same_got : Got (g + 1) ≡ Got g → IsPushed v w slot count left (g + 1)
+  same_got same = record {
+    pushed = subst (λ (xs : List ℕ). Changes v w slot (groups_at v slot ++ xs)) (sym same) is.pushed;
+    rest = omega (arith, ap length same, is.rest);
+  }
+
+  pub pushed_full : left ≡ 0 → IsPushed v w slot count left (g + 1)
+  pushed_full none = same_got (first_full (λ h. is_free v h) count g (omega (arith, is.rest, none)))
+
+  pub pushed_skip : is_free v g ≡ false → IsPushed v w slot count left (g + 1)
+  pushed_skip held = same_got (first_skip (λ h. is_free v h) count g held)
+
+  pub pushed_free : holder v g ≡ None → holder w g ≡ None
+  pushed_free free = still_free v w slot (Got g) is.pushed g free (λ o low same. omega (arith, first_low (λ h. is_free v h) count g o low, same))
+
+  pub pushed_room : length (groups_at v slot) + count ≤ 64 → 0 < left → length (groups_at w slot) < 64
+  pushed_room fits some = omega (arith, ap length is.pushed.lot, length-append (groups_at v slot) (Got g), is.rest, some, fits)
+
+  pub pushed_all : g ≡ v.groups → Changes v w slot (groups_at v slot ++ take count (free_groups v))
+  pushed_all all =
+      subst (λ (xs : List ℕ). Changes v w slot (groups_at v slot ++ take count xs)) (sym (free_all v))
+      (subst (λ (n : ℕ). Changes v w slot (groups_at v slot ++ Got n)) all is.pushed)

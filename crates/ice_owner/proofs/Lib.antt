@@ -4,4 +4,5 @@ mod MarkLaws
 mod Gathering
 mod Filters
 mod Entries
+mod Reading
 pub mod Laws

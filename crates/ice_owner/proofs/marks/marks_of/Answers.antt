@@ -7,7 +7,7 @@ use Rattle.ice_owner.proofs.marks.marks_of.Goals as goal
 use Rattle.ice_owner.proofs.marks.marks_of.Goals.{then-k-counts, else-k-counts}
 
 pub loop-k-init : goal.loop-k-init
-loop-k-init c = marks_none c.args.counts.now c.args.places.now (replicate 1024 0) (length-replicate 1024 0) (zeros_at 1024)
+loop-k-init c = marks_none c.args.counts.now c.args.places.now (replicate 1024 0) (length-replicate {A = ℕ} 1024 0) (zeros_at 1024)
 
 pub loop-k-preserved : goal.loop-k-preserved
 loop-k-preserved c =
