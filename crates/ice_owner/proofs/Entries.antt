@@ -1,9 +1,9 @@
 -- The entries of an owner table, and what they say.
-use Rattle.std.proofs.Common.{◌≡◌, ◌∙◌, ◌≤◌, ◌<◌, ◌+◌, ◌-◌, ◌*◌, ◌/◌, ◌%◌, ℕ, zero, suc, Bool, true, false, List, [], length, Option, Some, None, refl, sym, ap, subst, arith}
+use Rattle.std.proofs.Common.{◌≡◌, ◌∙◌, ◌≤◌, ◌<◌, ◌+◌, ◌-◌, ◌*◌, ◌/◌, ◌%◌, ℕ, zero, suc, Bool, true, false, List, [], Option, Some, None, refl, sym, ap, arith}
 use Rattle.std.specs.Prelude.{slice_index, slice_index_or, nat_lt, if◌then◌else◌}
 use Rattle.std.proofs.lemmas.Bool.Decides.{nat_tests}
 use Rattle.ice_tables.specs.Tables.{blocks_from, owner_byte, ordinal_byte, slot_of, ordinal_of, holder_in, ordinal_in}
-use Rattle.ice_owner.specs.Owners.{OwnersView, AreLots, groups_at, holder, ordinal}
+use Rattle.ice_owner.specs.Owners.{OwnersView, AreLots, holder, ordinal}
 use Rattle.ice_owner.specs.Places.{mark_slot, mark_ordinal, mark_owner, mark_byte}
 use Rattle.ice_owner.proofs.Held.{holder_is, holder_past}
 

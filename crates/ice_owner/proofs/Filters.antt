@@ -1,11 +1,11 @@
 -- The free groups, one group after another.
-use Rattle.std.proofs.Common.{◌≡◌, ◌≢◌, ◌∙◌, ◌≤◌, ◌<◌, ◌+◌, ◌-◌, ◌&&◌, ◌==◌, inl, inr, ℕ, zero, suc, Bool, true, false, List, [], ◌∷◌, ◌++◌, length, take, Option, Some, None, refl, sym, ap, subst, arith, length-append, length-take, append_assoc}
+use Rattle.std.proofs.Common.{◌≡◌, ◌≢◌, ◌∙◌, ◌≤◌, ◌<◌, ◌+◌, ◌-◌, ◌&&◌, ◌==◌, inl, inr, ℕ, zero, suc, Bool, true, false, List, [], ◌∷◌, ◌++◌, length, take, None, refl, sym, ap, subst, arith, length-append, length-take, append_assoc}
 use Rattle.std.specs.Prelude.{◌⊎◌, cond, slice_index, filter, nat_lt, is_none}
 use Rattle.std.specs.List.{range_with_len}
 use Rattle.std.proofs.lemmas.Bool.{cases_lt, cases_eq}
 use Rattle.std.proofs.lemmas.Bool.Decides.{nat_tests}
 use Rattle.std.proofs.lemmas.List.{take_all, take-append-le, append-nil, get_or-take, get_or_append_left, get_or-append_right}
-use Rattle.ice_owner.specs.Owners.{OwnersView, AreLots, Changes, groups_at, holder, is_free, free_groups}
+use Rattle.ice_owner.specs.Owners.{OwnersView, Changes, groups_at, holder, is_free, free_groups}
 use Rattle.ice_owner.specs.Places.{mark_slot}
 use Rattle.ice_owner.proofs.Held.{holder_none, none_held}
 

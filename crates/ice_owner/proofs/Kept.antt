@@ -1,10 +1,10 @@
 -- What counts and places say.
-use Rattle.std.proofs.Common.{◌≡◌, ◌≢◌, ◌∙◌, ◌≤◌, ◌<◌, ◌+◌, ◌*◌, ◌/◌, ◌%◌, inl, inr, ℕ, zero, suc, List, [], ◌∷◌, ◌++◌, length, take, drop, set, get_or, None, refl, sym, ap, subst, arith, length-set, length-take, length-take-le, length-drop, get_or-set_same, get_or-set_other}
+use Rattle.std.proofs.Common.{◌≡◌, ◌≢◌, ◌∙◌, ◌≤◌, ◌<◌, ◌+◌, ◌*◌, ◌/◌, ◌%◌, inl, inr, ℕ, zero, suc, List, [], ◌∷◌, ◌++◌, length, take, drop, set, None, refl, sym, ap, subst, arith, length-set, length-take, length-take-le, length-drop, get_or-set_same, get_or-set_other}
 use Rattle.std.specs.Prelude.{◌⊎◌, slice_index, slice_index_or}
 use Rattle.std.proofs.lemmas.Bool.{cases_lt, cases_eq}
 use Rattle.std.proofs.lemmas.List.{get_or-take, get_or-drop, get_or_past, take_all, take_more, drop-set-add, take_more_set, ext_get_or}
 use Rattle.ice_base.specs.Lots.{LotView}
-use Rattle.ice_owner.specs.Owners.{OwnersView, AreLots, Changes, groups_at, holder}
+use Rattle.ice_owner.specs.Owners.{Changes, groups_at, holder}
 use Rattle.ice_owner.specs.Places.{lots_from, view_of, AreKept, IsTaken}
 use Rattle.ice_owner.proofs.Held.{none_held}
 
@@ -116,7 +116,7 @@ module _ (n : ℕ) (counts places : List ℕ) (kept : AreKept n counts places) w
       let long = lot_length n counts places kept.slots kept.all kept.few s in
       let less : i < o = omega (arith, length-take o xs, inside) in
       let e = kept.lots.apart s s i o (omega (arith, long, less, low)) (omega (arith, long, low))
-          (sym (get_or-take o xs i 0 less) ∙ same ∙ sym (lot_at n counts places kept.slots kept.all kept.few s o low)) in
+      (sym (get_or-take o xs i 0 less) ∙ same ∙ sym (lot_at n counts places kept.slots kept.all kept.few s o low)) in
       omega (arith, e.1, less)
 
   pub lot_more : (s o : ℕ) → o < slice_index counts s → take o (groups_at (view_of n counts places) s) ++ slice_index places (64 * s + o) ∷ [] ≡ take (o + 1) (groups_at (view_of n counts places) s)
@@ -146,9 +146,9 @@ same_lot n counts counts' places places' a b r count at =
     let long_too = lot_length n counts' places' b.0 b.1 b.2 r in
     ext_get_or 0 (groups_at (view_of n counts' places') r) (groups_at (view_of n counts places) r) (omega (arith, long, long_too, count))
     (λ o low.
-      let small : o < slice_index counts r = omega (arith, low, long_too, count) in
-      let small_too : o < slice_index counts' r = omega (arith, low, long_too) in
-      lot_at n counts' places' b.0 b.1 b.2 r o small_too ∙ at o small ∙ sym (lot_at n counts places a.0 a.1 a.2 r o small))
+    let small : o < slice_index counts r = omega (arith, low, long_too, count) in
+    let small_too : o < slice_index counts' r = omega (arith, low, long_too) in
+    lot_at n counts' places' b.0 b.1 b.2 r o small_too ∙ at o small ∙ sym (lot_at n counts places a.0 a.1 a.2 r o small))
 
 module _ (n : ℕ) (counts places : List ℕ) (kept : AreKept n counts places) (s : ℕ) (low : s < 16) where
   -- a slot without its groups

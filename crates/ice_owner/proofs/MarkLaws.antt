@@ -1,9 +1,8 @@
 -- The slots and ordinals that marks tell.
-use Rattle.std.proofs.Common.{◌≡◌, ◌≢◌, ◌∙◌, ◌≤◌, ◌<◌, ◌+◌, ◌*◌, ◌/◌, ◌%◌, inl, inr, ℕ, zero, suc, List, length, set, replicate, length-set, get_or-set_same, get_or-set_other, Option, Some, None, refl, sym, ap, subst, arith}
+use Rattle.std.proofs.Common.{◌≡◌, ◌≢◌, ◌∙◌, ◌≤◌, ◌<◌, ◌+◌, ◌*◌, ◌/◌, ◌%◌, inl, inr, ℕ, zero, suc, List, length, set, replicate, length-set, get_or-set_same, get_or-set_other, Option, refl, sym, ap, subst, arith}
 use Rattle.std.specs.Prelude.{◌⊎◌, slice_index}
 use Rattle.std.proofs.lemmas.Bool.{cases_lt, cases_eq}
-use Rattle.std.proofs.lemmas.List.{get_or_past}
-use Rattle.ice_owner.specs.Owners.{OwnersView, groups_at, place_of, holder, ordinal}
+use Rattle.ice_owner.specs.Owners.{place_of, holder, ordinal}
 use Rattle.ice_owner.specs.Places.{view_of, AreKept, IsTaken, AreMarks, mark_slot, mark_ordinal}
 use Rattle.ice_owner.proofs.Held.{holder_at, holder_none}
 use Rattle.ice_owner.proofs.Kept.{lot_length, lot_at, is_taken, taken_at}
@@ -15,10 +14,10 @@ module _ (n : ℕ) (counts places marks : List ℕ) (kept : AreKept n counts pla
   mark_says : (g mark : ℕ) → slice_index marks g ≡ mark → Says g mark
   mark_says g zero is =
       let none = holder_none (view_of n counts places) g (λ s o low at.
-        let small : o < slice_index counts s = omega (arith, low, lot_length n counts places kept.slots kept.all kept.few s) in
-        let taken = is_taken n counts places kept.slots kept.all kept.few s o small in
-        let here : slice_index places (64 * s + o) ≡ g = sym (lot_at n counts places kept.slots kept.all kept.few s o small) ∙ at in
-        are.marked (64 * s + o) taken.0 taken.1 (ap (λ (h : ℕ). slice_index marks h) here ∙ is))
+      let small : o < slice_index counts s = omega (arith, low, lot_length n counts places kept.slots kept.all kept.few s) in
+      let taken = is_taken n counts places kept.slots kept.all kept.few s o small in
+      let here : slice_index places (64 * s + o) ≡ g = sym (lot_at n counts places kept.slots kept.all kept.few s o small) ∙ at in
+      are.marked (64 * s + o) taken.0 taken.1 (ap (λ (h : ℕ). slice_index marks h) here ∙ is))
       in
       (none, ap (λ (f : Option ℕ). place_of (view_of n counts places) f g) none)
   mark_says g (suc k) is =

@@ -1,5 +1,5 @@
 -- The groups of an image, by the slots that have them.
-use Rattle.std.specs.Prelude.{◌≡◌, ◌≢◌, ◌≤◌, ◌<◌, ℕ, zero, suc, ◌+◌, ◌==◌, Bool, true, false, ◌&&◌, nat_lt, cond, List, [], ◌∷◌, length, filter, slice_index, slice_index_or, Option, Some, None, is_none, IsSome}
+use Rattle.std.specs.Prelude.{◌≡◌, ◌≢◌, ◌≤◌, ◌<◌, ℕ, ◌+◌, ◌==◌, Bool, true, false, ◌&&◌, nat_lt, cond, List, [], ◌∷◌, length, filter, slice_index, slice_index_or, Option, Some, None, is_none, IsSome}
 use Rattle.std.specs.List.{range_with_len}
 use Rattle.ice_base.specs.Spare.{has}
 use Rattle.ice_tables.specs.Tables.{Tables, holder_in, ordinal_in}

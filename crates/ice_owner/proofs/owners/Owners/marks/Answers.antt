@@ -1,4 +1,4 @@
-use Rattle.std.proofs.Common.{◌≡◌, ℕ, sym, subst}
+use Rattle.std.proofs.Common.{◌≡◌, subst}
 use Rattle.std.specs.Prelude.{slice_index}
 use Rattle.ice_owner.specs.Owners.{OwnersView, AreLots, holder, ordinal}
 use Rattle.ice_owner.specs.Places.{mark_slot, mark_ordinal}

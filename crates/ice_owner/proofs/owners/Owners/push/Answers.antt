@@ -30,5 +30,5 @@ returns c =
     record {
       pushed =
           subst (λ (v : OwnersView). Changes v (view_of i.groups (set i.counts s (slice_index i.counts s + 1)) (set i.places (64 * s + slice_index i.counts s) g)) s (groups_at v s ++ g ∷ []))
-              c.self.view_is (pushed i.groups i.counts i.places c.self.invariant s c.requires.slot g room small free);
+          c.self.view_is (pushed i.groups i.counts i.places c.self.invariant s c.requires.slot g room small free);
     }

@@ -1,10 +1,8 @@
-use Rattle.std.proofs.Common.{◌≡◌, ℕ, List, replicate, refl, sym, subst, arith}
-use Rattle.std.specs.Prelude.{slice_index}
+use Rattle.std.proofs.Common.{ℕ, replicate, refl}
 use Rattle.std.proofs.lemmas.List.{length-replicate, get_or-replicate}
 use Rattle.ice_tables.specs.Tables.{blocks_from}
-use Rattle.ice_owner.specs.Places.{nobody, view_of}
 use Rattle.ice_owner.proofs.MarkLaws.{zeros_at}
-use Rattle.ice_owner.proofs.Reading.{gathered_none, read_kept, holders_read, ordinals_read, read_accepted, bad_refused, past_refused, gap_refused, bare_refused}
+use Rattle.ice_owner.proofs.Reading.{gathered_none, read_kept, holders_read, ordinals_read, read_accepted, bad_refused, gap_refused, bare_refused}
 use Rattle.ice_owner.proofs.owners.Owners.read.Goals as goal
 
 pub gather-requires-clause-none : goal.gather-requires-clause-none

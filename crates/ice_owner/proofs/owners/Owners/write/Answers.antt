@@ -1,4 +1,4 @@
-use Rattle.std.proofs.Common.{◌≡◌, ◌<◌, ◌*◌, ◌∷◌, [], ℕ, zero, suc, List, arith}
+use Rattle.std.proofs.Common.{◌<◌, ◌*◌, ◌∷◌, [], ℕ, zero, suc, List, arith}
 use Rattle.std.specs.Prelude.{slice_index_or}
 use Rattle.ice_tables.specs.Tables.{blocks_from}
 use Rattle.ice_owner.proofs.Entries.{HasEntries, AreEntries, four_blocks, holders_said, ordinals_said, past_said, unowned_said}
