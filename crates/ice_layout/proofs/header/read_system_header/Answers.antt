@@ -1,0 +1,31 @@
+use Rattle.std.proofs.Common.{ap, sym, ℕ, List, ◌∙◌}
+use Rattle.std.specs.List.{list_all}
+use Rattle.ice_layout.specs.Headers.{is_table}
+use Rattle.ice_layout.proofs.HeaderLaws.{refused-system, system-marked, refused-counted, refused-homes, accepted, read_right, read_proper}
+use Rattle.ice_layout.proofs.header.read_system_header.Goals as goal
+
+pub returns-then-read_u32-ne-SYSTEM_MAGIC-clause-header : goal.returns-then-read_u32-ne-SYSTEM_MAGIC-clause-header
+returns-then-read_u32-ne-SYSTEM_MAGIC-clause-header c = refused-system c.args.from.now (λ e. c.if-read_u32-ne-SYSTEM_MAGIC.true (c.read_u32.ensures ∙ e))
+
+pub returns-in_err-header-clause-header : goal.returns-in_err-header-clause-header
+returns-in_err-header-clause-header c = c.from_residual.ensures ∙ system-marked c.args.from.now _ (sym c.read_u32.ensures ∙ c.if-read_u32-ne-SYSTEM_MAGIC.false) (refused-counted 8 is_table c.args.from.now c.in_err-header.ensures.header)
+
+pub returns-then-not-are_tables-clause-header : goal.returns-then-not-are_tables-clause-header
+returns-then-not-are_tables-clause-header c =
+    let away = ap (λ (ts : List ℕ). list_all is_table ts) (sym c.said.ensures) ∙ (sym c.are_tables.ensures ∙ c.if-not-are_tables.true) in
+    system-marked c.args.from.now _ (sym c.read_u32.ensures ∙ c.if-read_u32-ne-SYSTEM_MAGIC.false) (refused-homes 8 is_table c.args.from.now c.in_ok-header.header c.in_ok-header.ensures.header away)
+
+pub returns-clause-header : goal.returns-clause-header
+returns-clause-header c =
+    let homes = ap (λ (ts : List ℕ). list_all is_table ts) (sym c.said.ensures) ∙ (sym c.are_tables.ensures ∙ c.if-not-are_tables.false) in
+    system-marked c.args.from.now _ (sym c.read_u32.ensures ∙ c.if-read_u32-ne-SYSTEM_MAGIC.false) (accepted 8 is_table c.args.from.now c.in_ok-header.header c.in_ok-header.ensures.header homes)
+
+pub returns-clause-targets : goal.returns-clause-targets
+returns-clause-targets c =
+    let homes = ap (λ (ts : List ℕ). list_all is_table ts) (sym c.said.ensures) ∙ (sym c.are_tables.ensures ∙ c.if-not-are_tables.false) in
+    read_right 8 is_table c.args.from.now c.in_ok-header.header c.in_ok-header.ensures.header homes
+
+pub returns-clause-proper : goal.returns-clause-proper
+returns-clause-proper c =
+    let homes = ap (λ (ts : List ℕ). list_all is_table ts) (sym c.said.ensures) ∙ (sym c.are_tables.ensures ∙ c.if-not-are_tables.false) in
+    read_proper 8 is_table c.args.from.now c.in_ok-header.header c.in_ok-header.ensures.header homes is_table (λ a is. is)
