@@ -10,8 +10,8 @@ ghost use Rattle.ice_journal.specs.Blocks.{AreHomes, CommitBlocks, HomeBlocks, J
 ghost use Rattle.ice_journal.specs.Phases.{BeforeOrAfter, Full, Idle, RestsIdle};
 ghost use Rattle.ice_journal.specs.declared.commits.CommitFault.TheVariants.{Before, After};
 
-use crate::{Area, Journal};
 use crate::settle::{settle_body, settle_gate, settle_homes};
+use crate::{Area, Journal};
 use ice_base::{Disk, DiskFault};
 use ice_txn::WriteSet;
 
