@@ -54,7 +54,8 @@ zeros_at zero g = refl
 zeros_at (suc n) zero = refl
 zeros_at (suc n) (suc g) = zeros_at n g
 
-pub marks_skip : (k : ℕ) (counts places marks : List ℕ) → AreMarks k counts places marks → slice_index counts (k / 64) ≤ k % 64 → AreMarks (k + 1) counts places marks
+pub marks_skip : (k : ℕ) (counts places marks : List ℕ) → AreMarks k counts places marks → slice_index counts (k / 64) ≤ k % 64
+    → AreMarks (k + 1) counts places marks
 marks_skip k counts places marks are free = record {
   all = are.all;
   found = λ g j is. let old = are.found g j is in (omega (arith, old.0), old.1, old.2);
@@ -81,7 +82,8 @@ marks_more k counts places marks are inside small apart here = record {
     same_mark : slice_index (set marks (slice_index places k) (k + 1)) (slice_index places k) ≡ k + 1
     same_mark = get_or-set_same marks (slice_index places k) (k + 1) 0 (omega (arith, are.all, small k inside here))
 
-    found : (g j : ℕ) → slice_index (set marks (slice_index places k) (k + 1)) g ≡ j + 1 → (g ≡ slice_index places k) ⊎ (g ≡ slice_index places k → ⊥) → (j < k + 1) × IsTaken counts j × (slice_index places j ≡ g)
+    found : (g j : ℕ) → slice_index (set marks (slice_index places k) (k + 1)) g ≡ j + 1 → (g ≡ slice_index places k)
+        ⊎ (g ≡ slice_index places k → ⊥) → (j < k + 1) × IsTaken counts j × (slice_index places j ≡ g)
     found g j is (inl same) =
         let e : j ≡ k = omega (arith, is, ap (λ (h : ℕ). slice_index (set marks (slice_index places k) (k + 1)) h) same, same_mark) in
         (omega (arith, e), subst (λ (i : ℕ). IsTaken counts i) (sym e) here, ap (λ (i : ℕ). slice_index places i) e ∙ sym same)
@@ -91,7 +93,8 @@ marks_more k counts places marks are inside small apart here = record {
 
     marked : (j : ℕ) → j < k + 1 → IsTaken counts j → (j < k) ⊎ (k ≤ j) → slice_index (set marks (slice_index places k) (k + 1)) (slice_index places j) ≢ 0
     marked j low taken (inl less) none =
-        let other : slice_index places j ≢ slice_index places k = λ same. let e = apart j k (omega (arith, less, inside)) inside taken here same in omega (arith, e, less) in
+        let other : slice_index places j ≢ slice_index places k = λ same. let e = apart j k (omega (arith, less, inside)) inside taken here same in
+        omega (arith, e, less) in
         are.marked j less taken (sym (get_or-set_other marks (slice_index places k) (slice_index places j) (k + 1) 0 other) ∙ none)
     marked j low taken (inr high) none =
         let e : j ≡ k = omega (arith, low, high) in

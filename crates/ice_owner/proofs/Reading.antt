@@ -51,7 +51,8 @@ module _ (m : ℕ → List ℕ) (live : List Bool) (n : ℕ) (counts places : Li
   entry_says g (suc s) low own =
       let e : suc s ≡ s + 1 = omega arith in
       let p = is.placed g s low (own ∙ e) in
-      let at = holder_at (view_of n counts places) read_kept.lots s (ordinal_byte m g) g (omega (arith, p.counted, lot_length n counts places is.slots is.all is.few s))
+      let at = holder_at (view_of n counts places) read_kept.lots s (ordinal_byte m g) g
+      (omega (arith, p.counted, lot_length n counts places is.slots is.all is.few s))
       (lot_at n counts places is.slots is.all is.few s (ordinal_byte m g) p.counted ∙ p.place) in
       (sym at.0, sym at.1)
 
@@ -87,7 +88,8 @@ module _ (m : ℕ → List ℕ) (live : List Bool) (n : ℕ) (counts places : Li
       length_none (x ∷ xs) none = absurd (omega (arith, none))
 
       taken : (s : ℕ) → groups_at (view_of n counts places) s ≢ [] → (count : ℕ) → slice_index counts s ≡ count → IsSome (t.row s)
-      taken s groups zero count = absurd (groups (length_none (groups_at (view_of n counts places) s) (lot_length n counts places is.slots is.all is.few s ∙ count)))
+      taken s groups zero count = absurd (groups (length_none (groups_at (view_of n counts places) s)
+          (lot_length n counts places is.slots is.all is.few s ∙ count)))
       taken s groups (suc c) count =
           let e : suc c ≡ c + 1 = omega arith in
           let top = is.top s c (count ∙ e) in
@@ -110,7 +112,8 @@ module _ (m : ℕ → List ℕ) (live : List Bool) (n : ℕ) (t : Tables) (said 
       owner zero is = absurd (cc is)
       owner (suc r) is = let same : r ≡ s = cc in omega (arith, same)
 
-      by : (b : Bool) → nat_lt g n ≡ b → (if b then slot_of (owner_byte m g) else None) ≡ Some s → (g < n) × (owner_byte m g ≡ s + 1) × (t.ordinal g ≡ ordinal_byte m g)
+      by : (b : Bool) → nat_lt g n ≡ b → (if b then slot_of (owner_byte m g) else None) ≡ Some s
+          → (g < n) × (owner_byte m g ≡ s + 1) × (t.ordinal g ≡ ordinal_byte m g)
       by true less is =
           let low : g < n = grind (arith, nat_tests) in
           let own = owner (owner_byte m g) is in

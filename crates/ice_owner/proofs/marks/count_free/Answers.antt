@@ -10,7 +10,8 @@ loop-g-preserved c =
     elim c.if-marks-g-eq0.branch [
       | then-marks-g-eq0 w ↦
           let is : (slice_index c.args.marks.now c.loop-g.g == 0) ≡ true = grind (arith, nat_tests) in record {
-            counted = w.free-is ∙ ap (λ (n : ℕ). n + 1) c.loop-g.invariant.counted ∙ sym (count_next (λ h. slice_index c.args.marks.now h == 0) c.loop-g.g true is);
+            counted = w.free-is ∙ ap (λ (n : ℕ). n + 1) c.loop-g.invariant.counted
+                ∙ sym (count_next (λ h. slice_index c.args.marks.now h == 0) c.loop-g.g true is);
             few = omega (arith, w.free-is, c.loop-g.invariant.few);
           }
       | else-marks-g-eq0 w ↦

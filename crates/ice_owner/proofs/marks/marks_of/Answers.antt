@@ -12,7 +12,8 @@ pub loop-k-preserved : goal.loop-k-preserved
 loop-k-preserved c =
     elim c.if-k-counts.branch [
       | then-k-counts w ↦ subst (λ (marks : List ℕ). AreMarks (c.loop-k.k + 1) c.args.counts.now c.args.places.now marks) (sym w.marks-is)
-          (marks_more c.loop-k.k c.args.counts.now c.args.places.now c.loop-k.marks c.loop-k.invariant (omega arith) c.requires.small c.requires.apart w.if-k-counts.true)
+          (marks_more c.loop-k.k c.args.counts.now c.args.places.now c.loop-k.marks c.loop-k.invariant
+          (omega arith) c.requires.small c.requires.apart w.if-k-counts.true)
       | else-k-counts w ↦ subst (λ (marks : List ℕ). AreMarks (c.loop-k.k + 1) c.args.counts.now c.args.places.now marks) (sym w.marks-is)
           (marks_skip c.loop-k.k c.args.counts.now c.args.places.now c.loop-k.marks c.loop-k.invariant w.if-k-counts.false)
     ]
