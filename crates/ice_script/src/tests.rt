@@ -100,7 +100,8 @@ fn lines_ask_for_commands_or_are_refused(rt: HostRuntime) -> Result<(), Fail> {
 /// The text of the path of a command that has one.
 fn path_of<'a>(command: &'a Command) -> &'a [u8] {
     match command {
-        Command::Delete { path } | Command::Offline { path } | Command::Online { path } => path.text(),
+        Command::Delete { path } | Command::Offline { path } | Command::Online { path } =>
+            path.text(),
         _ => b"none",
     }
 }
