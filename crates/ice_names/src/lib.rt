@@ -1,0 +1,2 @@
+//! The cube table.
+#![tactic(auto)]

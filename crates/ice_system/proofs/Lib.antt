@@ -1,0 +1,4 @@
+mod Mixing
+mod Crashes
+mod Moving
+mod Committing
