@@ -1,2 +1,0 @@
-//! The cube table.
-#![tactic(auto)]
