@@ -1,0 +1,5 @@
+pub mod TextLaws
+mod ByteLaws
+mod RowLaws
+mod TableLaws
+mod RouteLaws
