@@ -1,5 +1,5 @@
 -- The bytes of one row put into the blocks: that row has them, and the others stay.
-use Rattle.std.proofs.Common.{◌≡◌, ◌≢◌, ◌⊎◌, inl, inr, ℕ, ◌+◌, ◌-◌, ◌*◌, ◌/◌, ◌%◌, ◌<◌, ◌≤◌, List, [], ◌∷◌, ◌++◌, length, get_or, take, drop, min, sym, refl, ap, ◌∙◌, subst, arith, append_assoc, length-append}
+use Rattle.std.proofs.Common.{◌≡◌, ◌≢◌, ◌⊎◌, inl, inr, ℕ, ◌+◌, ◌-◌, ◌*◌, ◌/◌, ◌%◌, ◌<◌, ◌≤◌, List, [], ◌++◌, length, get_or, take, drop, min, sym, refl, ap, ◌∙◌, arith, append_assoc, length-append}
 use Rattle.std.specs.Prelude.{slice_set, replicate, zero, suc, Some, None}
 use Rattle.std.proofs.lemmas.List.{take_at, drop_at, length-take, length-take-le, length-drop, length-set, drop-set-lt, get_or-take, get_or-drop, get_or_append_left, get_or-append_right, get_or-set_same, get_or-set_other, same_lists}
 use Rattle.std.proofs.lemmas.Bool.{cases_eq, cases_lt}
@@ -30,7 +30,8 @@ module _ (a : ℕ) (old bytes new : List ℕ) (put : IsPut a old bytes new) wher
       ∙ take_at bytes (drop (a + 256) old) 256 put.long
 
   new_long : length new ≡ length old
-  new_long = ap length put.is ∙ omega (arith, put.low, front_more, length-append (take a old ++ bytes) (drop (a + 256) old), length-drop (a + 256) old)
+  new_long = ap length put.is ∙ omega
+      (arith, put.low, front_more, length-append (take a old ++ bytes) (drop (a + 256) old), length-drop (a + 256) old)
 
   new_low : (k d : ℕ) → k < a → get_or new k d ≡ get_or old k d
   new_low k d less =
@@ -57,10 +58,12 @@ module _ (a : ℕ) (old bytes new : List ℕ) (put : IsPut a old bytes new) wher
 
   -- other 256 bytes stay
   other_in : (b : ℕ) → (b + 256 ≤ a) ⊎ (a + 256 ≤ b) → take 256 (drop b new) ≡ take 256 (drop b old)
-  other_in b apart = same_lists _ _ long (λ k d less. pick new b k d (few new b k less) ∙ same k d (few new b k less) apart ∙ sym (pick old b k d (few new b k less)))
+  other_in b apart = same_lists _ _ long
+      (λ k d less. pick new b k d (few new b k less) ∙ same k d (few new b k less) apart ∙ sym (pick old b k d (few new b k less)))
     where
       long : length (take 256 (drop b new)) ≡ length (take 256 (drop b old))
-      long = length-take 256 (drop b new) ∙ ap (min 256) (length-drop b new ∙ ap (λ n. n - b) new_long ∙ sym (length-drop b old)) ∙ sym (length-take 256 (drop b old))
+      long = length-take 256 (drop b new) ∙ ap (min 256) (length-drop b new ∙ ap (λ n. n - b) new_long ∙ sym (length-drop b old))
+          ∙ sym (length-take 256 (drop b old))
 
       same : (k d : ℕ) → k < 256 → (b + 256 ≤ a) ⊎ (a + 256 ≤ b) → get_or new (b + k) d ≡ get_or old (b + k) d
       same k d less (inl h) = new_low (b + k) d (omega (arith, less, h))
@@ -90,7 +93,8 @@ apart r s other same = by (cases_lt (r % 4) (s % 4))
             more (inl l) = omega (arith, l)
             more (inr l) = absurd (d (omega (arith, h, l)))
 
-module _ (blocks : List (List ℕ)) (s : ℕ) (bytes new : List ℕ) (few : s / 4 < length blocks) (put : IsPut (256 * (s % 4)) (get_or blocks (s / 4) []) bytes new) where
+module _ (blocks : List (List ℕ)) (s : ℕ) (bytes new : List ℕ) (few : s / 4 < length blocks)
+    (put : IsPut (256 * (s % 4)) (get_or blocks (s / 4) []) bytes new) where
   set_here : (r : ℕ) → r / 4 ≡ s / 4 → get_or (slice_set blocks (s / 4) new) (r / 4) [] ≡ new
   set_here r e = ap (λ k. get_or (slice_set blocks (s / 4) new) k []) e ∙ get_or-set_same blocks (s / 4) new [] few
 
@@ -111,18 +115,19 @@ module _ (blocks : List (List ℕ)) (s : ℕ) (bytes new : List ℕ) (few : s / 
           ∙ ap (λ (x : List ℕ). take 256 (drop (256 * (r % 4)) x)) (ap (λ k. get_or blocks k []) (sym e) ∙ sym (block_is blocks r))
       by (inr d) =
           ap (λ (x : List ℕ). take 256 (drop (256 * (r % 4)) x))
-              (block_is (slice_set blocks (s / 4) new) r ∙ get_or-set_other blocks (s / 4) (r / 4) new [] d ∙ sym (block_is blocks r))
+          (block_is (slice_set blocks (s / 4) new) r ∙ get_or-set_other blocks (s / 4) (r / 4) new [] d ∙ sym (block_is blocks r))
 
 -- a row of a block of 1,024 bytes that is put
-pub is_put : (s : ℕ) (old bytes new : List ℕ) → length old ≡ 1024 → length bytes ≡ 256 → new ≡ take (256 * (s % 4)) old ++ bytes ++ drop (256 * (s % 4) + 256) old → IsPut (256 * (s % 4)) old bytes new
+pub is_put : (s : ℕ) (old bytes new : List ℕ) → length old ≡ 1024 → length bytes ≡ 256
+    → new ≡ take (256 * (s % 4)) old ++ bytes ++ drop (256 * (s % 4) + 256) old → IsPut (256 * (s % 4)) old bytes new
 is_put s old bytes new whole long is = let low = mod_below s 4 (omega arith) in record { low = omega (arith, whole, low); long = long; is = is }
 
 -- ---- the bytes of a row
 
-abbrev zeros : ℕ → List ℕ
+abbrev pub zeros : ℕ → List ℕ
 zeros n = replicate n 0
 
-zero_there : (n k : ℕ) → get_or (zeros n) k 0 ≡ 0
+pub zero_there : (n k : ℕ) → get_or (zeros n) k 0 ≡ 0
 zero_there zero k = refl
 zero_there (suc n) zero = refl
 zero_there (suc n) (suc k) = zero_there n k
@@ -138,7 +143,8 @@ free_bytes = record {
   tail = λ k some. zero_there 256 k;
 }
 
-module _ (r : Row) (cube : IsCubePath r.path) (text middle : List ℕ) (of : text ≡ text_of r.path) (is : middle ≡ take 8 (replicate 256 0) ++ text ++ drop (8 + length text) (replicate 256 0)) where
+module _ (r : Row) (cube : IsCubePath r.path) (text middle : List ℕ) (of : text ≡ text_of r.path)
+    (is : middle ≡ take 8 (replicate 256 0) ++ text ++ drop (8 + length text) (replicate 256 0)) where
   abbrev whole : List ℕ
   whole = slice_set (slice_set middle 0 (mark_byte (Some r))) 1 (length text)
 
@@ -149,7 +155,14 @@ module _ (r : Row) (cube : IsCubePath r.path) (text middle : List ℕ) (of : tex
   ends = omega (arith, length-append (take 8 (replicate 256 0)) text)
 
   middle_long : length middle ≡ 256
-  middle_long = ap length is ∙ omega (arith, text_few, ends, length-append (take 8 (replicate 256 0) ++ text) (drop (8 + length text) (replicate 256 0)), length-drop (8 + length text) (zeros 256))
+  middle_long = ap length is ∙ omega (
+    arith,
+    text_few,
+    ends,
+    length-append (take 8 (replicate 256 0) ++ text)
+        (drop (8 + length text) (replicate 256 0)),
+    length-drop (8 + length text) (zeros 256),
+  )
 
   at_other : (k : ℕ) → 2 ≤ k → get_or whole k 0 ≡ get_or middle k 0
   at_other k some =
@@ -171,7 +184,8 @@ module _ (r : Row) (cube : IsCubePath r.path) (text middle : List ℕ) (of : tex
 
   text_in_middle : take (length text) (drop 8 middle) ≡ text
   text_in_middle =
-      ap (λ (x : List ℕ). take (length text) (drop 8 x)) (is ∙ append_assoc (take 8 (replicate 256 0)) text (drop (8 + length text) (replicate 256 0)))
+      ap (λ (x : List ℕ). take (length text) (drop 8 x))
+      (is ∙ append_assoc (take 8 (replicate 256 0)) text (drop (8 + length text) (replicate 256 0)))
       ∙ ap (take (length text)) (drop_at (take 8 (replicate 256 0)) (text ++ drop (8 + length text) (replicate 256 0)) 8 refl)
       ∙ take_at text (drop (8 + length text) (replicate 256 0)) (length text) refl
 
@@ -182,10 +196,12 @@ module _ (r : Row) (cube : IsCubePath r.path) (text middle : List ℕ) (of : tex
     mark =
         get_or-set_other (slice_set middle 0 (mark_byte (Some r))) 1 0 (length text) 0 (λ e. omega (arith, e))
         ∙ get_or-set_same middle 0 (mark_byte (Some r)) 0 (omega (arith, middle_long));
-    size = get_or-set_same (slice_set middle 0 (mark_byte (Some r))) 1 (length text) 0 (omega (arith, middle_long, length-set middle 0 (mark_byte (Some r)))) ∙ ap length of;
+    size = get_or-set_same (slice_set middle 0 (mark_byte (Some r))) 1 (length text) 0
+        (omega (arith, middle_long, length-set middle 0 (mark_byte (Some r)))) ∙ ap length of;
     text =
         ap (λ (x : List ℕ). take (length x) (drop 8 whole)) (sym of)
-        ∙ ap (take (length text)) (drop-set-lt 8 (slice_set middle 0 (mark_byte (Some r))) 1 (length text) (omega arith) ∙ drop-set-lt 8 middle 0 (mark_byte (Some r)) (omega arith))
+        ∙ ap (take (length text)) (drop-set-lt 8 (slice_set middle 0 (mark_byte (Some r))) 1 (length text) (omega arith)
+        ∙ drop-set-lt 8 middle 0 (mark_byte (Some r)) (omega arith))
         ∙ text_in_middle ∙ of;
     head = λ k some less. at_other k some ∙ head_zero k less;
     tail = λ k more. at_other k (omega (arith, more)) ∙ tail_zero k (omega (arith, more, ap length of));

@@ -3,3 +3,4 @@ mod ByteLaws
 mod RowLaws
 mod TableLaws
 mod RouteLaws
+mod Examples

@@ -1,5 +1,5 @@
 -- The route of a path, slot by slot.
-use Rattle.std.proofs.Common.{◌≡◌, ℕ, zero, suc, ◌+◌, ◌<◌, ◌≤◌, Bool, true, false, cond, T, List, [], ◌∷◌, length, Option, Some, None, sym, refl, ap, ◌∙◌, subst, arith}
+use Rattle.std.proofs.Common.{◌≡◌, ℕ, suc, ◌+◌, ◌<◌, ◌≤◌, Bool, true, false, cond, T, List, [], ◌∷◌, length, Option, Some, None, sym, refl, ap, ◌∙◌, subst, arith}
 use Rattle.std.specs.Prelude.{nat_lt, ◌&&◌, IsSome, IfSome, MatchOption}
 use Rattle.std.proofs.lemmas.Bool.Decides.{nat_tests}
 use Rattle.tree_spec.specs.Routes.{is_prefix, is_same_name, caught, caught_by, route}
@@ -23,7 +23,8 @@ live_path : (row : Option Row) → IsSome row → IsSome (path_of row)
 live_path None e = e
 live_path (Some r) e = refl
 
-catches_as : (o : Option (List (List ℕ))) (p : List (List ℕ)) (n : ℕ) → IsSome o → ((q : List (List ℕ)) → o ≡ Some q → n ≡ length q) → ((q : List (List ℕ)) → o ≡ Some q → is_prefix q p ≡ true) → caught p o ≡ n + 1
+catches_as : (o : Option (List (List ℕ))) (p : List (List ℕ)) (n : ℕ) → IsSome o → ((q : List (List ℕ)) → o ≡ Some q → n ≡ length q)
+    → ((q : List (List ℕ)) → o ≡ Some q → is_prefix q p ≡ true) → caught p o ≡ n + 1
 catches_as None p n live names prefix = absurd (cc live)
 catches_as (Some q) p n live names prefix = ap (λ b. cond b (length q + 1) 0) (prefix q refl) ∙ ap (λ k. k + 1) (sym (names q refl))
 
@@ -60,11 +61,13 @@ module _ (v : NamesView) (p : List (List ℕ)) where
   never_less n m e = grind (arith, nat_tests)
 
   -- the route as far as the slot i, and then that slot
-  pub route_more : (i : ℕ) (best : Option (ℕ × ℕ)) (names : Option ℕ) → slot_in best ≡ route paths i p → IsCaught best → MatchOption names (caught p (paths i) ≡ 0) (λ n. caught p (paths i) ≡ n + 1)
+  pub route_more : (i : ℕ) (best : Option (ℕ × ℕ)) (names : Option ℕ) → slot_in best ≡ route paths i p → IsCaught best
+      → MatchOption names (caught p (paths i) ≡ 0) (λ n. caught p (paths i) ≡ n + 1)
       → slot_in (longer_one best i names) ≡ route paths (i + 1) p
   unfolding route
   route_more i best None is h c =
-      is ∙ sym (ap (λ b. cond b (Some i) (route paths i p)) (never_less (caught_by paths p (route paths i p)) (caught p (paths i)) c)) ∙ ap (λ k. route paths k p) (suc_is i)
+      is ∙ sym (ap (λ b. cond b (Some i) (route paths i p))
+      (never_less (caught_by paths p (route paths i p)) (caught p (paths i)) c)) ∙ ap (λ k. route paths k p) (suc_is i)
     where
       suc_is : (i : ℕ) → suc i ≡ i + 1
       suc_is i = omega arith
@@ -76,7 +79,8 @@ module _ (v : NamesView) (p : List (List ℕ)) where
       suc_is : (i : ℕ) → suc i ≡ i + 1
       suc_is i = omega arith
 
-  pub caught_more : (i : ℕ) (best : Option (ℕ × ℕ)) (names : Option ℕ) → i < v.slots → IsCaught best → IfSome names (Begins (row_at v i) p) → IsCaught (longer_one best i names)
+  pub caught_more : (i : ℕ) (best : Option (ℕ × ℕ)) (names : Option ℕ) → i < v.slots → IsCaught best
+      → IfSome names (Begins (row_at v i) p) → IsCaught (longer_one best i names)
   caught_more i best None low h b = h
   caught_more i best (Some n) low h b = by (nat_lt (names_in best) (n + 1))
     where
@@ -89,9 +93,12 @@ module _ (v : NamesView) (p : List (List ℕ)) where
   route_none = refl
 
   -- the answer after a slot more
-  pub step : (i : ℕ) (best answer : Option (ℕ × ℕ)) (names : Option ℕ) (row : Option Row) → i < v.slots → row ≡ row_at v i → answer ≡ longer_one best i names → slot_in best ≡ route paths i p → IsCaught best
-      → MatchOption names (caught p (path_of row) ≡ 0) (λ n. caught p (path_of row) ≡ n + 1) → IfSome names (Begins row p) → (slot_in answer ≡ route paths (i + 1) p) × IsCaught answer
+  pub step : (i : ℕ) (best answer : Option (ℕ × ℕ)) (names : Option ℕ) (row : Option Row) → i < v.slots → row ≡ row_at v i
+      → answer ≡ longer_one best i names → slot_in best ≡ route paths i p → IsCaught best
+      → MatchOption names (caught p (path_of row) ≡ 0) (λ n. caught p (path_of row) ≡ n + 1) → IfSome names (Begins row p)
+      → (slot_in answer ≡ route paths (i + 1) p) × IsCaught answer
   step i best answer names row low at is one two three four = (
-    ap slot_in is ∙ route_more i best names one two (subst (λ (r : Option Row). MatchOption names (caught p (path_of r) ≡ 0) (λ n. caught p (path_of r) ≡ n + 1)) at three),
+    ap slot_in is ∙ route_more i best names one two
+        (subst (λ (r : Option Row). MatchOption names (caught p (path_of r) ≡ 0) (λ n. caught p (path_of r) ≡ n + 1)) at three),
     subst IsCaught (sym is) (caught_more i best names low two (subst (λ (r : Option Row). IfSome names (Begins r p)) at four)),
   )

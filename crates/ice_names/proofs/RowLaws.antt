@@ -1,16 +1,15 @@
 -- What the bytes of a row say, and what the rows of a table say together.
-use Rattle.std.proofs.Common.{◌≡◌, ◌≢◌, ◌⊎◌, inl, inr, ℕ, zero, suc, Bool, true, false, cond, ◌+◌, ◌-◌, ◌*◌, ◌/◌, ◌%◌, ◌<◌, ◌≤◌, List, [], ◌∷◌, ◌++◌, length, get_or, take, drop, Option, Some, None, sym, refl, ap, ◌∙◌, subst, arith}
-use Rattle.std.specs.Prelude.{slice_index, nat_lt, if◌then◌else◌, ◌==◌, IsSome}
+use Rattle.std.proofs.Common.{◌≡◌, ◌≢◌, ◌⊎◌, inl, inr, ℕ, zero, suc, Bool, true, false, cond, ◌+◌, ◌*◌, ◌/◌, ◌%◌, ◌<◌, ◌≤◌, List, length, take, drop, Option, Some, None, sym, refl, ap, ◌∙◌, subst, arith}
+use Rattle.std.specs.Prelude.{slice_index, nat_lt, if◌then◌else◌}
 use Rattle.std.proofs.lemmas.List.{get_or-take, get_or-drop, drop-drop, take-take, drop-take}
-use Rattle.std.proofs.lemmas.Bool.{cases_eq, cases_lt}
+use Rattle.std.proofs.lemmas.Bool.{cases_lt}
 use Rattle.std.proofs.lemmas.Bool.Decides.{nat_tests}
 use borrow.Author.Count.{below_more}
-use Rattle.tree_spec.specs.Names.{text_of, IsNameList, longest_text}
 use Rattle.ice_path.specs.Paths.{path_names, path_fault}
 use Rattle.ice_tables.specs.Tables.{Row, row_byte, mark_at, length_at, text_at, row_of, row_in, AreNames, IsCubeText}
 use Rattle.ice_names.specs.Names.{NamesView, IsNameTable, IsCubePath, row_at, path_of, path_at}
-use Rattle.ice_names.specs.Bytes.{IsRowBytes, IsRowSound, IsReadTo, RowZeros, row_bytes, mark_byte, text_in}
-use Rattle.ice_names.proofs.TextLaws.{text_names, text_proper, some_text}
+use Rattle.ice_names.specs.Bytes.{IsRowBytes, IsReadTo, RowZeros, row_bytes, mark_byte, text_in}
+use Rattle.ice_names.proofs.TextLaws.{text_names, text_proper}
 
 -- ---- one row
 
@@ -49,7 +48,8 @@ module _ (m : ℕ → List ℕ) (s : ℕ) (row : Option Row) (cube : HasCubePath
       text_of_bytes : (xs : List ℕ) (a n l : ℕ) → n ≡ l → l ≤ 199 → take n (drop (a + 8) xs) ≡ take l (drop 8 (take 256 (drop a xs)))
       text_of_bytes xs a n l e few =
           ap (λ (k : ℕ). take k (drop (a + 8) xs)) e
-          ∙ sym (ap (take l) (drop-take 8 248 (drop a xs)) ∙ take-take l 248 (drop 8 (drop a xs)) (omega (arith, few)) ∙ ap (take l) (drop-drop 8 a xs))
+          ∙ sym (ap (take l) (drop-take 8 248 (drop a xs)) ∙ take-take l 248 (drop 8 (drop a xs)) (omega (arith, few))
+          ∙ ap (take l) (drop-drop 8 a xs))
 
   pub said_zeros : RowZeros m s
   said_zeros = record {
@@ -61,7 +61,9 @@ module _ (m : ℕ → List ℕ) (s : ℕ) (row : Option Row) (cube : HasCubePath
 row_of_bytes : (row : Option Row) (mark : ℕ) (text : List ℕ) → HasCubePath row → mark ≡ mark_byte row → text ≡ text_in row → row_of mark text ≡ row
 row_of_bytes None mark text cube a b = ap (λ n. row_of n text) a
 row_of_bytes (Some r) mark text cube a b =
-    ap (λ n. row_of n text) a ∙ by r.offline refl ∙ ap (λ (p : List (List ℕ)). Some (record { path = p; offline = r.offline })) (ap path_names b ∙ text_names r.path (cube r.path refl).names)
+    ap (λ n. row_of n text) a ∙ by r.offline refl
+    ∙ ap (λ (p : List (List ℕ)). Some (record { path = p; offline = r.offline }))
+    (ap path_names b ∙ text_names r.path (cube r.path refl).names)
   where
     by : (o : Bool) → r.offline ≡ o → row_of (cond o 2 1) text ≡ Some (record { path = path_names text; offline = o })
     by true e = refl
@@ -90,7 +92,8 @@ module _ (v : NamesView) (m : ℕ → List ℕ) (sound : IsNameTable v) (written
   written_rows s = by (nat_lt s v.slots) refl
     where
       by : (b : Bool) → nat_lt s v.slots ≡ b → (if b then row_of (mark_at m s) (text_at m s) else None) ≡ row_at v s
-      by true is = let less : s < v.slots = grind (arith, nat_tests) in row_of_bytes (row_at v s) (mark_at m s) (text_at m s) (has_cube s) (mark_is s (low s less)) (text_is s (low s less))
+      by true is = let less : s < v.slots = grind (arith, nat_tests) in row_of_bytes (row_at v s) (mark_at m s) (text_at m s)
+          (has_cube s) (mark_is s (low s less)) (text_is s (low s less))
       by false is = let high : v.slots ≤ s = grind (arith, nat_tests) in sym (sound.no_more s high)
 
   pub written_zeros : (s : ℕ) → s < 16 → RowZeros m s
@@ -105,7 +108,8 @@ module _ (v : NamesView) (m : ℕ → List ℕ) (sound : IsNameTable v) (written
       by false = omega arith
 
   -- the text of a row that isn't free
-  cube_text : (row : Option Row) (s : ℕ) → HasCubePath row → mark_at m s ≡ mark_byte row → length_at m s ≡ length (text_in row) → text_at m s ≡ text_in row → mark_at m s ≢ 0 → IsCubeText m s
+  cube_text : (row : Option Row) (s : ℕ) → HasCubePath row → mark_at m s ≡ mark_byte row → length_at m s ≡ length (text_in row)
+      → text_at m s ≡ text_in row → mark_at m s ≢ 0 → IsCubeText m s
   cube_text None s cube a b e live = absurd (live a)
   cube_text (Some r) s cube a b e live =
       let is = cube r.path refl in record {
@@ -114,7 +118,8 @@ module _ (v : NamesView) (m : ℕ → List ℕ) (sound : IsNameTable v) (written
         path = ap path_fault e ∙ text_proper r.path is.names (omega (arith, is.few));
       }
 
-  path_said : (row : Option Row) (s : ℕ) → HasCubePath row → mark_at m s ≡ mark_byte row → text_at m s ≡ text_in row → mark_at m s ≢ 0 → path_of row ≡ Some (path_names (text_at m s))
+  path_said : (row : Option Row) (s : ℕ) → HasCubePath row → mark_at m s ≡ mark_byte row → text_at m s ≡ text_in row
+      → mark_at m s ≢ 0 → path_of row ≡ Some (path_names (text_at m s))
   path_said None s cube a e live = absurd (live a)
   path_said (Some r) s cube a e live = ap Some (sym (ap path_names e ∙ text_names r.path (cube r.path refl).names))
 
@@ -124,7 +129,8 @@ module _ (v : NamesView) (m : ℕ → List ℕ) (sound : IsNameTable v) (written
     marks = λ s less. subst (λ n. n ≤ 2) (sym (mark_is s (low s less))) (mark_few (row_at v s));
     texts = λ s less live. cube_text (row_at v s) s (has_cube s) (mark_is s (low s less)) (length_is s (low s less)) (text_is s (low s less)) live;
     differ = λ s r less high live other same.
-        let one = path_said (row_at v s) s (has_cube s) (mark_is s (low s (omega (arith, less, high)))) (text_is s (low s (omega (arith, less, high)))) live in
+        let one = path_said (row_at v s) s (has_cube s) (mark_is s (low s (omega (arith, less, high))))
+        (text_is s (low s (omega (arith, less, high)))) live in
         let two = path_said (row_at v r) r (has_cube r) (mark_is r (low r high)) (text_is r (low r high)) other in
         let e = sound.differ s r (path_names (text_at m r)) (one ∙ ap Some same) two in
         omega (arith, less, e);
@@ -132,12 +138,13 @@ module _ (v : NamesView) (m : ℕ → List ℕ) (sound : IsNameTable v) (written
   }
 
 -- one row more is written
-pub written_more : (v : NamesView) (old new : ℕ → List ℕ) (n : ℕ) (row : Option Row) → row ≡ row_at v n → IsRowBytes row (row_bytes new n) → ((s : ℕ) → s ≢ n → row_bytes new s ≡ row_bytes old s)
+pub written_more : (v : NamesView) (old new : ℕ → List ℕ) (n : ℕ) (row : Option Row) → row ≡ row_at v n
+    → IsRowBytes row (row_bytes new n) → ((s : ℕ) → s ≢ n → row_bytes new s ≡ row_bytes old s)
     → ((s : ℕ) → s < n → IsRowBytes (row_at v s) (row_bytes old s)) → (s : ℕ) → s < n + 1 → IsRowBytes (row_at v s) (row_bytes new s)
 written_more v old new n row is here others before =
     below_more (λ s. IsRowBytes (row_at v s) (row_bytes new s)) n
-        (λ s less. subst (λ (x : List ℕ). IsRowBytes (row_at v s) x) (sym (others s (λ e. omega (arith, less, e)))) (before s less))
-        (subst (λ (x : Option Row). IsRowBytes x (row_bytes new n)) is here)
+    (λ s less. subst (λ (x : List ℕ). IsRowBytes (row_at v s) x) (sym (others s (λ e. omega (arith, less, e)))) (before s less))
+    (subst (λ (x : Option Row). IsRowBytes x (row_bytes new n)) is here)
 
 -- ---- a table that is read
 
@@ -178,7 +185,8 @@ module _ (m : ℕ → List ℕ) (v : NamesView) (sound : IsNameTable v) where
       by (inr high) = h.free s high ∙ sym (row_in_high v.slots m s (omega (arith, high, sound.few)))
 
   -- a slot below n of the table that has the path of the slot n
-  pub read_twice : (n s : ℕ) (p : List (List ℕ)) → IsReadTo m n v → n < v.slots → path_at v s ≡ Some p → path_of (row_of (mark_at m n) (text_at m n)) ≡ Some p → ¬ AreNames v.slots m
+  pub read_twice : (n s : ℕ) (p : List (List ℕ)) → IsReadTo m n v → n < v.slots → path_at v s ≡ Some p
+      → path_of (row_of (mark_at m n) (text_at m n)) ≡ Some p → ¬ AreNames v.slots m
   read_twice n s p h low there here names = by (cases_lt s n)
     where
       has : (mark : ℕ) (text : List ℕ) → path_of (row_of mark text) ≡ Some p → (mark ≢ 0) × (path_names text ≡ p)
@@ -188,6 +196,7 @@ module _ (m : ℕ → List ℕ) (v : NamesView) (sound : IsNameTable v) where
       by : (s < n) ⊎ (n ≤ s) → ⊥
       by (inl less) =
           let mine = has (mark_at m n) (text_at m n) here in
-          let other = has (mark_at m s) (text_at m s) (ap path_of (sym (h.rows s less ∙ row_in_low v.slots m s (omega (arith, less, low)))) ∙ there) in
+          let other = has (mark_at m s) (text_at m s)
+          (ap path_of (sym (h.rows s less ∙ row_in_low v.slots m s (omega (arith, less, low)))) ∙ there) in
           names.differ s n less low other.0 mine.0 (other.1 ∙ sym mine.1)
       by (inr high) = let free = ap path_of (h.free s high) in let bad : Some p ≡ None = sym there ∙ free in cc bad

@@ -1,5 +1,5 @@
 -- A table whose rows are free, and a table with another row in one slot.
-use Rattle.std.proofs.Common.{◌≡◌, ◌≢◌, ◌⊎◌, inl, inr, ℕ, zero, suc, ◌+◌, ◌<◌, ◌≤◌, List, [], ◌∷◌, length, get_or, Option, Some, None, sym, refl, ap, ◌∙◌, subst, arith, length-set, true, false}
+use Rattle.std.proofs.Common.{◌≡◌, ◌≢◌, ◌⊎◌, inl, inr, ℕ, zero, suc, ◌+◌, ◌<◌, ◌≤◌, List, length, get_or, Option, Some, None, sym, refl, ap, ◌∙◌, subst, arith, length-set}
 use Rattle.std.specs.Prelude.{slice_set, replicate}
 use Rattle.std.proofs.lemmas.List.{get_or-set_same, get_or-set_other, same_lists, get_or_default}
 use Rattle.std.proofs.lemmas.Bool.{cases_eq, cases_lt}
@@ -37,8 +37,10 @@ free_sound slots some few = record {
 }
 
 -- a table of no rows
-pub free_is_sound : (slots : ℕ) (rows : List (Option Row)) → rows ≡ replicate 16 None → 1 ≤ slots → slots ≤ 16 → IsNameTable (record { slots = slots; rows = rows })
-free_is_sound slots rows e some few = subst (λ (x : List (Option Row)). IsNameTable (record { slots = slots; rows = x })) (sym e) (free_sound slots some few)
+pub free_is_sound : (slots : ℕ) (rows : List (Option Row)) → rows ≡ replicate 16 None → 1 ≤ slots → slots ≤ 16
+    → IsNameTable (record { slots = slots; rows = rows })
+free_is_sound slots rows e some few = subst (λ (x : List (Option Row)). IsNameTable (record { slots = slots; rows = x })) (sym e)
+    (free_sound slots some few)
 
 pub free_rows : (rows : List (Option Row)) → rows ≡ replicate 16 None → (s : ℕ) → get_or rows s None ≡ None
 free_rows rows e s = ap (λ (x : List (Option Row)). get_or x s None) e ∙ free_row 16 s
@@ -59,12 +61,14 @@ row_set v slot row low = record {
 abbrev pub IsAlone : NamesView → ℕ → Option Row → Type 0
 IsAlone v slot row = (p : List (List ℕ)) (s : ℕ) → path_of row ≡ Some p → path_at v s ≡ Some p → s ≡ slot
 
-module _ (v : NamesView) (slot : ℕ) (row : Option Row) (sound : IsNameTable v) (low : slot < v.slots) (cube : HasCubePath row) (alone : IsAlone v slot row) where
+module _ (v : NamesView) (slot : ℕ) (row : Option Row) (sound : IsNameTable v) (low : slot < v.slots) (cube : HasCubePath row)
+    (alone : IsAlone v slot row) where
   set : RowSet v slot row (with_row v slot row)
   set = row_set v slot row (omega (arith, low, sound.few, sound.room))
 
   -- the path of a slot is that of the row, or the one that it had
-  path_now : (s : ℕ) (p : List (List ℕ)) → path_at (with_row v slot row) s ≡ Some p → ((s ≡ slot) × (path_of row ≡ Some p)) ⊎ ((s ≢ slot) × (path_at v s ≡ Some p))
+  path_now : (s : ℕ) (p : List (List ℕ)) → path_at (with_row v slot row) s ≡ Some p
+      → ((s ≡ slot) × (path_of row ≡ Some p)) ⊎ ((s ≢ slot) × (path_at v s ≡ Some p))
   path_now s p is = by (cases_eq s slot)
     where
       by : (s ≡ slot) ⊎ (s ≡ slot → ⊥) → ((s ≡ slot) × (path_of row ≡ Some p)) ⊎ ((s ≢ slot) × (path_at v s ≡ Some p))
@@ -81,7 +85,8 @@ module _ (v : NamesView) (slot : ℕ) (row : Option Row) (sound : IsNameTable v)
   differ_now : (s r : ℕ) (p : List (List ℕ)) → path_at (with_row v slot row) s ≡ Some p → path_at (with_row v slot row) r ≡ Some p → s ≡ r
   differ_now s r p a b = by (path_now s p a) (path_now r p b)
     where
-      by : ((s ≡ slot) × (path_of row ≡ Some p)) ⊎ ((s ≢ slot) × (path_at v s ≡ Some p)) → ((r ≡ slot) × (path_of row ≡ Some p)) ⊎ ((r ≢ slot) × (path_at v r ≡ Some p)) → s ≡ r
+      by : ((s ≡ slot) × (path_of row ≡ Some p)) ⊎ ((s ≢ slot) × (path_at v s ≡ Some p))
+          → ((r ≡ slot) × (path_of row ≡ Some p)) ⊎ ((r ≢ slot) × (path_at v r ≡ Some p)) → s ≡ r
       by (inl h) (inl k) = h.0 ∙ sym k.0
       by (inl h) (inr k) = absurd (k.0 (alone p r h.1 k.1))
       by (inr h) (inl k) = absurd (h.0 (alone p s k.1 h.1))
@@ -98,12 +103,15 @@ module _ (v : NamesView) (slot : ℕ) (row : Option Row) (sound : IsNameTable v)
   }
 
 -- the same where the table is known by another name
-pub put_is_sound : (v w : NamesView) (slot : ℕ) (row : Option Row) → v ≡ w → IsNameTable v → slot < w.slots → HasCubePath row → IsAlone w slot row → IsNameTable (with_row v slot row)
+pub put_is_sound : (v w : NamesView) (slot : ℕ) (row : Option Row) → v ≡ w → IsNameTable v → slot < w.slots → HasCubePath row
+    → IsAlone w slot row → IsNameTable (with_row v slot row)
 put_is_sound v w slot row e sound low cube alone =
-    set_is_sound v slot row sound (subst (λ (x : NamesView). slot < x.slots) (sym e) low) cube (subst (λ (x : NamesView). IsAlone x slot row) (sym e) alone)
+    set_is_sound v slot row sound (subst (λ (x : NamesView). slot < x.slots) (sym e) low) cube
+    (subst (λ (x : NamesView). IsAlone x slot row) (sym e) alone)
 
 -- another mark
-pub marked_is_sound : (v w : NamesView) (slot : ℕ) (row : Option Row) → v ≡ w → IsNameTable v → slot < w.slots → path_of row ≡ path_at w slot → IsNameTable (with_row v slot row)
+pub marked_is_sound : (v w : NamesView) (slot : ℕ) (row : Option Row) → v ≡ w → IsNameTable v → slot < w.slots
+    → path_of row ≡ path_at w slot → IsNameTable (with_row v slot row)
 marked_is_sound v w slot row e sound low same =
     let known : IsNameTable w = subst IsNameTable e sound in
     put_is_sound v w slot row e sound low (λ p is. known.paths slot p (sym same ∙ is)) (λ p s a b. known.differ s slot p b (sym same ∙ a))
@@ -151,11 +159,13 @@ none_has v p sound none s is = none s (slot_low v s p sound is) is
 -- tables of the same rows
 pub same_table : (v w : NamesView) → length v.rows ≡ 16 → length w.rows ≡ 16 → v.slots ≡ w.slots → ((s : ℕ) → row_at v s ≡ row_at w s) → v ≡ w
 same_table v w a b e same =
-    let rows : v.rows ≡ w.rows = same_lists v.rows w.rows (a ∙ sym b) (λ k d less. get_or_default v.rows k d None less ∙ same k ∙ get_or_default w.rows k None d (omega (arith, less, a, b))) in
+    let rows : v.rows ≡ w.rows = same_lists v.rows w.rows (a ∙ sym b)
+    (λ k d less. get_or_default v.rows k d None less ∙ same k ∙ get_or_default w.rows k None d (omega (arith, less, a, b))) in
     λ i. record { slots = e i; rows = rows i }
 
 -- no other slot of a copy of the first slots has the path of the next
-pub copy_alone : (v w : NamesView) (n : ℕ) (row : Option Row) → IsNameTable v → row ≡ row_at v n → ((s : ℕ) → s < n → row_at w s ≡ row_at v s) → ((s : ℕ) → n ≤ s → row_at w s ≡ None) → IsAlone w n row
+pub copy_alone : (v w : NamesView) (n : ℕ) (row : Option Row) → IsNameTable v → row ≡ row_at v n
+    → ((s : ℕ) → s < n → row_at w s ≡ row_at v s) → ((s : ℕ) → n ≤ s → row_at w s ≡ None) → IsAlone w n row
 copy_alone v w n row sound is same free p s a b = by (cases_lt s n)
   where
     by : (s < n) ⊎ (n ≤ s) → s ≡ n
@@ -163,7 +173,8 @@ copy_alone v w n row sound is same free p s a b = by (cases_lt s n)
     by (inr high) = absurd (let bad : no_path ≡ Some p = sym (ap path_of (free s high)) ∙ b in cc bad)
 
 -- the slots that are copied are all
-pub copied : (v w : NamesView) (n : ℕ) → IsNameTable v → IsNameTable w → w.slots ≡ v.slots → v.slots ≤ n → ((s : ℕ) → s < n → row_at w s ≡ row_at v s) → ((s : ℕ) → n ≤ s → row_at w s ≡ None) → w ≡ v
+pub copied : (v w : NamesView) (n : ℕ) → IsNameTable v → IsNameTable w → w.slots ≡ v.slots → v.slots ≤ n
+    → ((s : ℕ) → s < n → row_at w s ≡ row_at v s) → ((s : ℕ) → n ≤ s → row_at w s ≡ None) → w ≡ v
 copied v w n sound also slots all same free = same_table w v also.room sound.room slots (λ s. by s (cases_lt s n))
   where
     by : (s : ℕ) → (s < n) ⊎ (n ≤ s) → row_at w s ≡ row_at v s
@@ -171,5 +182,7 @@ copied v w n sound also slots all same free = same_table w v also.room sound.roo
     by s (inr high) = free s high ∙ sym (sound.no_more s (omega (arith, high, all)))
 
 -- one slot more
-pub same_more : (v w new : NamesView) (n : ℕ) (row : Option Row) → row ≡ row_at v n → RowSet w n row new → ((s : ℕ) → s < n → row_at w s ≡ row_at v s) → (s : ℕ) → s < n + 1 → row_at new s ≡ row_at v s
-same_more v w new n row is set same = below_more (λ s. row_at new s ≡ row_at v s) n (λ s less. set.others s (λ e. omega (arith, less, e)) ∙ same s less) (set.here ∙ is)
+pub same_more : (v w new : NamesView) (n : ℕ) (row : Option Row) → row ≡ row_at v n → RowSet w n row new
+    → ((s : ℕ) → s < n → row_at w s ≡ row_at v s) → (s : ℕ) → s < n + 1 → row_at new s ≡ row_at v s
+same_more v w new n row is set same = below_more (λ s. row_at new s ≡ row_at v s) n
+    (λ s less. set.others s (λ e. omega (arith, less, e)) ∙ same s less) (set.here ∙ is)

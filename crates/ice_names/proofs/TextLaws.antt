@@ -1,14 +1,13 @@
 -- The text of a path is a path's, and tells it.
-use Rattle.std.proofs.Common.{◌≡◌, ℕ, suc, zero, ◌+◌, ◌<◌, ◌≤◌, Bool, true, false, cond, T, List, [], ◌∷◌, ◌++◌, length, get_or, Some, None, Option, sym, refl, ap, ◌∙◌, subst, arith}
+use Rattle.std.proofs.Common.{◌≡◌, ℕ, suc, ◌≤◌, Bool, true, false, cond, T, List, [], ◌∷◌, ◌++◌, length, Some, None, sym, refl, ap, ◌∙◌, subst, arith}
 use Rattle.std.specs.Prelude.{◌||◌, ◌&&◌, not, nat_lt, nat_le, nat_eq}
 use Rattle.std.specs.List.{list_any, list_all}
 use Rattle.std.proofs.lemmas.List.{append-nil}
 use Rattle.std.proofs.lemmas.Bool.Decides.{nat_tests}
 use Rattle.tree_spec.specs.Names.{is_name, is_name_byte, is_dots, longest_name, longest_text, names_of, IsNameList, with_slashes, text_of, parts, begin}
 use Rattle.tree_spec.proofs.Texts.{bytes_of_name}
-use Rattle.ice_path.specs.declared.read.PathFault.{PathFault}
 use Rattle.ice_path.specs.declared.read.PathFault.TheVariants.{Slash, Empty, Byte, Dot, NameLong, PathLong}
-use Rattle.ice_path.specs.Paths.{begins_elsewhere, is_slash, path_names, is_path_byte, is_empty_name, is_long_name, has_fault, path_fault}
+use Rattle.ice_path.specs.Paths.{begins_elsewhere, is_slash, path_names, is_path_byte, is_empty_name, is_long_name, path_fault}
 
 first : (a b : Bool) → (a && b) ≡ true → a ≡ true
 first true b h = refl
@@ -35,13 +34,15 @@ no_slash b h = not_true (nat_eq b 47) (second (nat_le b 126) _ (second (nat_le 3
 
 parts_name : (c t : List ℕ) → list_all is_name_byte c ≡ true → parts (c ++ t) ≡ (c ++ (parts t).0, (parts t).1)
 parts_name [] t h = refl
-parts_name (b ∷ c) t h = ap (λ x. begin x b (parts (c ++ t))) (no_slash b (first (is_name_byte b) _ h)) ∙ ap (begin false b) (parts_name c t (second (is_name_byte b) _ h))
+parts_name (b ∷ c) t h = ap (λ x. begin x b (parts (c ++ t))) (no_slash b (first (is_name_byte b) _ h))
+    ∙ ap (begin false b) (parts_name c t (second (is_name_byte b) _ h))
 
 parts_slashes : (p : List (List ℕ)) → IsNameList p → parts (with_slashes p) ≡ ([], p)
 parts_slashes [] h = refl
 parts_slashes (c ∷ p) h =
     let rest = parts_slashes p (name_rest c p h) in
-    ap (begin true 47) (parts_name c (with_slashes p) (bytes_of_name c (name_first c p h)) ∙ ap (λ (x : List ℕ × List (List ℕ)). (c ++ x.0, x.1)) rest)
+    ap (begin true 47) (parts_name c (with_slashes p) (bytes_of_name c (name_first c p h))
+    ∙ ap (λ (x : List ℕ × List (List ℕ)). (c ++ x.0, x.1)) rest)
     ∙ ap (λ (x : List ℕ). ([], x ∷ p)) (append-nil c)
 
 names_slashes : (p : List (List ℕ)) → IsNameList p → names_of (with_slashes p) ≡ p
@@ -138,7 +139,8 @@ text_proper p h few =
     let e = ap (list_any is_dots) n ∙ no_such is_dots p (λ c e. (name_tests c e).dots) h in
     let f = ap (list_any is_long_name) n ∙ no_such is_long_name p (λ c e. (name_tests c e).long) h in
     let g = not_long (length (text_of p)) longest_text few in
-    λ z. cond (a z) (Some Slash) (cond (b z) (Some Empty) (cond (d z) (Some Byte) (cond (e z) (Some Dot) (cond (f z) (Some NameLong) (cond (g z) (Some PathLong) None)))))
+    λ z. cond (a z) (Some Slash) (cond (b z) (Some Empty)
+    (cond (d z) (Some Byte) (cond (e z) (Some Dot) (cond (f z) (Some NameLong) (cond (g z) (Some PathLong) None)))))
 
 -- a text that has no fault and is that of a path has the path's names
 pub some_text : (p : List (List ℕ)) → 1 ≤ length (text_of p)

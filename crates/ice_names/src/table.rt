@@ -9,7 +9,9 @@ ghost use Rattle.ice_names.specs.declared.mark.Mark.TheVariants.{Free};
 
 use crate::bytes::byte_at;
 use crate::mark::Mark;
-use crate::row::{NameRow, copy_path, copy_row, has_path, mark_row, names_caught, read_row, write_row};
+use crate::row::{
+    NameRow, copy_path, copy_row, has_path, mark_row, names_caught, read_row, write_row,
+};
 use ice_base::Block;
 use ice_path::is_prefix;
 use std::marker::Model;
@@ -37,7 +39,8 @@ fn no_rows() -> [Option<NameRow>; 16]
     ensures { result ≡ replicate 16 None }
 {
     [
-        None, None, None, None, None, None, None, None, None, None, None, None, None, None, None, None,
+        None, None, None, None, None, None, None, None, None, None, None, None, None, None, None,
+        None,
     ]
 }
 
@@ -221,7 +224,7 @@ impl Names {
     /// The slot of the cube whose path is the longest one that begins this path by whole names, with the number of its names.
     pub fn route(&self, path: &Path) -> Option<(u8, usize)>
         ensures slot { slot_in result ≡ route (λ s. path_at self.now s) self.now.slots path.now }
-        ensures names { IfSome result (λ a. Catches self.now path.now a.0 a.1) }
+        ensures caught { IfSome result (λ a. Catches self.now path.now a.0 a.1) }
     {
         let mut best = None;
         for s in 0..self.slots {

@@ -9,4 +9,5 @@ pub bytes_of_cube-requires : goal.bytes_of_cube-requires
 bytes_of_cube-requires c = c.requires c.in-Some.row.path (ap path_of c.in-Some.is)
 
 pub returns-in-None : goal.returns-in-None
-returns-in-None c = subst (λ (x : List ℕ). IsRowBytes c.args.row.now x) (sym c.no_bytes.ensures) (subst (λ (x : Option Row). IsRowBytes x _) (sym c.in-None.is) free_bytes)
+returns-in-None c = subst (λ (x : List ℕ). IsRowBytes c.args.row.now x) (sym c.no_bytes.ensures)
+    (subst (λ (x : Option Row). IsRowBytes x _) (sym c.in-None.is) free_bytes)

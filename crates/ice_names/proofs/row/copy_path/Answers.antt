@@ -1,12 +1,12 @@
-use Rattle.std.proofs.Common.{◌≡◌, Option, None, Some, sym, ap, ◌∙◌}
+use Rattle.std.proofs.Common.{◌≡◌, None, Some, sym, ap, ◌∙◌}
 use Rattle.ice_path.specs.Paths.{path_fault, path_names}
-use Rattle.ice_path.specs.declared.read.PathFault.{PathFault}
 use Rattle.ice_names.proofs.TextLaws.{text_names, text_proper}
 use Rattle.ice_names.proofs.row.copy_path.Goals as goal
 
 pub unreachable-requires : goal.unreachable-requires
 unreachable-requires c =
-    let none : path_fault c.text.result.now ≡ None = ap path_fault c.text.ensures.value ∙ text_proper c.args.path.now c.text.ensures.names c.text.ensures.short in
+    let none : path_fault c.text.result.now ≡ None = ap path_fault c.text.ensures.value
+    ∙ text_proper c.args.path.now c.text.ensures.names c.text.ensures.short in
     let bad : None ≡ Some c.in-Err.field-0 = sym none ∙ c.in-Err.ensures.value in
     cc bad
 

@@ -16,4 +16,5 @@ put-requires-clause-alone c =
 pub returns : goal.returns
 returns c =
     let all : c.args.self.now.slots ≤ c.loop-s.s = omega (arith, c.loop-s-test.false, c.slots-s-end.ensures.value) in
-    copied c.args.self.now c.loop-s.copy c.loop-s.s c.slots.ensures.sound c.loop-s.invariant.sound c.loop-s.invariant.slots all c.loop-s.invariant.same c.loop-s.invariant.free
+    copied c.args.self.now c.loop-s.copy c.loop-s.s c.slots.ensures.sound c.loop-s.invariant.sound c.loop-s.invariant.slots all
+    c.loop-s.invariant.same c.loop-s.invariant.free

@@ -6,7 +6,7 @@ use Rattle.ice_names.proofs.table.Names.read.Given as goal
 
 abbrev pub invariant-loop-s : goal.invariant-loop-s
 invariant-loop-s l = record {
-    slots : l.names.slots ≡ l.slots;
-    read : IsReadTo (blocks_from 11 l.blocks) l.s l.names;
-    sound : IsNameTable l.names;
-  }
+  slots : l.names.slots ≡ l.slots;
+  read : IsReadTo (blocks_from 11 l.blocks) l.s l.names;
+  sound : IsNameTable l.names;
+}

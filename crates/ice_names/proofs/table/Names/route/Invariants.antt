@@ -6,6 +6,6 @@ use Rattle.ice_names.proofs.table.Names.route.Given as goal
 
 abbrev pub invariant-loop-s : goal.invariant-loop-s
 invariant-loop-s l = record {
-    route : slot_in l.best ≡ route (λ s. path_at l.self s) l.s l.path;
-    caught : IfSome l.best (λ (a : ℕ × ℕ). Catches l.self l.path a.0 a.1);
-  }
+  route : slot_in l.best ≡ route (λ s. path_at l.self s) l.s l.path;
+  caught : IfSome l.best (λ (a : ℕ × ℕ). Catches l.self l.path a.0 a.1);
+}
