@@ -27,13 +27,13 @@ pub record Idle (at : Places) (map : ℕ → List ℕ) (image : Image) : Type 0 
 
 -- while the gate is written
 pub record Full (reads : List ℕ → Option (List ℕ)) (at : Places) (entries : List Entry) (map : ℕ → List ℕ) (image : Image) : Type 0 where
-  pub holds : HoldsSet reads at entries image
+  pub set : HoldsSet reads at entries image
   pub homes : HomesAre at map image
 
 -- while the homes of the entries are written: the gate is open, and the other homes are the blocks of the map
 pub record Open (reads : List ℕ → Option (List ℕ)) (at : Places) (entries : List Entry) (map : ℕ → List ℕ) (image : Image) : Type 0 where
   pub gate : is_open (block image at.gate) ≡ true
-  pub holds : HoldsSet reads at entries image
+  pub set : HoldsSet reads at entries image
   pub homes : (a : ℕ) → at.home a ≡ true → holds entries a ≡ false → block image (at.place a) ≡ map a
 
 -- the blocks that each of these facts looks at

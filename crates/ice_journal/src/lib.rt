@@ -2,17 +2,17 @@
 #![tactic(auto)]
 
 mod area;
-mod commit;
+mod commits;
 mod effective;
 mod journal;
-mod replay;
+mod replays;
 mod settle;
 mod view;
-mod write;
+mod writes;
 
 pub use area::{Area, area_of, system_area};
-pub use commit::{CommitFault, commit};
+pub use commits::{CommitFault, commit};
 pub use effective::{Effective, JournalFault};
 pub use journal::{Journal, SystemJournal};
-pub use replay::replay;
-pub use write::{set_gate, write_body};
+pub use replays::replay;
+pub use writes::{set_gate, write_body};

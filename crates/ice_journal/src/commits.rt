@@ -5,11 +5,12 @@ ghost use Rattle.ice_base.specs.Disk.{block, HasCause, Everywhere};
 ghost use Rattle.ice_base.specs.Frames.{Within, CrashStep, Moves, Settled, Sure};
 ghost use Rattle.ice_layout.specs.Headers.{is_open};
 ghost use Rattle.ice_txn.specs.Sets.{over};
+ghost use Rattle.ice_journal.specs.Areas.{IsAreaOf};
 ghost use Rattle.ice_journal.specs.Blocks.{AreHomes, CommitBlocks, HomeBlocks, JournalExtent};
 ghost use Rattle.ice_journal.specs.Phases.{BeforeOrAfter, Full, Idle, RestsIdle};
-ghost use Rattle.ice_journal.specs.declared.commit.CommitFault.TheVariants.{Before, After};
+ghost use Rattle.ice_journal.specs.declared.commits.CommitFault.TheVariants.{Before, After};
 
-use crate::Journal;
+use crate::{Area, Journal};
 use crate::settle::{settle_body, settle_gate, settle_homes};
 use ice_base::{Disk, DiskFault};
 use ice_txn::WriteSet;
@@ -27,8 +28,10 @@ pub enum CommitFault {
 fn finish<D: Disk, J: Journal>(
     disk: &mut D,
     journal: &J,
+    area: &Area,
     set: &WriteSet,
 ) -> Result<(), DiskFault>
+    requires area { IsAreaOf area.now (J.reads journal.now) (J.places journal.now) (J.most journal.now) }
     requires few { length set.now.entries ≤ J.most journal.now }
     requires homes { AreHomes (J.places journal.now) set.now.entries }
     requires below { (k : ℕ) → JournalExtent (J.places journal.now) (J.most journal.now) k → k < (D.state disk.old).size }
@@ -46,9 +49,9 @@ fn finish<D: Disk, J: Journal>(
     ensures counts { (D.state disk.old).tells ≡ true
         → Made (length set.now.entries + 2) 3 (is_ok result) (D.state disk.old) (D.state disk.new) }
 {
-    settle_gate(disk, journal, true)?;
+    settle_gate(disk, area, true)?;
     settle_homes(disk, journal, set)?;
-    settle_gate(disk, journal, false)
+    settle_gate(disk, area, false)
 }
 
 /// Commits a set to a journal that is at rest: bodies and header, the gate opened, the homes, the gate closed, each settled by a
@@ -83,11 +86,12 @@ pub fn commit<D: Disk, J: Journal>(
     ensures counts { (D.state disk.old).tells ≡ true
         → Made (2 * length set.now.entries + 3) 4 (is_ok result) (D.state disk.old) (D.state disk.new) }
 {
-    match settle_body(disk, journal, set) {
+    let area = journal.area();
+    match settle_body(disk, &area, set) {
         Ok(()) => {}
         Err(_) => return Err(CommitFault::Before),
     }
-    match finish(disk, journal, set) {
+    match finish(disk, journal, &area, set) {
         Ok(()) => Ok(()),
         Err(_) => Err(CommitFault::After),
     }

@@ -44,6 +44,7 @@ pub fn replay<D: Disk, J: Journal>(
     ensures counts { (D.state disk.old).tells ≡ true
         → Made (length targets.now + 1) 2 (is_ok result) (D.state disk.old) (D.state disk.new) }
 {
-    settle_targets(disk, journal, targets)?;
-    settle_gate(disk, journal, false)
+    let area = journal.area();
+    settle_targets(disk, journal, &area, targets)?;
+    settle_gate(disk, &area, false)
 }

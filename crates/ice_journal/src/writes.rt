@@ -4,7 +4,7 @@ ghost use Rattle.ice_base.specs.Counts.{Made};
 ghost use Rattle.ice_base.specs.Disk.{block, HasCause, WriteCounts};
 ghost use Rattle.ice_base.specs.Frames.{Within};
 ghost use Rattle.ice_layout.specs.Headers.{gate_block, is_open, header_with};
-ghost use Rattle.ice_txn.specs.Sets.{addresses, holds};
+ghost use Rattle.ice_txn.specs.Sets.{addresses, holds, Differ};
 ghost use Rattle.ice_journal.specs.Areas.{IsArea, NamesTargets, may_be_target, most_bodies};
 ghost use Rattle.ice_journal.specs.Blocks.{IsFrom, IsBodyOf};
 ghost use Rattle.ice_journal.specs.Phases.{HoldBlocks};
@@ -33,7 +33,8 @@ fn write_bodies<D: Disk>(disk: &mut D, area: &Area, set: &WriteSet) -> Result<()
 /// The header of as many targets as a set has addresses.
 fn header_of_set(set: &WriteSet) -> Header
     requires { length set.now.entries ≤ 240 }
-    ensures { result ≡ header_with (addresses set.now.entries) }
+    ensures header { result ≡ header_with (addresses set.now.entries) }
+    ensures differ { Differ set.now.entries }
 {
     let mut targets = [0; 240];
     let count = set.len();
