@@ -7,7 +7,7 @@ use Rattle.std.proofs.lemmas.Nat.{mod_below, div-add-mod'}
 use Rattle.tree_spec.specs.Names.{text_of}
 use Rattle.ice_tables.specs.Tables.{Row, blocks_from}
 use Rattle.ice_names.specs.Names.{IsCubePath}
-use Rattle.ice_names.specs.Bytes.{row_bytes, mark_byte, IsRowBytes}
+use Rattle.ice_names.specs.Bytes.{row_bytes, mark_byte, IsRowBytes, IsWhole}
 
 -- a block of which 256 bytes from place a on are put
 pub record IsPut (a : ℕ) (old bytes new : List ℕ) : Type 0 where
@@ -116,6 +116,23 @@ module _ (blocks : List (List ℕ)) (s : ℕ) (bytes new : List ℕ) (few : s / 
       by (inr d) =
           ap (λ (x : List ℕ). take 256 (drop (256 * (r % 4)) x))
           (block_is (slice_set blocks (s / 4) new) r ∙ get_or-set_other blocks (s / 4) (r / 4) new [] d ∙ sym (block_is blocks r))
+
+-- the block of the row has 1,024 bytes afterwards
+pub put_whole : (blocks : List (List ℕ)) (s : ℕ) (new : List ℕ) → s / 4 < length blocks → length new ≡ 1024
+    → IsWhole (blocks_from 11 (slice_set blocks (s / 4) new)) s
+put_whole blocks s new few long = ap length (block_is (slice_set blocks (s / 4) new) s ∙ get_or-set_same blocks (s / 4) new [] few) ∙ long
+
+-- and another block that had them has them still
+pub put_stays : (blocks : List (List ℕ)) (s : ℕ) (new : List ℕ) → s / 4 < length blocks → length new ≡ 1024
+    → (r : ℕ) → IsWhole (blocks_from 11 blocks) r → IsWhole (blocks_from 11 (slice_set blocks (s / 4) new)) r
+put_stays blocks s new few long r whole = by (cases_eq (r / 4) (s / 4))
+  where
+    by : (r / 4 ≡ s / 4) ⊎ (r / 4 ≡ s / 4 → ⊥) → IsWhole (blocks_from 11 (slice_set blocks (s / 4) new)) r
+    by (inl e) =
+        ap length (block_is (slice_set blocks (s / 4) new) r ∙ ap (λ k. get_or (slice_set blocks (s / 4) new) k []) e
+        ∙ get_or-set_same blocks (s / 4) new [] few) ∙ long
+    by (inr d) =
+        ap length (block_is (slice_set blocks (s / 4) new) r ∙ get_or-set_other blocks (s / 4) (r / 4) new [] d ∙ sym (block_is blocks r)) ∙ whole
 
 -- a row of a block of 1,024 bytes that is put
 pub is_put : (s : ℕ) (old bytes new : List ℕ) → length old ≡ 1024 → length bytes ≡ 256

@@ -1,6 +1,6 @@
 -- Worked examples: the bytes of a row, and where it stands.
-use Rattle.std.proofs.Common.{◌≡◌, ℕ, zero, suc, ◌+◌, ◌-◌, ◌*◌, ◌<◌, ◌≤◌, true, false, List, [], ◌∷◌, ◌++◌, get_or, take, drop, Some, None, refl, arith, ◌∙◌}
-use Rattle.std.specs.Prelude.{replicate, slice_index}
+use Rattle.std.proofs.Common.{◌≡◌, ℕ, zero, suc, ◌-◌, ◌<◌, ◌≤◌, false, List, [], ◌∷◌, ◌++◌, take, drop, Some, None, refl, arith, ◌∙◌}
+use Rattle.std.specs.Prelude.{slice_index}
 use Rattle.std.proofs.lemmas.List.{get_or-append_right}
 use Rattle.ice_tables.specs.Tables.{Row}
 use Rattle.ice_names.specs.Names.{mark_of, marked, longer_one}
@@ -43,9 +43,11 @@ home_bytes = record {
 row_of_5 : (m : ℕ → List ℕ) → row_bytes m 5 ≡ take 256 (drop 256 (m 12))
 row_of_5 m = refl
 
-marks_of_rows : (mark_of None ≡ Free) × (mark_of (Some home) ≡ Online) × (mark_of (marked Offline (Some home)) ≡ Offline) × (marked Free (Some home) ≡ None)
+marks_of_rows : (mark_of None ≡ Free) × (mark_of (Some home) ≡ Online) × (mark_of (marked Offline (Some home)) ≡ Offline) × (marked
+    Free (Some home) ≡ None)
 marks_of_rows = (refl, refl, refl, refl)
 
 -- the first of the longest ones stays
-longer_ones : (longer_one None 3 (Some 0) ≡ Some (3, 0)) × (longer_one (Some (3, 1)) 4 (Some 1) ≡ Some (3, 1)) × (longer_one (Some (3, 1)) 4 (Some 2) ≡ Some (4, 2))
+longer_ones : (longer_one None 3 (Some 0) ≡ Some (3, 0)) × (longer_one (Some (3, 1)) 4 (Some 1) ≡ Some (3, 1)) × (longer_one
+    (Some (3, 1)) 4 (Some 2) ≡ Some (4, 2))
 longer_ones = (refl, refl, refl)

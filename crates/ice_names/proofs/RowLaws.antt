@@ -1,14 +1,15 @@
 -- What the bytes of a row say, and what the rows of a table say together.
-use Rattle.std.proofs.Common.{◌≡◌, ◌≢◌, ◌⊎◌, inl, inr, ℕ, zero, suc, Bool, true, false, cond, ◌+◌, ◌*◌, ◌/◌, ◌%◌, ◌<◌, ◌≤◌, List, length, take, drop, Option, Some, None, sym, refl, ap, ◌∙◌, subst, arith}
+use Rattle.std.proofs.Common.{◌≡◌, ◌≢◌, ◌⊎◌, inl, inr, ℕ, zero, suc, Bool, true, false, cond, ◌+◌, ◌-◌, ◌*◌, ◌/◌, ◌%◌, ◌<◌, ◌≤◌, List, length, take, drop, Option, Some, None, sym, refl, ap, ◌∙◌, subst, arith}
 use Rattle.std.specs.Prelude.{slice_index, nat_lt, if◌then◌else◌}
 use Rattle.std.proofs.lemmas.List.{get_or-take, get_or-drop, drop-drop, take-take, drop-take}
 use Rattle.std.proofs.lemmas.Bool.{cases_lt}
+use Rattle.std.proofs.lemmas.Nat.{div-mul-add}
 use Rattle.std.proofs.lemmas.Bool.Decides.{nat_tests}
 use borrow.Author.Count.{below_more}
 use Rattle.ice_path.specs.Paths.{path_names, path_fault}
 use Rattle.ice_tables.specs.Tables.{Row, row_byte, mark_at, length_at, text_at, row_of, row_in, AreNames, IsCubeText}
 use Rattle.ice_names.specs.Names.{NamesView, IsNameTable, IsCubePath, row_at, path_of, path_at}
-use Rattle.ice_names.specs.Bytes.{IsRowBytes, IsReadTo, RowZeros, row_bytes, mark_byte, text_in}
+use Rattle.ice_names.specs.Bytes.{IsRowBytes, IsReadTo, RowZeros, row_bytes, mark_byte, text_in, IsWhole}
 use Rattle.ice_names.proofs.TextLaws.{text_names, text_proper}
 
 -- ---- one row
@@ -145,6 +146,17 @@ written_more v old new n row is here others before =
     below_more (λ s. IsRowBytes (row_at v s) (row_bytes new s)) n
     (λ s less. subst (λ (x : List ℕ). IsRowBytes (row_at v s) x) (sym (others s (λ e. omega (arith, less, e)))) (before s less))
     (subst (λ (x : Option Row). IsRowBytes x (row_bytes new n)) is here)
+
+-- one block more is whole
+pub whole_more : (old new : ℕ → List ℕ) (n : ℕ) → IsWhole new n → ((s : ℕ) → IsWhole old s → IsWhole new s)
+    → ((s : ℕ) → s < n → IsWhole old s) → (s : ℕ) → s < n + 1 → IsWhole new s
+whole_more old new n here stays before = below_more (λ s. IsWhole new s) n (λ s less. stays s (before s less)) here
+
+-- where the blocks of the sixteen slots are whole, the four blocks are
+pub whole_blocks : (m : ℕ → List ℕ) → ((s : ℕ) → s < 16 → IsWhole m s) → (k : ℕ) → 11 ≤ k → k < 15 → length (m k) ≡ 1024
+whole_blocks m whole k from below =
+    let place : 11 + ((k - 11) * 4 + 0) / 4 ≡ k = omega (arith, from, div-mul-add (k - 11) 4 0 (omega arith)) in
+    subst (λ (n : ℕ). length (m n) ≡ 1024) place (whole ((k - 11) * 4 + 0) (omega (arith, from, below)))
 
 -- ---- a table that is read
 

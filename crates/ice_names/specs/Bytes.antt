@@ -14,6 +14,10 @@ pub record RowZeros (m : ℕ → List ℕ) (s : ℕ) : Type 0 where
 abbrev pub row_bytes : (ℕ → List ℕ) → ℕ → List ℕ
 row_bytes m s = take 256 (drop (256 * (s % 4)) (m (11 + s / 4)))
 
+-- the block of slot s has 1,024 bytes
+abbrev pub IsWhole : (ℕ → List ℕ) → ℕ → Type 0
+IsWhole m s = length (m (11 + s / 4)) ≡ 1024
+
 -- the byte of a row's mark
 abbrev pub mark_byte : Option Row → ℕ
 mark_byte None = 0

@@ -1,7 +1,7 @@
 //! The bytes of the rows.
 ghost use Rattle.std.specs.Prelude.{◌≡◌, ◌≢◌, ◌≤◌, ◌<◌, ◌+◌, ◌%◌, ◌*◌, ◌/◌, ℕ, List, length, take, drop, ◌++◌};
 ghost use Rattle.ice_tables.specs.Tables.{blocks_from, row_byte};
-ghost use Rattle.ice_names.specs.Bytes.{row_bytes};
+ghost use Rattle.ice_names.specs.Bytes.{row_bytes, IsWhole};
 
 use ice_base::Block;
 
@@ -34,6 +34,7 @@ pub(crate) fn text_bytes(blocks: &[Block; 4], slot: u8, len: usize) -> &[u8]
 fn put_in_block(block: &mut Block, at: usize, bytes: &[u8; 256])
     requires { at < 4 }
     ensures whole { length block.old ≡ 1024 }
+    ensures len { length block.new ≡ 1024 }
     ensures put { block.new ≡ take (256 * at) block.old ++ bytes.now ++ drop (256 * at + 256) block.old }
 {
     let from = ROW * at;
@@ -45,6 +46,8 @@ pub(crate) fn put_bytes(into: &mut [Block; 4], slot: u8, bytes: &[u8; 256])
     requires { slot < 16 }
     ensures here { row_bytes (blocks_from 11 into.new) slot ≡ bytes.now }
     ensures others { (s : ℕ) → s ≢ slot → row_bytes (blocks_from 11 into.new) s ≡ row_bytes (blocks_from 11 into.old) s }
+    ensures whole { IsWhole (blocks_from 11 into.new) slot }
+    ensures stays { (s : ℕ) → IsWhole (blocks_from 11 into.old) s → IsWhole (blocks_from 11 into.new) s }
 {
     let slot = slot as usize;
     put_in_block(&mut into[slot / 4], slot % 4, bytes);

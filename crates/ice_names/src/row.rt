@@ -6,7 +6,7 @@ ghost use Rattle.ice_path.specs.Paths.{path_fault, path_names};
 ghost use Rattle.ice_tables.specs.Tables.{Row, blocks_from, row_of, mark_at, text_at, row_byte, IsCubeText};
 ghost use Rattle.ice_names.specs.Names.{path_of, marked, Begins, IsCubePath};
 ghost use Rattle.ice_names.specs.declared.mark.Mark.TheVariants.{Free};
-ghost use Rattle.ice_names.specs.Bytes.{IsRowBytes, IsRowSound, mark_byte, row_bytes};
+ghost use Rattle.ice_names.specs.Bytes.{IsRowBytes, IsRowSound, IsWhole, mark_byte, row_bytes};
 
 use crate::bytes::{byte_at, put_bytes, text_bytes};
 use crate::mark::Mark;
@@ -222,6 +222,8 @@ pub(crate) fn write_row(into: &mut [Block; 4], slot: u8, row: &Option<NameRow>)
     requires cube { (p : List (List ℕ)) → path_of row.now ≡ Some p → IsCubePath p }
     ensures here { IsRowBytes row.now (row_bytes (blocks_from 11 into.new) slot) }
     ensures others { (s : ℕ) → s ≢ slot → row_bytes (blocks_from 11 into.new) s ≡ row_bytes (blocks_from 11 into.old) s }
+    ensures whole { IsWhole (blocks_from 11 into.new) slot }
+    ensures stays { (s : ℕ) → IsWhole (blocks_from 11 into.old) s → IsWhole (blocks_from 11 into.new) s }
 {
     put_bytes(into, slot, &bytes_of(row));
 }

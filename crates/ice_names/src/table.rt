@@ -156,6 +156,7 @@ impl Names {
         ensures accepted { AreNames self.now.slots (blocks_from 11 into.new) }
         ensures rows { (s : ℕ) → row_in self.now.slots (blocks_from 11 into.new) s ≡ row_at self.now s }
         ensures zeros { (s : ℕ) → s < 16 → RowZeros (blocks_from 11 into.new) s }
+        ensures whole { (k : ℕ) → 11 ≤ k → k < 15 → length (blocks_from 11 into.new k) ≡ 1024 }
         ensures sound { IsNameTable self.now }
     {
         for s in 0..16 {
