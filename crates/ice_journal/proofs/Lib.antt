@@ -2,5 +2,6 @@ pub mod AreaLaws
 mod JournalLaws
 mod Loops
 pub mod PhaseLaws
+pub mod ReplayLaws
 mod SetLaws
 pub mod StepLaws
