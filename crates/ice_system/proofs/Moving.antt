@@ -1,17 +1,17 @@
 -- From a commit to the journal of the tables to what it does to the tables.
-use Rattle.std.proofs.Common.{Result, Ok, Err, OnOk, ◌≡◌, ◌∙◌, ◌≤◌, ◌<◌, inl, inr, ⊎_elim, ℕ, zero, suc, true, false, List, refl, sym, arith}
+use Rattle.std.proofs.Common.{Result, Ok, Err, OnOk, ◌≡◌, ◌∙◌, ◌≤◌, ◌<◌, inl, inr, ⊎_elim, ℕ, zero, suc, true, false, List, length, refl, sym, arith}
 use Rattle.std.specs.Prelude.{◌⊎◌}
 use Rattle.ice_base.specs.Disk.{Image, DiskState, Below, AgreesOn, block}
 use Rattle.ice_base.specs.Frames.{Within, CrashStep, Sure, Every}
 use Rattle.ice_base.proofs.Frame.{agrees_fewer}
-use Rattle.ice_layout.specs.Headers.{system_targets}
+use Rattle.ice_layout.specs.Headers.{is_table, system_targets}
 use Rattle.ice_tables.specs.Journals.{system_places}
 use Rattle.ice_tables.specs.Tables.{Tables, HasTables}
 use Rattle.ice_tables.specs.Lots.{IsTable, AtRest}
 use Rattle.ice_tables.proofs.JournalLaws.{table-range, table_blocks_homes}
 use Rattle.ice_txn.specs.declared.set.Entry.{Entry}
-use Rattle.ice_txn.specs.Sets.{over}
-use Rattle.ice_journal.specs.Blocks.{JournalExtent}
+use Rattle.ice_txn.specs.Sets.{holds, over}
+use Rattle.ice_journal.specs.Blocks.{CommitBlocks, JournalExtent}
 use Rattle.ice_journal.specs.Phases.{BeforeOrAfter, Idle, RestsIdle}
 use Rattle.ice_system.specs.Says.{IsChange, EitherTables}
 use Rattle.ice_system.specs.Changes.{HasChanges}
@@ -26,6 +26,16 @@ extent_some k here = ⊎_elim
     (λ rest. ⊎_elim
         (λ body. ⊎_elim (λ header. (omega (arith, header), omega (arith, header))) (λ from. (omega (arith, from.0), omega (arith, from.1))) body)
         (λ home. let r = table-range home.0 home.1 in (omega (arith, r.0, home.2), omega (arith, r.1, home.2)))
+        rest)
+    here
+
+-- what a commit of table blocks writes lies in the journal of the tables and in the tables
+pub commit_change : (entries : List Entry) → length entries ≤ 8 → ((a : ℕ) → holds entries a ≡ true → is_table a ≡ true) → (k : ℕ) → CommitBlocks system_places entries k → IsChange k
+commit_change entries few homes k here = ⊎_elim
+    (λ gate. (omega (arith, gate), omega (arith, gate)))
+    (λ rest. ⊎_elim
+        (λ body. ⊎_elim (λ header. (omega (arith, header), omega (arith, header))) (λ from. (omega (arith, from.0), omega (arith, from.1, few))) body)
+        (λ put. let r = table-range put.0 (homes put.0 put.1) in (omega (arith, r.0, put.2), omega (arith, r.1, put.2)))
         rest)
     here
 
