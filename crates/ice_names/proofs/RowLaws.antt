@@ -1,8 +1,7 @@
 -- What the bytes of a row say, and what the rows of a table say together.
-use Rattle.std.proofs.Common.{◌≡◌, ◌≢◌, ◌⊎◌, inl, inr, ℕ, zero, suc, Bool, true, false, cond, ◌+◌, ◌-◌, ◌*◌, ◌/◌, ◌%◌, ◌<◌, ◌≤◌, List, length, take, drop, Option, Some, None, sym, refl, ap, ◌∙◌, subst, arith}
+use Rattle.std.proofs.Common.{◌≡◌, ◌≢◌, ℕ, zero, suc, Bool, true, false, cond, ◌+◌, ◌-◌, ◌*◌, ◌/◌, ◌%◌, ◌<◌, ◌≤◌, List, length, take, drop, Option, Some, None, sym, refl, ap, ◌∙◌, subst, arith}
 use Rattle.std.specs.Prelude.{slice_index, nat_lt, if◌then◌else◌}
 use Rattle.std.proofs.lemmas.List.{get_or-take, get_or-drop, drop-drop, take-take, drop-take}
-use Rattle.std.proofs.lemmas.Bool.{cases_lt}
 use Rattle.std.proofs.lemmas.Nat.{div-mul-add}
 use Rattle.std.proofs.lemmas.Bool.Decides.{nat_tests}
 use borrow.Author.Count.{below_more}
@@ -168,9 +167,6 @@ live_path (suc n) text live = refl
 pub row_in_low : (slots : ℕ) (m : ℕ → List ℕ) (s : ℕ) → s < slots → row_in slots m s ≡ row_of (mark_at m s) (text_at m s)
 row_in_low slots m s less = let is : nat_lt s slots ≡ true = grind (arith, nat_tests) in rw is refl
 
-pub row_in_high : (slots : ℕ) (m : ℕ → List ℕ) (s : ℕ) → slots ≤ s → row_in slots m s ≡ None
-row_in_high slots m s high = let is : nat_lt s slots ≡ false = grind (arith, nat_tests) in rw is refl
-
 module _ (m : ℕ → List ℕ) (v : NamesView) (sound : IsNameTable v) where
   path_read : (n s : ℕ) → IsReadTo m n v → s < n → s < v.slots → mark_at m s ≢ 0 → path_at v s ≡ Some (path_names (text_at m s))
   path_read n s h less low live = ap path_of (h.rows s less ∙ row_in_low v.slots m s low) ∙ live_path (mark_at m s) (text_at m s) live
@@ -187,28 +183,3 @@ module _ (m : ℕ → List ℕ) (v : NamesView) (sound : IsNameTable v) where
         omega (arith, less, e);
     no_more = λ s high less. h.no_more s less high;
   }
-
-  -- and their rows are those of the table
-  pub read_rows : IsReadTo m 16 v → (s : ℕ) → row_at v s ≡ row_in v.slots m s
-  read_rows h s = by (cases_lt s 16)
-    where
-      by : (s < 16) ⊎ (16 ≤ s) → row_at v s ≡ row_in v.slots m s
-      by (inl less) = h.rows s less
-      by (inr high) = h.free s high ∙ sym (row_in_high v.slots m s (omega (arith, high, sound.few)))
-
-  -- a slot below n of the table that has the path of the slot n
-  pub read_twice : (n s : ℕ) (p : List (List ℕ)) → IsReadTo m n v → n < v.slots → path_at v s ≡ Some p
-      → path_of (row_of (mark_at m n) (text_at m n)) ≡ Some p → ¬ AreNames v.slots m
-  read_twice n s p h low there here names = by (cases_lt s n)
-    where
-      has : (mark : ℕ) (text : List ℕ) → path_of (row_of mark text) ≡ Some p → (mark ≢ 0) × (path_names text ≡ p)
-      has zero text e = absurd (cc e)
-      has (suc k) text e = (λ z. omega (arith, z), cc e)
-
-      by : (s < n) ⊎ (n ≤ s) → ⊥
-      by (inl less) =
-          let mine = has (mark_at m n) (text_at m n) here in
-          let other = has (mark_at m s) (text_at m s)
-          (ap path_of (sym (h.rows s less ∙ row_in_low v.slots m s (omega (arith, less, low)))) ∙ there) in
-          names.differ s n less low other.0 mine.0 (other.1 ∙ sym mine.1)
-      by (inr high) = let free = ap path_of (h.free s high) in let bad : Some p ≡ None = sym there ∙ free in cc bad

@@ -1,11 +1,10 @@
 -- A table whose rows are free, and a table with another row in one slot.
-use Rattle.std.proofs.Common.{◌≡◌, ◌≢◌, ◌⊎◌, inl, inr, ℕ, zero, suc, ◌+◌, ◌<◌, ◌≤◌, List, length, get_or, Option, Some, None, sym, refl, ap, ◌∙◌, subst, arith, length-set}
+use Rattle.std.proofs.Common.{◌≡◌, ◌≢◌, ◌⊎◌, inl, inr, ℕ, zero, suc, ◌<◌, ◌≤◌, List, length, get_or, Option, Some, None, sym, refl, ap, ◌∙◌, subst, arith, length-set}
 use Rattle.std.specs.Prelude.{slice_set, replicate}
 use Rattle.std.proofs.lemmas.List.{get_or-set_same, get_or-set_other, same_lists, get_or_default}
 use Rattle.std.proofs.lemmas.Bool.{cases_eq, cases_lt}
-use borrow.Author.Count.{below_more}
 use Rattle.ice_tables.specs.Tables.{Row}
-use Rattle.ice_names.specs.Names.{NamesView, IsNameTable, IsCubePath, NoneHas, RowSet, row_at, path_of, path_at, marked, says_offline}
+use Rattle.ice_names.specs.Names.{NamesView, IsNameTable, IsCubePath, RowSet, row_at, path_of, path_at, marked, says_offline}
 use Rattle.ice_names.specs.declared.mark.Mark.{Mark}
 use Rattle.ice_names.specs.declared.mark.Mark.TheVariants.{Free, Online, Offline}
 use Rattle.ice_names.proofs.RowLaws.{HasCubePath}
@@ -142,18 +141,6 @@ inside_row v w s d e sound low = get_or_default v.rows s d None (omega (arith, l
 pub inside_cube : (v w : NamesView) (s : ℕ) (d row : Option Row) → v ≡ w → IsNameTable v → s < 16 → row ≡ get_or v.rows s d → HasCubePath row
 inside_cube v w s d row e sound low is p has = (subst IsNameTable e sound).paths s p (sym (ap path_of (is ∙ inside_row v w s d e sound low)) ∙ has)
 
--- a slot that has a path is one of the image's
-pub slot_low : (v : NamesView) (s : ℕ) (p : List (List ℕ)) → IsNameTable v → path_at v s ≡ Some p → s < v.slots
-slot_low v s p sound is = by (cases_lt s v.slots)
-  where
-    by : (s < v.slots) ⊎ (v.slots ≤ s) → s < v.slots
-    by (inl less) = less
-    by (inr high) = absurd (let bad : no_path ≡ Some p = sym (ap path_of (sound.no_more s high)) ∙ is in cc bad)
-
--- where no slot of the image has the path, none has it
-pub none_has : (v : NamesView) (p : List (List ℕ)) → IsNameTable v → ((s : ℕ) → s < v.slots → path_at v s ≢ Some p) → NoneHas v p
-none_has v p sound none s is = none s (slot_low v s p sound is) is
-
 -- ---- copies
 
 -- tables of the same rows
@@ -180,9 +167,3 @@ copied v w n sound also slots all same free = same_table w v also.room sound.roo
     by : (s : ℕ) → (s < n) ⊎ (n ≤ s) → row_at w s ≡ row_at v s
     by s (inl less) = same s less
     by s (inr high) = free s high ∙ sym (sound.no_more s (omega (arith, high, all)))
-
--- one slot more
-pub same_more : (v w new : NamesView) (n : ℕ) (row : Option Row) → row ≡ row_at v n → RowSet w n row new
-    → ((s : ℕ) → s < n → row_at w s ≡ row_at v s) → (s : ℕ) → s < n + 1 → row_at new s ≡ row_at v s
-same_more v w new n row is set same = below_more (λ s. row_at new s ≡ row_at v s) n
-    (λ s less. set.others s (λ e. omega (arith, less, e)) ∙ same s less) (set.here ∙ is)

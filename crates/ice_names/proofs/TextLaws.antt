@@ -141,8 +141,3 @@ text_proper p h few =
     let g = not_long (length (text_of p)) longest_text few in
     λ z. cond (a z) (Some Slash) (cond (b z) (Some Empty)
     (cond (d z) (Some Byte) (cond (e z) (Some Dot) (cond (f z) (Some NameLong) (cond (g z) (Some PathLong) None)))))
-
--- a text that has no fault and is that of a path has the path's names
-pub some_text : (p : List (List ℕ)) → 1 ≤ length (text_of p)
-some_text [] = omega arith
-some_text (c ∷ p) = omega arith

@@ -1,5 +1,6 @@
 -- The cube table as a value: for each slot of the image the path of its cube, and whether the cube is offline.
-use Rattle.std.specs.Prelude.{◌≡◌, ◌≢◌, ◌≤◌, ◌<◌, ◌+◌, ℕ, Bool, nat_lt, if◌then◌else◌, true, false, cond, List, length, slice_index_or, Option, Some, None, IsSome}
+use Rattle.std.specs.Prelude.{◌≡◌, ◌≢◌, ◌≤◌, ◌<◌, ◌+◌, ℕ, Bool, nat_lt, if◌then◌else◌, true, false, cond}
+use Rattle.std.specs.Prelude.{List, length, slice_index_or, Option, Some, None, IsSome}
 use Rattle.std.specs.Option.{option_map}
 use Rattle.tree_spec.specs.Names.{IsNameList, text_of}
 use Rattle.tree_spec.specs.Routes.{is_prefix}

@@ -1,5 +1,5 @@
 //! The bytes of the rows.
-ghost use Rattle.std.specs.Prelude.{◌≡◌, ◌≢◌, ◌≤◌, ◌<◌, ◌+◌, ◌%◌, ◌*◌, ◌/◌, ℕ, List, length, take, drop, ◌++◌};
+ghost use Rattle.std.specs.Prelude.{◌≡◌, ◌≢◌, ◌≤◌, ◌<◌, ◌+◌, ◌%◌, ◌*◌, ◌/◌, ℕ, length, take, drop, ◌++◌};
 ghost use Rattle.ice_tables.specs.Tables.{blocks_from, row_byte};
 ghost use Rattle.ice_names.specs.Bytes.{row_bytes, IsWhole};
 

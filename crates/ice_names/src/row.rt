@@ -1,9 +1,8 @@
 //! A row of the cube table, read and written.
-ghost use Rattle.std.specs.Prelude.{◌≡◌, ◌≢◌, ◌≤◌, ◌<◌, ◌+◌, ◌%◌, ◌*◌, ℕ, List, true, false, None, Some, length, replicate, take, drop, ◌++◌, IfSome, IfNone, MatchOption};
-ghost use Rattle.tree_spec.specs.Names.{IsNameList, longest_text, text_of};
+ghost use Rattle.std.specs.Prelude.{◌≡◌, ◌≢◌, ◌≤◌, ◌<◌, ◌+◌, ℕ, List, true, false, None, Some, length, replicate, take, drop, ◌++◌, IfSome, MatchOption};
 ghost use Rattle.tree_spec.specs.Routes.{caught};
 ghost use Rattle.ice_path.specs.Paths.{path_fault, path_names};
-ghost use Rattle.ice_tables.specs.Tables.{Row, blocks_from, row_of, mark_at, text_at, row_byte, IsCubeText};
+ghost use Rattle.ice_tables.specs.Tables.{blocks_from, row_of, mark_at, text_at};
 ghost use Rattle.ice_names.specs.Names.{path_of, marked, Begins, IsCubePath};
 ghost use Rattle.ice_names.specs.declared.mark.Mark.TheVariants.{Free};
 ghost use Rattle.ice_names.specs.Bytes.{IsRowBytes, IsRowSound, IsWhole, mark_byte, row_bytes};

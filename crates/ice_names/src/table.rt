@@ -1,9 +1,10 @@
 //! The table of the cubes' names.
-ghost use Rattle.std.specs.Prelude.{◌≡◌, ◌≢◌, ◌≤◌, ◌<◌, ◌+◌, ℕ, List, nat_lt, Bool, true, false, None, Some, Option, length, replicate, IfSome, IfNone, IsSome, MatchOption};
-ghost use Rattle.tree_spec.specs.Names.{text_of, IsNameList, longest_text};
-ghost use Rattle.tree_spec.specs.Routes.{route, caught, caught_by};
-ghost use Rattle.ice_tables.specs.Tables.{Row, AreNames, blocks_from, row_in, mark_at};
-ghost use Rattle.ice_names.specs.Names.{NamesView, IsNameTable, IsCubePath, RowSet, NoneHas, Catches, row_at, path_of, path_at, mark_of, marked, slot_in, names_in, longer_one};
+ghost use Rattle.std.specs.Prelude.{◌≡◌, ◌≢◌, ◌≤◌, ◌<◌, ◌+◌, ℕ, List, nat_lt, true, false, None, Some, length, replicate, IfSome, IfNone, IsSome, MatchOption};
+ghost use Rattle.tree_spec.specs.Names.{text_of};
+ghost use Rattle.tree_spec.specs.Routes.{route};
+ghost use Rattle.ice_tables.specs.Tables.{AreNames, blocks_from, row_in};
+ghost use Rattle.ice_names.specs.Names.{NamesView, IsNameTable, IsCubePath, RowSet, NoneHas, Catches};
+ghost use Rattle.ice_names.specs.Names.{row_at, path_of, path_at, mark_of, marked, slot_in, names_in, longer_one};
 ghost use Rattle.ice_names.specs.Bytes.{IsReadTo, RowZeros};
 ghost use Rattle.ice_names.specs.declared.mark.Mark.TheVariants.{Free};
 
@@ -13,7 +14,6 @@ use crate::row::{
     NameRow, copy_path, copy_row, has_path, mark_row, names_caught, read_row, write_row,
 };
 use ice_base::Block;
-use ice_path::is_prefix;
 use std::marker::Model;
 use tree_spec::Path;
 
@@ -62,6 +62,7 @@ impl Names {
     /// Puts a row into a slot.
     fn put(&mut self, slot: u8, row: Option<NameRow>)
         requires slot { slot < self.old.slots }
+        // The path of the row is a cube's, and no other slot has it.
         requires cube { (p : List (List ℕ)) → path_of row ≡ Some p → IsCubePath p }
         requires alone { (p : List (List ℕ)) (s : ℕ) → path_of row ≡ Some p → path_at self.old s ≡ Some p → s ≡ slot }
         ensures set { RowSet self.old slot row self.new }
@@ -109,6 +110,7 @@ impl Names {
     /// Reads the row of a slot into the table. False: it is refused, or another cube has its path.
     fn read_slot(&mut self, blocks: &[Block; 4], slot: u8) -> bool
         requires slot { slot < 16 }
+        // The slots before it are read, and afterwards it is too, or the blocks are refused.
         requires before { IsReadTo (blocks_from 11 blocks.now) slot self.old }
         ensures read { result ≡ true → IsReadTo (blocks_from 11 blocks.now) (slot + 1) self.new }
         ensures refused { result ≡ false → ¬ AreNames self.old.slots (blocks_from 11 blocks.now) }
@@ -153,8 +155,10 @@ impl Names {
 
     /// Writes the four blocks of the cube table, each byte of them.
     pub fn write(&self, into: &mut [Block; 4])
+        // The blocks are accepted, and say the rows of the table.
         ensures accepted { AreNames self.now.slots (blocks_from 11 into.new) }
         ensures rows { (s : ℕ) → row_in self.now.slots (blocks_from 11 into.new) s ≡ row_at self.now s }
+        // The bytes without a meaning are zero, and the blocks have 1,024 bytes.
         ensures zeros { (s : ℕ) → s < 16 → RowZeros (blocks_from 11 into.new) s }
         ensures whole { (k : ℕ) → 11 ≤ k → k < 15 → length (blocks_from 11 into.new k) ≡ 1024 }
         ensures sound { IsNameTable self.now }
@@ -166,6 +170,7 @@ impl Names {
 
     /// The slot of the cube that has the path.
     pub fn find(&self, path: &Path) -> Option<u8>
+        // A cube of the image with the path, or none has it.
         ensures slot { IfSome result (λ s. s < self.now.slots) }
         ensures found { MatchOption result (NoneHas self.now path.now) (λ s. path_at self.now s ≡ Some path.now) }
     {
@@ -179,6 +184,7 @@ impl Names {
 
     /// The lowest slot that is free.
     pub fn free_slot(&self) -> Option<u8>
+        // The slot is free, and none below it is; or none is.
         ensures slot { IfSome result (λ s. s < self.now.slots) }
         ensures free { IfSome result (λ s. row_at self.now s ≡ None) }
         ensures least { IfSome result (λ s. (r : ℕ) → r < s → row_at self.now r ≢ None) }
@@ -196,6 +202,7 @@ impl Names {
     pub fn add(&mut self, slot: u8, path: &Path)
         requires slot { slot < self.old.slots }
         requires free { row_at self.old slot ≡ None }
+        // No cube has the path, whose text has at most 199 bytes.
         requires absent { NoneHas self.old path.now }
         requires short { length (text_of path.now) ≤ 199 }
         ensures { RowSet self.old slot (Some (record { path = path.now; offline = false })) self.new }
@@ -224,6 +231,7 @@ impl Names {
 
     /// The slot of the cube whose path is the longest one that begins this path by whole names, with the number of its names.
     pub fn route(&self, path: &Path) -> Option<(u8, usize)>
+        // The slot is the route's, and the number is that of the names of its path.
         ensures slot { slot_in result ≡ route (λ s. path_at self.now s) self.now.slots path.now }
         ensures caught { IfSome result (λ a. Catches self.now path.now a.0 a.1) }
     {
