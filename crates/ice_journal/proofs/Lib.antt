@@ -4,4 +4,5 @@ mod Loops
 pub mod PhaseLaws
 pub mod ReplayLaws
 mod SetLaws
+pub mod StandLaws
 pub mod StepLaws

@@ -2,7 +2,7 @@
 use Rattle.std.proofs.Common.{◌≡◌, ◌≤◌, ◌<◌, ℕ, true, false, List, Option, Some, length, inl, inr, Result, Ok, Err, OnOk, OnErr, refl, sym, ◌∙◌, ap, subst, arith, ◌+◌}
 use Rattle.std.proofs.lemmas.Result.{on_ok_weaker}
 use Rattle.ice_base.specs.Disk.{Image, DiskState, block, Everywhere, Nowhere}
-use Rattle.ice_base.specs.Frames.{Within, RestsOn, CrashStep, Settled, Sure, Moves, MovesFrom}
+use Rattle.ice_base.specs.Frames.{Within, RestsOn, CrashStep, Every, Settled, Sure, Moves, MovesFrom}
 use Rattle.ice_base.specs.FrameLaws.{within_refl, within_more}
 use Rattle.ice_base.proofs.Frame.{step_from_now, now_after, step_more, moves_then, moves_more, moves_fail}
 use Rattle.ice_base.proofs.Rests.{from_barrier, from_then}
@@ -96,6 +96,10 @@ set_holds (Ok x) area reads at most entries i is homes header bodies = record {
 pub body_of : (area : Area) (reads : List ℕ → Option (List ℕ)) (at : Places) (most n k : ℕ) → IsAreaOf area reads at most → IsBodyOf area.header area.body n k → IsBody at n k
 body_of area reads at most n k is (inl header) = inl (header ∙ is.header)
 body_of area reads at most n k is (inr body) = inr (omega (arith, is.body, body.0), omega (arith, is.body, body.1))
+
+-- what every image of some blocks has, reads give
+pub every_now : (on : ℕ → Type 0) (P : Image → Type 0) (s : DiskState) → length s.now ≡ s.size → Every on s P → P s.now
+every_now on P s whole every = every s.now (record { count = whole; same = λ k here settled. refl })
 
 -- a fact that rests on settled blocks, and that these are settled
 pub sure_at : (E R : ℕ → Type 0) (P : Image → Type 0) (s : DiskState) → ((k : ℕ) → R k → E k) → Settled E s × P s.now → Sure R P s

@@ -69,10 +69,12 @@ pub fn commit<D: Disk, J: Journal>(
     ensures within { Within D.state D.left (CommitBlocks (J.places journal.now) set.now.entries) disk.old disk.new }
     ensures cause { HasCause (D.state disk.old) (D.state disk.new) result }
     ensures calm { OnOk result ((D.state disk.new).faults ≡ (D.state disk.old).faults) }
-    // From a journal at rest each crash, within the commit or after it, leaves the map before or the map after.
+    // From a journal at rest each crash, within the commit or after it, leaves the map before or the map after, and so do reads.
     ensures crash { (map : ℕ → List ℕ) → Sure (RestsIdle (J.places journal.now)) (Idle (J.places journal.now) map) (D.state disk.old)
         → CrashStep D.state D.left (JournalExtent (J.places journal.now) (J.most journal.now))
         (BeforeOrAfter (J.reads journal.now) (J.places journal.now) set.now.entries map) disk.old disk.new }
+    ensures either { (map : ℕ → List ℕ) → Sure (RestsIdle (J.places journal.now)) (Idle (J.places journal.now) map) (D.state disk.old)
+        → BeforeOrAfter (J.reads journal.now) (J.places journal.now) set.now.entries map (D.state disk.new).now }
     // An Ok leaves it at rest with the map after, and every block settled.
     ensures done { (map : ℕ → List ℕ) → Sure (RestsIdle (J.places journal.now)) (Idle (J.places journal.now) map) (D.state disk.old)
         → OnOk result (Sure (RestsIdle (J.places journal.now)) (Idle (J.places journal.now) (over set.now.entries map)) (D.state disk.new)) }

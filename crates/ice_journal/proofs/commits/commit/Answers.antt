@@ -7,7 +7,7 @@ use Rattle.ice_journal.specs.Areas.{bodies_for}
 use Rattle.ice_journal.specs.Blocks.{CommitBlocks, HomeBlocks, IsBody, IsBodyOf, JournalExtent}
 use Rattle.ice_journal.specs.Phases.{BeforeOrAfter, Full, Idle, RestsIdle}
 use Rattle.ice_journal.proofs.PhaseLaws.{idle_rests, idle_stands, idle_outside, idle_inside}
-use Rattle.ice_journal.proofs.StepLaws.{set_written, set_holds, body_of, written, then_finished, sure_at}
+use Rattle.ice_journal.proofs.StepLaws.{set_written, set_holds, body_of, written, then_finished, every_now, sure_at}
 use Rattle.ice_journal.proofs.commits.commit.Goals as goal
 
 pub settle_body-requires-clause-header : goal.settle_body-requires-clause-header
@@ -100,3 +100,21 @@ returns-in-Err-clause-before g c = λ map sure is-before.
     let reads = g.J.Journal.reads c.args.journal.now in let entries = c.args.set.now.entries in let area = c.area-area.result in let is = c.area-area.ensures in
     let w = within_more state left (IsBodyOf area.header area.body (length entries)) (IsBody at (length entries)) c.args.disk.now c.settle_body.new.disk (λ k body. body_of area reads at most (length entries) k is body) c.settle_body.ensures.within in
     sure_after state left (IsBody at (length entries)) (RestsIdle at) (Idle at map) c.args.disk.now c.settle_body.new.disk (idle_rests reads at entries map) (idle_outside reads at entries most c.requires.few is.apart) w sure
+
+pub returns-in-Ok-finish-clause-either : goal.returns-in-Ok-finish-clause-either
+returns-in-Ok-finish-clause-either g c = λ map sure.
+    let at = g.J.Journal.places c.args.journal.now in
+    every_now (JournalExtent at (g.J.Journal.most c.args.journal.now)) (BeforeOrAfter (g.J.Journal.reads c.args.journal.now) at c.args.set.now.entries map) (g.D.Disk.state c.finish.new.disk)
+    (g.met.D.Disk.whole c.finish.new.disk (c.finish.ensures.within.tells ∙ c.settle_body.ensures.within.tells ∙ sure.settled.told)) (returns-in-Ok-finish-clause-crash g c map sure).after
+
+pub returns-in-Err-finish-clause-either : goal.returns-in-Err-finish-clause-either
+returns-in-Err-finish-clause-either g c = λ map sure.
+    let at = g.J.Journal.places c.args.journal.now in
+    every_now (JournalExtent at (g.J.Journal.most c.args.journal.now)) (BeforeOrAfter (g.J.Journal.reads c.args.journal.now) at c.args.set.now.entries map) (g.D.Disk.state c.finish.new.disk)
+    (g.met.D.Disk.whole c.finish.new.disk (c.finish.ensures.within.tells ∙ c.settle_body.ensures.within.tells ∙ sure.settled.told)) (returns-in-Err-finish-clause-crash g c map sure).after
+
+pub returns-in-Err-clause-either : goal.returns-in-Err-clause-either
+returns-in-Err-clause-either g c = λ map sure.
+    let at = g.J.Journal.places c.args.journal.now in
+    every_now (JournalExtent at (g.J.Journal.most c.args.journal.now)) (BeforeOrAfter (g.J.Journal.reads c.args.journal.now) at c.args.set.now.entries map) (g.D.Disk.state c.settle_body.new.disk)
+    (g.met.D.Disk.whole c.settle_body.new.disk (c.settle_body.ensures.within.tells ∙ sure.settled.told)) (returns-in-Err-clause-crash g c map sure).after

@@ -6,15 +6,21 @@ use Rattle.ice_journal.specs.Blocks.{IsPut}
 use Rattle.ice_journal.proofs.Loops.{wrote_within, wrote_more}
 use Rattle.ice_journal.proofs.settle.write_homes.Goals as goal
 
+back : (a b : ℕ) → a ≡ b → b ≡ a
+back a b e = sym e
+
+place_of : (place : ℕ → ℕ) (h a b : ℕ) → h ≡ place a → a ≡ b → h ≡ place b
+place_of place h a b e is = e ∙ ap place is
+
 pub home-home-requires : goal.home-home-requires
 home-home-requires g c =
     let entries = c.args.set.now.entries in
-    c.requires.homes c.address.result (held_here entries c.loop-i.i c.address.result (omega arith) (sym c.address.ensures))
+    c.requires.homes c.address.result (held_here entries c.loop-i.i c.address.result (omega arith) (back c.address.result (address entries c.loop-i.i) c.address.ensures))
 
 pub write-requires : goal.write-requires
 write-requires g c =
     let entries = c.args.set.now.entries in
-    let held : holds entries c.address.result ≡ true = held_here entries c.loop-i.i c.address.result (omega arith) (sym c.address.ensures) in
+    let held : holds entries c.address.result ≡ true = held_here entries c.loop-i.i c.address.result (omega arith) (back c.address.result (address entries c.loop-i.i) c.address.ensures) in
     let here = c.requires.below c.home-home.result (c.address.result, c.requires.homes c.address.result held, c.home-home.ensures) in
     omega (arith, here, c.loop-i.invariant.frame.size)
 
@@ -23,16 +29,16 @@ returns-in_err-write-clause-within g c =
     let entries = c.args.set.now.entries in
     let at = g.J.Journal.places c.args.journal.now in
     wrote_within g.D.Disk.state g.D.Disk.left (IsPut at entries) (λ j. at.place (address entries j)) (λ j. contents entries j) c.loop-i.i c.args.disk.now c.loop-i.disk c.write.new.self
-    c.home-home.result (c.address.result, held_here entries c.loop-i.i c.address.result (omega arith) (sym c.address.ensures), c.home-home.ensures) c.loop-i.invariant c.write.ensures.within
+    c.home-home.result (c.address.result, held_here entries c.loop-i.i c.address.result (omega arith) (back c.address.result (address entries c.loop-i.i) c.address.ensures), c.home-home.ensures) c.loop-i.invariant c.write.ensures.within
 
 pub loop-i-preserved : goal.loop-i-preserved
 loop-i-preserved g c =
     let entries = c.args.set.now.entries in
     let at = g.J.Journal.places c.args.journal.now in
     let less : c.loop-i.i < length entries = omega arith in
-    let held : holds entries c.address.result ≡ true = held_here entries c.loop-i.i c.address.result less (sym c.address.ensures) in
+    let held : holds entries c.address.result ≡ true = held_here entries c.loop-i.i c.address.result less (back c.address.result (address entries c.loop-i.i) c.address.ensures) in
     wrote_more g.D.Disk.state g.D.Disk.left (IsPut at entries) (λ j. at.place (address entries j)) (λ j. contents entries j) c.loop-i.i c.args.disk.now c.loop-i.disk c.write.new.self
-    c.home-home.result (c.home-home.ensures ∙ ap at.place c.address.ensures) (c.address.result, held, c.home-home.ensures) c.loop-i.invariant c.write.ensures.within c.in_ok-write.ensures.calm
+    c.home-home.result (place_of at.place c.home-home.result c.address.result (address entries c.loop-i.i) c.home-home.ensures c.address.ensures) (c.address.result, held, c.home-home.ensures) c.loop-i.invariant c.write.ensures.within c.in_ok-write.ensures.calm
     (λ told. c.in_ok-write.ensures.bytes told ∙ c.block.ensures)
     (λ told. search rules)
     (λ j before e. c.len-i-end.ensures.differ j c.loop-i.i before less
