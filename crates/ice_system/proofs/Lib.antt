@@ -2,7 +2,6 @@ mod Mixing
 mod Crashes
 mod Moving
 mod Committing
-mod Standing
 mod Views
 mod Gathering
 mod Planning

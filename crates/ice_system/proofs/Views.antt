@@ -11,7 +11,7 @@ use Rattle.ice_system.specs.Says.{SayTables}
 use Rattle.ice_system.specs.Systems.{AreTables, tables_with}
 use Rattle.ice_system.specs.Changes.{SlotBecomes}
 use Rattle.ice_system.proofs.Mixing.{row_block, owner_block, row_block_high, same_row, same_mark, same_cube_text, same_owner, same_holder, same_ordinal}
-use Rattle.ice_system.proofs.Standing.{groups_same, owners_accepted}
+use Rattle.ice_owner.proofs.Laws.{groups_same, owners_accepted}
 
 -- ---- the groups of a slot
 
