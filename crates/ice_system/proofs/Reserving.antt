@@ -59,6 +59,10 @@ module _ (names : NamesView) (owners : OwnersView) (lots : AreLots owners) where
         got = ap (λ k. groups_at owners s ++ take k (free_of owners)) count ∙ sym (plan.groups ∙ rw (groups_with names owners lots s, free_with names owners) refl);
       }
 
+-- the same of a copy of the groups
+pub gets_at : (o copy : OwnersView) (s r k j : ℕ) (groups : List ℕ) → copy ≡ o → r ≡ s → j ≡ k → Gets o s k groups → Gets copy r j groups
+gets_at o copy s r k j groups same here count gets = rw (same, here, count) gets
+
 -- a planned lot has a group
 pub some_groups : (groups : List ℕ) → 1 ≤ length groups → groups ≢ []
 some_groups groups some none = let empty = ap (λ (g : List ℕ). length g) none in omega (arith, some, empty)
