@@ -93,3 +93,7 @@ module _ (v : OwnersView) where
       by : Cases 0 v.lots g (holder v g) → ⊥
       by (inl none) = cc (none.0 s, has_true (groups_at v s) g o low is)
       by (inr some) = cc (some.1, held)
+
+  -- a group past the last belongs to none
+  pub holder_past : AreLots v → (g : ℕ) → v.groups ≤ g → holder v g ≡ None
+  holder_past a g past = holder_none g (λ s o low at. omega (arith, a.below s o low, at, past))

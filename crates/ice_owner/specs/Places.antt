@@ -68,7 +68,7 @@ pub record IsEntryAt (m : ℕ → List ℕ) (n k g : ℕ) : Type 0 where
 pub record IsPlaced (m : ℕ → List ℕ) (live : List Bool) (counts places : List ℕ) (g s : ℕ) : Type 0 where
   pub slot : s < 16
   pub ordinal : ordinal_byte m g < 64
-  pub live : is_live live s ≡ true
+  pub kept : is_live live s ≡ true
   pub place : slice_index places (64 * s + ordinal_byte m g) ≡ g
   pub counted : ordinal_byte m g < slice_index counts s
 

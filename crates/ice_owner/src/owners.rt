@@ -1,5 +1,5 @@
 //! The groups of the slots.
-ghost use Rattle.std.specs.Prelude.{◌≡◌, ◌≢◌, ◌≤◌, ◌<◌, ◌+◌, ◌*◌, ◌↔◌, ◌++◌, ℕ, [], ◌∷◌, take, length, slice_index, None, Err, IfSome, IsOk, IsErr};
+ghost use Rattle.std.specs.Prelude.{◌≡◌, ◌≢◌, ◌≤◌, ◌<◌, ◌+◌, ◌*◌, ◌/◌, ◌%◌, ◌↔◌, ◌++◌, ℕ, [], ◌∷◌, take, length, slice_index, None, Err, IfSome, IsOk, IsErr};
 ghost use Rattle.ice_tables.specs.Tables.{Tables, AreOwners, blocks_from, holder_in, ordinal_in, owner_byte, ordinal_byte};
 ghost use Rattle.ice_owner.specs.Owners.{AreLots, OwnerTables, Changes, groups_at, holder, ordinal, free_groups};
 ghost use Rattle.ice_owner.specs.Places.{mark_slot, mark_ordinal};
@@ -102,10 +102,12 @@ impl Owners {
             → slice_index (blocks_from 15 into.new (15 + g / 256)) (4 * (g % 256) + 3) ≡ 0 }
     {
         let marks = self.marks();
-        into[0] = entries(&marks, 0);
-        into[1] = entries(&marks, 256);
-        into[2] = entries(&marks, 512);
-        into[3] = entries(&marks, 768);
+        *into = [
+            entries(&marks, 0),
+            entries(&marks, 256),
+            entries(&marks, 512),
+            entries(&marks, 768),
+        ];
     }
 
     /// The number of groups of the image.
@@ -155,7 +157,6 @@ impl Owners {
     fn push_free(&mut self, slot: u8, count: u32)
         requires slot { slot < 16 }
         requires room { length (groups_at self.old slot) + count ≤ 64 }
-        requires free { count ≤ length (free_groups self.old) }
         ensures pushed { Changes self.old self.new slot (groups_at self.old slot ++ take count (free_groups self.old)) }
         ensures lots { AreLots self.new }
     {
