@@ -5,5 +5,5 @@ mod Committing
 mod Views
 mod Gathering
 mod Planning
-mod Attaching
+mod Opening
 mod Finishing
