@@ -29,12 +29,13 @@ with_bodies ts image = replayed (λ k. k) ts 3 image
 pending_stands : (ts : List ℕ) (image : Image) → IsPending system_targets system_places ts image → StandsFor system_targets system_places (with_bodies ts image) image
 pending_stands ts image pending = let gate = pending.gate in let header = pending.header in rw (gate, header) (λ a is. refl)
 
--- a replay writes the gate and tables
+-- a replay writes the gate and tables,
 replay_blocks : (ts : List ℕ) → AreTargets 8 is_table ts → (k : ℕ) → ReplayBlocks system_places ts k → IsReplayed k
 replay_blocks ts targets k (inl gate) = inl gate
 replay_blocks ts targets k (inr home) = let r = table-range (slice_index ts home.0) (targets.homes home.0 home.1) in inr (omega (arith, r.0, home.2), omega (arith, r.1, home.2))
 
-no-replay-0 : ¬ IsReplayed 0
+-- and not the superblock
+pub no-replay-0 : ¬ IsReplayed 0
 no-replay-0 (inl is) = omega (arith, is)
 no-replay-0 (inr is) = omega (arith, is.0)
 
