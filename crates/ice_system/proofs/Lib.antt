@@ -7,3 +7,5 @@ mod Gathering
 mod Planning
 mod Changing
 mod Reserving
+mod Opening
+mod Finishing
