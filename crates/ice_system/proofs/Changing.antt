@@ -1,7 +1,7 @@
 -- A change of one slot, from what the commit of the new tables does.
-use Rattle.std.proofs.Common.{Result, Ok, Err, OnOk, OnErr, ◌≡◌, ◌∙◌, inl, inr, ℕ, Bool, true, false, List, Option, refl, sym, ap, subst}
+use Rattle.std.proofs.Common.{Result, Ok, Err, OnOk, OnErr, ◌≡◌, inl, inr, ℕ, Bool, true, false, List, Option, refl, sym, ap, subst}
 use Rattle.std.specs.Prelude.{IsErrOf}
-use Rattle.ice_base.specs.Disk.{Image, DiskState, HasCause, Rose}
+use Rattle.ice_base.specs.Disk.{Image, DiskState, HasCause}
 use Rattle.ice_base.specs.Frames.{Within, Sure}
 use Rattle.ice_base.specs.FrameLaws.{within_refl}
 use Rattle.ice_names.specs.Names.{NamesView}

@@ -1,12 +1,12 @@
 -- What the journal of the tables leaves of them, looked at and finished.
-use Rattle.std.proofs.Common.{◌≡◌, ◌∙◌, ◌≤◌, ◌<◌, inl, inr, ⊎_elim, ℕ, true, false, List, Option, Some, None, refl, sym, ap, subst, arith}
-use Rattle.std.specs.Prelude.{◌⊎◌, slice_index}
+use Rattle.std.proofs.Common.{◌≡◌, ◌∙◌, inl, inr, ⊎_elim, ℕ, true, false, List, None, refl, sym, ap, arith}
+use Rattle.std.specs.Prelude.{slice_index}
 use Rattle.ice_base.specs.Disk.{Image, DiskState, Below, Everywhere, Nowhere, block}
 use Rattle.ice_base.specs.Frames.{Within, CrashStep, Settled, Sure}
 use Rattle.ice_base.specs.FrameLaws.{within_more}
 use Rattle.ice_base.proofs.Frame.{agrees_fewer, step_from_now, step_then}
 use Rattle.ice_layout.specs.Headers.{is_open, is_table, system_targets, AreTargets}
-use Rattle.ice_tables.specs.Journals.{system_places, replayed, table_blocks, in_tables}
+use Rattle.ice_tables.specs.Journals.{system_places, replayed, table_blocks}
 use Rattle.ice_tables.specs.Tables.{Tables, HasTables}
 use Rattle.ice_tables.proofs.JournalLaws.{table-range, table_blocks_rest}
 use Rattle.ice_tables.proofs.TableLaws.{tables_rest}
@@ -106,8 +106,8 @@ module _ {D : Type 0} (state : D → DiskState) (left : D → ℕ → Image → 
     leaves = record {
       each = λ m i o l. ⊎_elim (λ before. inl before)
           (λ here. ⊎_elim (λ before. inl before)
-              (λ agrees. inr (leaves i (agrees.0.same 0 no-replay-0 loose) here.0, here.1))
-              (u.left_new m i o l))
+          (λ agrees. inr (leaves i (agrees.0.same 0 no-replay-0 loose) here.0, here.1))
+          (u.left_new m i o l))
           (step.leaves.each m i o l);
     };
     after = λ i agrees. leaves i (agrees.same 0 (omega arith) (u.settled 0 no-replay-0 loose) ∙ u.same 0 no-replay-0)

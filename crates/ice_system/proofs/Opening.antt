@@ -1,12 +1,11 @@
 -- What opening the tables of a disk answers, from the superblock to the tables.
-use Rattle.std.proofs.Common.{◌≡◌, ◌≢◌, ◌∙◌, ◌≤◌, ◌<◌, ◌+◌, ◌-◌, ◌==◌, inl, inr, ⊎_elim, ℕ, zero, suc, Bool, true, false, List, [], length, slice_index_or, slice_set, Option, Some, None, Result, Ok, Err, IfOk, IfErr, IsErr, refl, sym, ap, subst, arith, get_or-set_other, get_or-set_same}
+use Rattle.std.proofs.Common.{◌≡◌, ◌≢◌, ◌∙◌, ◌≤◌, ◌<◌, ◌+◌, ◌==◌, inl, inr, ⊎_elim, ℕ, Bool, true, false, List, length, slice_set, Option, Some, None, Result, Ok, Err, IfOk, IfErr, IsErr, refl, sym, ap, subst, arith, get_or-set_other, get_or-set_same}
 use Rattle.std.specs.Prelude.{◌⊎◌, not, IsErrAnd, nat_lt, if◌then◌else◌, IsSome}
 use Rattle.std.proofs.Math.Path.{fun_ext}
 use Rattle.std.proofs.lemmas.List.{length-set}
 use Rattle.std.proofs.lemmas.Bool.Decides.{nat_tests}
-use Rattle.ice_base.specs.Disk.{Image, DiskState, Below, Everywhere, Nowhere, AgreesOn, block}
-use Rattle.ice_base.specs.Frames.{Within, CrashStep, Every, Settled, Sure}
-use Rattle.ice_base.specs.FrameLaws.{within_more, within_then}
+use Rattle.ice_base.specs.Disk.{Image, DiskState, Below, Everywhere, Nowhere, block}
+use Rattle.ice_base.specs.Frames.{Within, CrashStep, Every, Settled}
 use Rattle.ice_base.specs.Fields.{word_at}
 use Rattle.ice_base.proofs.Frame.{step_apart, step_then}
 use Rattle.ice_layout.specs.Geometry.{total_blocks, zero_from, between}
@@ -17,16 +16,15 @@ use Rattle.ice_layout.specs.declared.superblock.LayoutFault.{LayoutFault}
 use Rattle.ice_layout.specs.declared.superblock.LayoutFault.TheVariants.{Magic, Version, Slots, Groups, Total, Zero, Names, Owners, Header as HeaderFault}
 use Rattle.ice_tables.specs.Journals.{in_tables, table_blocks}
 use Rattle.ice_tables.specs.Tables.{Tables, Row, HasTables, FirstFault, AreNames, AreOwners, tables_in, row_in, holder_in, ordinal_in, blocks_from}
-use Rattle.ice_tables.specs.Lots.{IsTable, AtRest}
 use Rattle.ice_tables.proofs.JournalLaws.{table_blocks_homes}
 use Rattle.ice_names.specs.Names.{NamesView, IsNameTable, row_at}
-use Rattle.ice_owner.specs.Owners.{OwnersView, AreLots, OwnerTables, groups_at, holder, ordinal, is_live}
+use Rattle.ice_owner.specs.Owners.{OwnersView, AreLots, OwnerTables, holder, ordinal, is_live}
 use Rattle.ice_owner.proofs.Laws.{rows_have_groups, groups_have_rows}
 use Rattle.ice_system.specs.Systems.{SystemView, AreTables, tables_of, tables_with}
 use Rattle.ice_system.specs.Attaching.{Accepts, AreFour, Attaches, Finishes, IsReplayed, RefusesBlocks, RefusesDisk, RefusesJournal, RefusesTables, TooSmall}
 use Rattle.ice_system.specs.declared.fault.TablesFault.{TablesFault}
 use Rattle.ice_system.specs.declared.fault.TablesFault.TheVariants.{Small, Layout, Disk, Memory}
-use Rattle.ice_system.proofs.Mixing.{row_block, owner_block, row_block_high, owner_block_high, same_row, same_mark, same_text, same_cube_text, same_owner, same_holder, same_ordinal}
+use Rattle.ice_system.proofs.Mixing.{row_block, owner_block, row_block_high, owner_block_high, same_row, same_mark, same_cube_text, same_owner, same_holder, same_ordinal}
 use Rattle.ice_system.proofs.Crashes.{still_has}
 use Rattle.ice_system.proofs.Views.{has_owners}
 use Rattle.ice_system.proofs.Finishing.{no-replay-0, still_settled, still_block, still_blocks, still_tables, still_crash}
@@ -117,9 +115,10 @@ none_some (Some row) is some = cc is
 
 pub live_all : (names : NamesView) (live : List Bool) → IsNameTable names → IsLiveTo names live names.slots
     → ((s : ℕ) → is_live live s ≡ true → IsSome (row_at names s)) × ((s : ℕ) → IsSome (row_at names s) → is_live live s ≡ true)
-live_all names live table is =
-    (λ s at. by s (nat_lt s names.slots) refl (λ low. is.has s low at) (λ high. absurd (let never : false ≡ true = sym (is.rest s high) ∙ at in cc never)),
-     λ s some. by s (nat_lt s names.slots) refl (λ low. is.all s low some) (λ high. absurd (none_some (row_at names s) (table.no_more s high) some)))
+live_all names live table is = (
+  λ s at. by s (nat_lt s names.slots) refl (λ low. is.has s low at) (λ high. absurd (let never : false ≡ true = sym (is.rest s high) ∙ at in cc never)),
+  λ s some. by s (nat_lt s names.slots) refl (λ low. is.all s low some) (λ high. absurd (none_some (row_at names s) (table.no_more s high) some)),
+)
   where
     by : {P : Type 0} (s : ℕ) (b : Bool) → nat_lt s names.slots ≡ b → (s < names.slots → P) → (names.slots ≤ s → P) → P
     by s true is low high = low (grind (arith, nat_tests))
@@ -196,14 +195,17 @@ module _ (sup : Super) (geometry : is_geometry sup ≡ true) (rows owners : List
   -- blocks whose owners are refused are refused
   pub owners_refused : (m : ℕ → List ℕ) → AreFour 11 rows m → AreFour 15 owners m
       → ((t : Tables) → OwnerTables sup.groups live (blocks_from 15 owners) t → ¬ AreOwners t (blocks_from 15 owners)) → RefusesBlocks Owners sup m
-  owners_refused m four five refused = (names_same sup.slots few_slots (blocks_from 11 rows) m four accepted, λ are.
-      refused (tables_in sup m) (record {
-        groups = refl;
-        holder = λ g. holders_same (blocks_from 15 owners) m five sup.groups g few_groups;
-        ordinal = λ g. ordinals_same (blocks_from 15 owners) m five sup.groups g few_groups;
-        has_row = λ s at. subst (λ (o : Option Row). IsSome o) (row_is m four s) (has s at);
-        row_live = λ s some. all s (subst (λ (o : Option Row). IsSome o) (sym (row_is m four s)) some);
-      }) (owners_same m (blocks_from 15 owners) (λ k low high. sym (five k low high)) (tables_in sup m) are))
+  owners_refused m four five refused = (
+    names_same sup.slots few_slots (blocks_from 11 rows) m four accepted,
+    λ are.
+        refused (tables_in sup m) (record {
+          groups = refl;
+          holder = λ g. holders_same (blocks_from 15 owners) m five sup.groups g few_groups;
+          ordinal = λ g. ordinals_same (blocks_from 15 owners) m five sup.groups g few_groups;
+          has_row = λ s at. subst (λ (o : Option Row). IsSome o) (row_is m four s) (has s at);
+          row_live = λ s some. all s (subst (λ (o : Option Row). IsSome o) (sym (row_is m four s)) some);
+        }) (owners_same m (blocks_from 15 owners) (λ k low high. sym (five k low high)) (tables_in sup m) are),
+  )
 
   module _ (lots : OwnersView) (are : AreLots lots) (groups : lots.groups ≡ sup.groups) (holders : (g : ℕ) → holder_in sup.groups (blocks_from 15 owners) g ≡ holder lots g)
       (ordinals : (g : ℕ) → ordinal_in sup.groups (blocks_from 15 owners) g ≡ ordinal lots g)
@@ -243,22 +245,28 @@ fault_moved i j first tables Groups is = ap super_fault first ∙ is
 fault_moved i j first tables Total is = ap super_fault first ∙ is
 fault_moved i j first tables Zero is = ap super_fault first ∙ is
 fault_moved i j first tables HeaderFault is = (ap super_fault first ∙ is.0, tables ∙ is.1)
-fault_moved i j first tables Names is = (ap super_fault first ∙ is.0, record {
-  blocks = (is.1).blocks;
-  effective = tables ∙ (is.1).effective;
-  names = subst (λ (bytes : List ℕ). ¬ AreNames (super_of bytes).slots (is.1).blocks) (sym first) (is.1).names;
-})
-fault_moved i j first tables Owners is = (ap super_fault first ∙ is.0, record {
-  blocks = (is.1).blocks;
-  effective = tables ∙ (is.1).effective;
-  names = subst (λ (bytes : List ℕ). AreNames (super_of bytes).slots (is.1).blocks) (sym first) (is.1).names;
-  owners = subst (λ (bytes : List ℕ). ¬ AreOwners (tables_in (super_of bytes) (is.1).blocks) (is.1).blocks) (sym first) (is.1).owners;
-})
+fault_moved i j first tables Names is = (
+  ap super_fault first ∙ is.0,
+  record {
+    blocks = (is.1).blocks;
+    effective = tables ∙ (is.1).effective;
+    names = subst (λ (bytes : List ℕ). ¬ AreNames (super_of bytes).slots (is.1).blocks) (sym first) (is.1).names;
+  },
+)
+fault_moved i j first tables Owners is = (
+  ap super_fault first ∙ is.0,
+  record {
+    blocks = (is.1).blocks;
+    effective = tables ∙ (is.1).effective;
+    names = subst (λ (bytes : List ℕ). AreNames (super_of bytes).slots (is.1).blocks) (sym first) (is.1).names;
+    owners = subst (λ (bytes : List ℕ). ¬ AreOwners (tables_in (super_of bytes) (is.1).blocks) (is.1).blocks) (sym first) (is.1).owners;
+  },
+)
 
 small_moved : (size other : ℕ) (i j : Image) → block j 0 ≡ block i 0 → other ≡ size → TooSmall size i → TooSmall other j
 small_moved size other i j first same small =
     let here : (super_fault (block j 0) ≡ None) × (size < total_blocks (super_of (block j 0)).slots (super_of (block j 0)).groups) =
-        subst (λ (bytes : List ℕ). (super_fault bytes ≡ None) × (size < total_blocks (super_of bytes).slots (super_of bytes).groups)) (sym first) small in
+    subst (λ (bytes : List ℕ). (super_fault bytes ≡ None) × (size < total_blocks (super_of bytes).slots (super_of bytes).groups)) (sym first) small in
     (here.0, omega (arith, here.1, same))
 
 not_small : (size : ℕ) (image : Image) (sup : Super) → IsSuper sup (block image 0) → total_blocks sup.slots sup.groups ≤ size → ¬ TooSmall size image
@@ -268,12 +276,15 @@ not_small size image sup is room small =
 -- blocks that are refused are the first fault
 blocks_first : (sup : Super) (image : Image) (m : ℕ → List ℕ) → IsSuper sup (block image 0) → table_blocks image ≡ Some m → (f : LayoutFault) → RefusesBlocks f sup m → FirstFault image f
 blocks_first sup image m is shown Names bad = (is.accepted, record { blocks = m; effective = shown; names = subst (λ (s : Super). ¬ AreNames s.slots m) (sym is.value) bad })
-blocks_first sup image m is shown Owners bad = (is.accepted, record {
-  blocks = m;
-  effective = shown;
-  names = subst (λ (s : Super). AreNames s.slots m) (sym is.value) bad.0;
-  owners = subst (λ (s : Super). ¬ AreOwners (tables_in s m) m) (sym is.value) bad.1;
-})
+blocks_first sup image m is shown Owners bad = (
+  is.accepted,
+  record {
+    blocks = m;
+    effective = shown;
+    names = subst (λ (s : Super). AreNames s.slots m) (sym is.value) bad.0;
+    owners = subst (λ (s : Super). ¬ AreOwners (tables_in s m) m) (sym is.value) bad.1;
+  },
+)
 blocks_first sup image m is shown Magic bad = absurd bad
 blocks_first sup image m is shown Version bad = absurd bad
 blocks_first sup image m is shown Slots bad = absurd bad
@@ -290,9 +301,10 @@ module _ {D : Type 0} (state : D → DiskState) (left : D → ℕ → Image → 
       (λ small. inr (λ told. small_moved (state b).size (state a).size (state b).now (state a).now (sym (still_block state left a b w 0)) (sym w.size) (small (w.tells ∙ told))))
       refused
   refuses_back (Layout f) s calm refused = λ told.
-      let why = refused (w.tells ∙ told) in
-      (fault_moved (state b).now (state a).now (sym (still_block state left a b w 0)) (sym (still_blocks state left a b w)) f why.0,
-       λ small. why.1 (small_moved (state a).size (state b).size (state a).now (state b).now (still_block state left a b w 0) w.size small))
+      let why = refused (w.tells ∙ told) in (
+        fault_moved (state b).now (state a).now (sym (still_block state left a b w 0)) (sym (still_blocks state left a b w)) f why.0,
+        λ small. why.1 (small_moved (state a).size (state b).size (state a).now (state b).now (still_block state left a b w 0) w.size small),
+      )
   refuses_back Disk s calm refused = omega (arith, refused, calm)
   refuses_back Memory s calm refused = tt
 
@@ -300,9 +312,10 @@ module _ {D : Type 0} (state : D → DiskState) (left : D → ℕ → Image → 
   pub refuses_journal : (sup : Super) → ((state a).tells ≡ true → IsSuper sup (block (state a).now 0)) → total_blocks sup.slots sup.groups ≤ (state a).size
       → (f : TablesFault) (s : DiskState) → (state b).faults ≡ (state a).faults → RefusesJournal f (state b) s → RefusesDisk f (state a) s
   refuses_journal sup is room Small s calm refused = absurd refused
-  refuses_journal sup is room (Layout f) s calm refused = λ told.
-      (subst (λ (h : LayoutFault). FirstFault (state a).now h) (sym refused.0) ((is told).accepted, sym (still_blocks state left a b w) ∙ refused.1 (w.tells ∙ told)),
-       not_small (state a).size (state a).now sup (is told) room)
+  refuses_journal sup is room (Layout f) s calm refused = λ told. (
+    subst (λ (h : LayoutFault). FirstFault (state a).now h) (sym refused.0) ((is told).accepted, sym (still_blocks state left a b w) ∙ refused.1 (w.tells ∙ told)),
+    not_small (state a).size (state a).now sup (is told) room,
+  )
   refuses_journal sup is room Disk s calm refused = omega (arith, refused, calm)
   refuses_journal sup is room Memory s calm refused = absurd refused
 

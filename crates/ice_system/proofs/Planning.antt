@@ -4,7 +4,7 @@ use Rattle.std.specs.Prelude.{nat_lt, take, IsSome, is_some, MatchOption, Result
 use Rattle.std.proofs.lemmas.Bool.Decides.{nat_tests}
 use Rattle.ice_base.specs.Lots.{LotView}
 use Rattle.tree_spec.specs.declared.reply.Refusal.{Refusal}
-use Rattle.tree_spec.specs.declared.reply.Refusal.TheVariants.{Exists, NoSlot, CubeFull, NoGroups}
+use Rattle.tree_spec.specs.declared.reply.Refusal.TheVariants.{CubeFull, NoGroups}
 use Rattle.ice_names.specs.Names.{NamesView, NoneHas, path_at, path_of, row_at}
 use Rattle.ice_owner.specs.Owners.{OwnersView, AreLots, groups_at}
 use Rattle.ice_owner.specs.Owners.{Changes as ChangesLots, free_groups as free_of}
@@ -125,7 +125,7 @@ pub refuses_create : (names : NamesView) (owners : OwnersView) (p : List (List �
 refuses_create names owners p s n why lots tables none low free is =
     let empty : groups_of (tables_with names owners) s ≡ [] = no_groups names owners lots tables s free in
     refused_free names owners p n why (none_path names owners p none) (λ full. full s low free)
-        (subst (λ (g : List ℕ). RefusesGroups (tables_with names owners) (length g) n why) empty is)
+    (subst (λ (g : List ℕ). RefusesGroups (tables_with names owners) (length g) n why) empty is)
 
 -- what holds of an answer, and what follows from it
 pub ok_more : {X E : Type 0} (P Q : X → Type 0) (r : Result X E) → ((x : X) → P x → Q x) → IfOk r P → IfOk r Q

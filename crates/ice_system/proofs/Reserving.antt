@@ -1,9 +1,9 @@
 -- Reserving what was planned succeeds, and gives the planned groups.
-use Rattle.std.proofs.Common.{Result, Ok, Err, ◌≡◌, ◌≢◌, ◌∙◌, ◌≤◌, ◌<◌, ◌+◌, ◌-◌, ℕ, List, [], ◌∷◌, ◌++◌, length, length-append, Option, Some, refl, sym, ap, subst, arith}
-use Rattle.std.specs.Prelude.{take, ◌↔◌, IsSome}
+use Rattle.std.proofs.Common.{Result, Err, ◌≡◌, ◌≢◌, ◌∙◌, ◌≤◌, ◌<◌, ◌+◌, ◌-◌, ℕ, List, [], ◌++◌, length, length-append, refl, sym, ap, subst, arith}
+use Rattle.std.specs.Prelude.{take, ◌↔◌}
 use Rattle.std.proofs.lemmas.List.{length-take-le}
 use Rattle.ice_base.specs.Lots.{LotView}
-use Rattle.ice_names.specs.Names.{NamesView, row_at}
+use Rattle.ice_names.specs.Names.{NamesView}
 use Rattle.ice_owner.specs.Owners.{OwnersView, AreLots, groups_at}
 use Rattle.ice_owner.specs.Owners.{free_groups as free_of}
 use Rattle.ice_owner.specs.declared.owners.OwnerFault.{OwnerFault}

@@ -1,12 +1,12 @@
 -- The tables that rows and groups are: their bytes, and what a change of one slot makes of them.
-use Rattle.std.proofs.Common.{◌≡◌, ◌≢◌, ◌∙◌, ◌≤◌, ◌<◌, ◌==◌, ℕ, Bool, true, false, List, [], Option, refl, sym, ap, subst, arith}
+use Rattle.std.proofs.Common.{◌≡◌, ◌≢◌, ◌∙◌, ◌≤◌, ◌<◌, ◌==◌, ℕ, Bool, true, false, List, [], Option, refl, sym, subst, arith}
 use Rattle.std.specs.Prelude.{nat_lt, if◌then◌else◌, IsSome}
 use Rattle.std.proofs.lemmas.Bool.Decides.{nat_tests}
 use Rattle.ice_base.specs.Lots.{LotView}
 use Rattle.ice_names.specs.Names.{NamesView, RowSet, row_at}
 use Rattle.ice_owner.specs.Owners.{OwnersView, AreLots, HasOwners, groups_at, holder, ordinal}
 use Rattle.ice_owner.specs.Owners.{Changes as ChangesLots}
-use Rattle.ice_tables.specs.Tables.{Row, AreNames, AreOwners, row_in, holder_in, ordinal_in, owner_byte}
+use Rattle.ice_tables.specs.Tables.{Row, AreNames, row_in, holder_in, ordinal_in, owner_byte}
 use Rattle.ice_tables.specs.Lots.{groups_of}
 use Rattle.ice_system.specs.Says.{SayTables}
 use Rattle.ice_system.specs.Systems.{AreTables, tables_with}
@@ -114,11 +114,11 @@ pub still_tables : (names names' : NamesView) (owners owners' : OwnersView) (s :
 still_tables names names' owners owners' s row groups tables set change live taken = record {
   live = λ r. same_or_not r s (IsSome (row_at names' r) → groups_at owners' r ≢ [])
       (λ same. subst (λ r. IsSome (row_at names' r) → groups_at owners' r ≢ []) (sym same)
-          (λ some none. live (subst (λ o. IsSome o) set.here some) (sym change.lot ∙ none)))
+      (λ some none. live (subst (λ o. IsSome o) set.here some) (sym change.lot ∙ none)))
       (λ other some none. tables.live r (subst (λ o. IsSome o) (set.others r other) some) (sym (change.others r other) ∙ none));
   taken = λ r. same_or_not r s (groups_at owners' r ≢ [] → IsSome (row_at names' r))
       (λ same. subst (λ r. groups_at owners' r ≢ [] → IsSome (row_at names' r)) (sym same)
-          (λ some. subst (λ o. IsSome o) (sym set.here) (taken (λ none. some (change.lot ∙ none)))))
+      (λ some. subst (λ o. IsSome o) (sym set.here) (taken (λ none. some (change.lot ∙ none)))))
       (λ other some. subst (λ o. IsSome o) (sym (set.others r other)) (tables.taken r (λ none. some (change.others r other ∙ none))));
 }
 

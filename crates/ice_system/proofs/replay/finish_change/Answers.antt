@@ -1,4 +1,4 @@
-use Rattle.std.proofs.Common.{◌≡◌, ◌∙◌, true, Option, None, Some, IfSome, subst}
+use Rattle.std.proofs.Common.{◌∙◌, Option, IfSome, subst}
 use Rattle.ice_layout.specs.Headers.{is_table, targets_said, AreTargets}
 use Rattle.ice_layout.specs.declared.header.Header.{Header}
 use Rattle.ice_system.specs.Attaching.{SaysPending}

@@ -1,7 +1,7 @@
-use Rattle.std.proofs.Common.{◌≡◌, ◌∙◌, true, refl, sym}
+use Rattle.std.proofs.Common.{◌∙◌}
 use Rattle.ice_system.proofs.Opening.{handed, err_more, ok_more, refuses_journal, refuses_tables, attaches, finish_crash, read_crash}
 use Rattle.ice_system.proofs.Finishing.{still_crash}
-use Rattle.ice_system.proofs.attaching.open_settled.Goals as goal
+use Rattle.ice_system.proofs.attach.open_settled.Goals as goal
 
 pub returns-in_err-sup-clause-crash : goal.returns-in_err-sup-clause-crash
 returns-in_err-sup-clause-crash g c = λ t told has.

@@ -1,7 +1,7 @@
-use Rattle.std.proofs.Common.{◌≡◌, Some, sym, ap, ◌∙◌}
+use Rattle.std.proofs.Common.{sym, ap, ◌∙◌}
 use Rattle.ice_layout.specs.Supers.{super_fault}
 use Rattle.ice_system.proofs.Opening.{geometry_of, super_refused}
-use Rattle.ice_system.proofs.attaching.read_geometry.Goals as goal
+use Rattle.ice_system.proofs.attach.read_geometry.Goals as goal
 
 pub returns-in-Ok-2-clause-geometry : goal.returns-in-Ok-2-clause-geometry
 returns-in-Ok-2-clause-geometry g c = geometry_of c.in-Ok.sup c.look.new.into c.in-Ok.ensures.accepts

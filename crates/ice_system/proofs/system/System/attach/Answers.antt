@@ -1,6 +1,6 @@
-use Rattle.std.proofs.Common.{◌≡◌, ◌∙◌, true, refl}
+use Rattle.std.proofs.Common.{◌∙◌}
 use Rattle.ice_system.proofs.Opening.{err_more, ok_more, refuses_back, attaches_back, then_crash}
-use Rattle.ice_system.proofs.attaching.attach.Goals as goal
+use Rattle.ice_system.proofs.system.System.attach.Goals as goal
 
 pub returns-in-Ok-barrier-clause-attaches : goal.returns-in-Ok-barrier-clause-attaches
 returns-in-Ok-barrier-clause-attaches g c = λ told.

@@ -44,11 +44,7 @@ fn read_geometry<D: Disk>(disk: &mut D) -> Result<Super, TablesFault>
 }
 
 /// Reads four blocks that follow one another.
-fn read_four<D: Disk>(
-    disk: &mut D,
-    first: u32,
-    into: &mut [Block; 4],
-) -> Result<(), TablesFault>
+fn read_four<D: Disk>(disk: &mut D, first: u32, into: &mut [Block; 4]) -> Result<(), TablesFault>
     requires { first + 4 ≤ (D.state disk.old).size }
     ensures within { Within D.state D.left Nowhere disk.old disk.new }
     ensures fault { IfErr result (λ fault. fault ≡ FaultDisk) }
@@ -153,35 +149,37 @@ fn open_settled<D: Disk>(disk: &mut D, set: WriteSet) -> Result<System, TablesFa
     read_tables(disk, sup, set)
 }
 
-/// Opens the tables of a disk: takes memory for the blocks of a change, settles the disk, reads the superblock (block 0), replays the
-/// journal of the tables where it is open (gate 1, header 2, bodies 3 to 10), and reads the cube table (blocks 11 to 14) and the
-/// owner table (15 to 18). Small: there is no block, or fewer than an accepted superblock names. Layout: the first fault of
-/// superblock, header, cube table and owner table. Disk: a call of the disk failed. Memory: there was none, and the disk isn't called.
-pub fn attach<D: Disk>(alloc: Global, disk: &mut D) -> Result<System, TablesFault>
-    // Only the gate and the tables may change, and they only where a change was cut short.
-    ensures within { Within D.state D.left IsReplayed disk.old disk.new }
-    // What it opens is what the image has; the tables are at rest and every block is settled.
-    ensures attaches { (D.state disk.old).tells ≡ true → IfOk result (λ v. Attaches v (D.state disk.old) (D.state disk.new)) }
-    ensures room { IfOk result (λ v. total (tables_of v) ≤ (D.state disk.old).size) }
-    ensures ready { IfOk result (λ v. v.failed ≡ false) }
-    // Why it opens nothing, the first fault that applies.
-    ensures refused { IfErr result (λ fault. RefusesDisk fault (D.state disk.old) (D.state disk.new)) }
-    ensures memory { IsErrOf result Memory → disk.new ≡ disk.old }
-    ensures no_block { (D.state disk.old).size ≡ 0 → (IsErrOf result Small ⊎ IsErrOf result Memory) × (disk.new ≡ disk.old) }
-    ensures calm { ¬ IsErrOf result FaultDisk → (D.state disk.new).faults ≡ (D.state disk.old).faults }
-    // The tables that the image has are had by each image that a crash within the call or after it leaves.
-    ensures crash { (t : Tables) → (D.state disk.old).tells ≡ true → Every (Below 19) (D.state disk.old) (λ i. HasTables i t)
-        → CrashStep D.state D.left (Below 19) (λ i. HasTables i t) disk.old disk.new }
-{
-    let set = match WriteSet::with_space(alloc, TABLE_BLOCKS) {
-        Ok(set) => set,
-        Err(_) => return Err(TablesFault::Memory),
-    };
-    if disk.blocks() == 0 {
-        return Err(TablesFault::Small);
-    }
-    match disk.barrier() {
-        Ok(()) => open_settled(disk, set),
-        Err(_) => Err(TablesFault::Disk),
+impl System {
+    /// Opens the tables of a disk: takes memory for the blocks of a change, settles the disk, reads the superblock (block 0), replays the
+    /// journal of the tables where it is open (gate 1, header 2, bodies 3 to 10), and reads the cube table (blocks 11 to 14) and the
+    /// owner table (15 to 18). Small: there is no block, or fewer than an accepted superblock names. Layout: the first fault of
+    /// superblock, header, cube table and owner table. Disk: a call of the disk failed. Memory: there was none, and the disk isn't called.
+    pub fn attach<D: Disk>(alloc: Global, disk: &mut D) -> Result<System, TablesFault>
+        // Only the gate and the tables may change, and they only where a change was cut short.
+        ensures within { Within D.state D.left IsReplayed disk.old disk.new }
+        // What it opens is what the image has; the tables are at rest and every block is settled.
+        ensures attaches { (D.state disk.old).tells ≡ true → IfOk result (λ v. Attaches v (D.state disk.old) (D.state disk.new)) }
+        ensures room { IfOk result (λ v. total (tables_of v) ≤ (D.state disk.old).size) }
+        ensures ready { IfOk result (λ v. v.failed ≡ false) }
+        // Why it opens nothing, the first fault that applies.
+        ensures refused { IfErr result (λ fault. RefusesDisk fault (D.state disk.old) (D.state disk.new)) }
+        ensures memory { IsErrOf result Memory → disk.new ≡ disk.old }
+        ensures no_block { (D.state disk.old).size ≡ 0 → (IsErrOf result Small ⊎ IsErrOf result Memory) × (disk.new ≡ disk.old) }
+        ensures calm { ¬ IsErrOf result FaultDisk → (D.state disk.new).faults ≡ (D.state disk.old).faults }
+        // The tables that the image has are had by each image that a crash within the call or after it leaves.
+        ensures crash { (t : Tables) → (D.state disk.old).tells ≡ true → Every (Below 19) (D.state disk.old) (λ i. HasTables i t)
+            → CrashStep D.state D.left (Below 19) (λ i. HasTables i t) disk.old disk.new }
+    {
+        let set = match WriteSet::with_space(alloc, TABLE_BLOCKS) {
+            Ok(set) => set,
+            Err(_) => return Err(TablesFault::Memory),
+        };
+        if disk.blocks() == 0 {
+            return Err(TablesFault::Small);
+        }
+        match disk.barrier() {
+            Ok(()) => open_settled(disk, set),
+            Err(_) => Err(TablesFault::Disk),
+        }
     }
 }

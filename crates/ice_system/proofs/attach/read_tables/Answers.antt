@@ -1,9 +1,9 @@
-use Rattle.std.proofs.Common.{◌≤◌, ◌<◌, ◌∙◌, ℕ, sym, arith}
+use Rattle.std.proofs.Common.{◌∙◌, sym, arith}
 use Rattle.ice_base.specs.Disk.{block}
 use Rattle.ice_tables.specs.Journals.{in_tables}
 use Rattle.ice_system.proofs.Crashes.{in-tables-here}
 use Rattle.ice_system.proofs.Finishing.{still_block}
-use Rattle.ice_system.proofs.attaching.read_tables.Goals as goal
+use Rattle.ice_system.proofs.attach.read_tables.Goals as goal
 
 pub returns-in-Ok-clause-accepted : goal.returns-in-Ok-clause-accepted
 returns-in-Ok-clause-accepted g c = λ told.

@@ -1,7 +1,7 @@
 use Rattle.std.proofs.Common.{◌≡◌, ◌<◌, ◌+◌, ℕ, true, [], length, slice_index_or}
 use Rattle.ice_base.specs.Disk.{Nowhere, block}
 use Rattle.ice_base.specs.Frames.{Within}
-use Rattle.ice_system.proofs.attaching.read_four.Given as goal
+use Rattle.ice_system.proofs.attach.read_four.Given as goal
 
 abbrev pub invariant-loop-i : goal.invariant-loop-i
 invariant-loop-i g l = record {
