@@ -44,11 +44,7 @@ fn read_geometry<D: Disk>(disk: &mut D) -> Result<Super, TablesFault>
 }
 
 /// Reads four blocks that follow one another.
-fn read_four<D: Disk>(
-    disk: &mut D,
-    first: u32,
-    into: &mut [Block; 4],
-) -> Result<(), TablesFault>
+fn read_four<D: Disk>(disk: &mut D, first: u32, into: &mut [Block; 4]) -> Result<(), TablesFault>
     requires { first + 4 ≤ (D.state disk.old).size }
     ensures within { Within D.state D.left Nowhere disk.old disk.new }
     ensures fault { IfErr result (λ fault. fault ≡ FaultDisk) }

@@ -1,4 +1,4 @@
-use Rattle.std.proofs.Common.{◌≡◌, Some, sym, ap, ◌∙◌}
+use Rattle.std.proofs.Common.{sym, ap, ◌∙◌}
 use Rattle.ice_layout.specs.Supers.{super_fault}
 use Rattle.ice_system.proofs.Opening.{geometry_of, super_refused}
 use Rattle.ice_system.proofs.attaching.read_geometry.Goals as goal
@@ -8,4 +8,5 @@ returns-in-Ok-2-clause-geometry g c = geometry_of c.in-Ok.sup c.look.new.into c.
 
 pub returns-in-Err-clause-refused : goal.returns-in-Err-clause-refused
 returns-in-Err-clause-refused g c = λ told.
-    super_refused (g.D.Disk.state c.args.disk.now).size (g.D.Disk.state c.args.disk.now).now c.in-Err.fault (ap super_fault (sym (c.in_ok-look.ensures.bytes told)) ∙ c.in-Err.ensures.refuses)
+    super_refused (g.D.Disk.state c.args.disk.now).size (g.D.Disk.state c.args.disk.now).now c.in-Err.fault (ap super_fault (sym
+    (c.in_ok-look.ensures.bytes told)) ∙ c.in-Err.ensures.refuses)
