@@ -1,9 +1,9 @@
 -- The entries of an owner table, and what they say.
-use Rattle.std.proofs.Common.{◌≡◌, ◌∙◌, ◌≤◌, ◌<◌, ◌+◌, ◌-◌, ◌*◌, ◌/◌, ◌%◌, ℕ, zero, suc, Bool, true, false, List, [], length, Option, Some, None, refl, sym, ap, subst, arith}
+use Rattle.std.proofs.Common.{◌≡◌, ◌∙◌, ◌≤◌, ◌<◌, ◌+◌, ◌-◌, ◌*◌, ◌/◌, ◌%◌, ℕ, zero, suc, Bool, true, false, List, [], Option, Some, None, refl, sym, ap, arith}
 use Rattle.std.specs.Prelude.{slice_index, slice_index_or, nat_lt, if◌then◌else◌}
 use Rattle.std.proofs.lemmas.Bool.Decides.{nat_tests}
 use Rattle.ice_tables.specs.Tables.{blocks_from, owner_byte, ordinal_byte, slot_of, ordinal_of, holder_in, ordinal_in}
-use Rattle.ice_owner.specs.Owners.{OwnersView, AreLots, groups_at, holder, ordinal}
+use Rattle.ice_owner.specs.Owners.{OwnersView, AreLots, holder, ordinal}
 use Rattle.ice_owner.specs.Places.{mark_slot, mark_ordinal, mark_owner, mark_byte}
 use Rattle.ice_owner.proofs.Held.{holder_is, holder_past}
 
@@ -19,7 +19,8 @@ AreEntries m marks = (g k : ℕ) → g < 1024 → k < 4 → slice_index (m (15 +
 abbrev pub HasEntries : List ℕ → List ℕ → ℕ → Type 0
 HasEntries block marks first = (k : ℕ) → k < 1024 → slice_index block k ≡ mark_byte (slice_index marks (first + k / 4)) (k % 4)
 
-pub four_blocks : (blocks : List (List ℕ)) (marks : List ℕ) → ((j : ℕ) → j < 4 → HasEntries (slice_index_or blocks j []) marks (256 * j)) → AreEntries (blocks_from 15 blocks) marks
+pub four_blocks : (blocks : List (List ℕ)) (marks : List ℕ) → ((j : ℕ) → j < 4 → HasEntries (slice_index_or blocks j []) marks (256 * j))
+    → AreEntries (blocks_from 15 blocks) marks
 four_blocks blocks marks each g k low small =
     let j : 15 + g / 256 - 15 ≡ g / 256 = omega arith in
     let group : 256 * (g / 256) + (4 * (g % 256) + k) / 4 ≡ g = omega (arith, small) in

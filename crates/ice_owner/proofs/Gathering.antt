@@ -1,5 +1,5 @@
 -- Entries put into their places, one after another.
-use Rattle.std.proofs.Common.{◌≡◌, ◌≢◌, ◌∙◌, ◌≤◌, ◌<◌, ◌+◌, ◌*◌, ◌/◌, ◌%◌, inl, inr, ℕ, zero, suc, Bool, true, false, List, length, set, max, refl, sym, ap, subst, arith, length-set, get_or-set_same, get_or-set_other}
+use Rattle.std.proofs.Common.{◌≡◌, ◌≢◌, ◌∙◌, ◌≤◌, ◌<◌, ◌+◌, ◌*◌, inl, inr, ℕ, Bool, true, List, set, max, sym, ap, subst, arith, length-set, get_or-set_same, get_or-set_other}
 use Rattle.std.specs.Prelude.{◌⊎◌, slice_index}
 use Rattle.std.proofs.lemmas.Bool.{cases_lt, cases_eq}
 use Rattle.ice_tables.specs.Tables.{owner_byte, ordinal_byte}
@@ -7,7 +7,8 @@ use Rattle.ice_owner.specs.Owners.{is_live}
 use Rattle.ice_owner.specs.Places.{nobody, IsEntryAt, IsPlaced, AreGathered}
 
 -- an entry without an owner
-pub gathered_skip : (m : ℕ → List ℕ) (live : List Bool) (g : ℕ) (counts places : List ℕ) → AreGathered m live g counts places → owner_byte m g ≡ 0 → AreGathered m live (g + 1) counts places
+pub gathered_skip : (m : ℕ → List ℕ) (live : List Bool) (g : ℕ) (counts places : List ℕ) → AreGathered m live g counts places
+    → owner_byte m g ≡ 0 → AreGathered m live (g + 1) counts places
 gathered_skip m live g counts places is none = record {
   slots = is.slots;
   all = is.all;
@@ -47,14 +48,16 @@ module _ (m : ℕ → List ℕ) (live : List Bool) (g : ℕ) (counts places : Li
   few' r = by (cases_eq r s)
     where
       by : (r ≡ s) ⊎ (r ≡ s → ⊥) → slice_index counts' r ≤ 64
-      by (inl same) = let e : slice_index counts' r ≡ max (slice_index counts s) (o + 1) = ap (λ (q : ℕ). slice_index counts' q) same ∙ count_same in let most = is.few s in omega (arith, e, few, most)
+      by (inl same) = let e : slice_index counts' r ≡ max (slice_index counts s) (o + 1) = ap (λ (q : ℕ). slice_index counts' q) same ∙ count_same in
+          let most = is.few s in omega (arith, e, few, most)
       by (inr other) = omega (arith, count_other r other, is.few r)
 
   more' : (r : ℕ) → slice_index counts r ≤ slice_index counts' r
   more' r = by (cases_eq r s)
     where
       by : (r ≡ s) ⊎ (r ≡ s → ⊥) → slice_index counts r ≤ slice_index counts' r
-      by (inl same) = let e : slice_index counts' r ≡ max (slice_index counts s) (o + 1) = ap (λ (q : ℕ). slice_index counts' q) same ∙ count_same in let d : slice_index counts r ≡ slice_index counts s = ap (λ (q : ℕ). slice_index counts q) same in omega (arith, e, d)
+      by (inl same) = let e : slice_index counts' r ≡ max (slice_index counts s) (o + 1) = ap (λ (q : ℕ). slice_index counts' q) same ∙ count_same in
+          let d : slice_index counts r ≡ slice_index counts s = ap (λ (q : ℕ). slice_index counts q) same in omega (arith, e, d)
       by (inr other) = omega (arith, count_other r other)
 
   owned' : (k : ℕ) → slice_index places' k ≢ nobody → k < 1024 → IsEntryAt m (g + 1) k (slice_index places' k)
@@ -63,7 +66,11 @@ module _ (m : ℕ → List ℕ) (live : List Bool) (g : ℕ) (counts places : Li
       by : (k ≡ 64 * s + o) ⊎ (k ≡ 64 * s + o → ⊥) → IsEntryAt m (g + 1) k (slice_index places' k)
       by (inl same) =
           let e : slice_index places' k ≡ g = ap (λ (q : ℕ). slice_index places' q) same ∙ place_same in
-          let at : IsEntryAt m (g + 1) k g = record { low = omega arith; owner = omega (arith, owner, same, few); ordinal = omega (arith, ordinal, same, few) } in
+          let at : IsEntryAt m (g + 1) k g = record {
+            low = omega arith;
+            owner = omega (arith, owner, same, few);
+            ordinal = omega (arith, ordinal, same, few);
+          } in
           subst (λ (x : ℕ). IsEntryAt m (g + 1) k x) (sym e) at
       by (inr other) =
           let e = place_other k other in
@@ -78,7 +85,9 @@ module _ (m : ℕ → List ℕ) (live : List Bool) (g : ℕ) (counts places : Li
       by (inl less) =
           let old = is.placed h r less own in
           let place = old.place in
-          let other : 64 * r + ordinal_byte m h ≢ 64 * s + o = λ same. let e : slice_index places (64 * r + ordinal_byte m h) ≡ slice_index places (64 * s + o) = ap (λ (q : ℕ). slice_index places q) same in omega (arith, e, place, free, less, small) in
+          let other : 64 * r + ordinal_byte m h ≢ 64 * s + o = λ same.
+          let e : slice_index places (64 * r + ordinal_byte m h) ≡ slice_index places (64 * s + o) = ap (λ (q : ℕ). slice_index places q) same in
+          omega (arith, e, place, free, less, small) in
           record {
             slot = old.slot;
             ordinal = old.ordinal;

@@ -12,7 +12,9 @@ unfolding has place_in
 has_place [] g h = absurd (cc h)
 has_place (x ∷ xs) g h = by (x == g) refl h (λ is. has_place xs g is)
   where
-    by : (b : Bool) → (x == g) ≡ b → cond b true (has xs g) ≡ true → (has xs g ≡ true → (place_in xs g < length xs) × (slice_index xs (place_in xs g) ≡ g)) → (cond b 0 (1 + place_in xs g) < length (x ∷ xs)) × (slice_index (x ∷ xs) (cond b 0 (1 + place_in xs g)) ≡ g)
+    by : (b : Bool) → (x == g) ≡ b → cond b true (has xs g) ≡ true
+        → (has xs g ≡ true → (place_in xs g < length xs) × (slice_index xs (place_in xs g) ≡ g))
+        → (cond b 0 (1 + place_in xs g) < length (x ∷ xs)) × (slice_index (x ∷ xs) (cond b 0 (1 + place_in xs g)) ≡ g)
     by true is h rest = (omega arith, grind (arith, nat_tests))
     by false is h more = let rest = more h in let e : 1 + place_in xs g ≡ suc (place_in xs g) = omega arith in (omega (arith, rest.0), rw e rest.1)
 
@@ -37,7 +39,8 @@ has_none : (g : ℕ) → has [] g ≡ false
 unfolding has
 has_none g = refl
 
-none_cons : (lot : List ℕ) (lots : List (List ℕ)) (g : ℕ) → has lot g ≡ false → ((r : ℕ) → has (slice_index_or lots r []) g ≡ false) → (r : ℕ) → has (slice_index_or (lot ∷ lots) r []) g ≡ false
+none_cons : (lot : List ℕ) (lots : List (List ℕ)) (g : ℕ) → has lot g ≡ false → ((r : ℕ) → has (slice_index_or lots r []) g ≡ false)
+    → (r : ℕ) → has (slice_index_or (lot ∷ lots) r []) g ≡ false
 none_cons lot lots g first rest zero = first
 none_cons lot lots g first rest (suc r) = rest r
 

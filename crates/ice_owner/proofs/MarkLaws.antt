@@ -1,9 +1,8 @@
 -- The slots and ordinals that marks tell.
-use Rattle.std.proofs.Common.{◌≡◌, ◌≢◌, ◌∙◌, ◌≤◌, ◌<◌, ◌+◌, ◌*◌, ◌/◌, ◌%◌, inl, inr, ℕ, zero, suc, List, length, set, replicate, length-set, get_or-set_same, get_or-set_other, Option, Some, None, refl, sym, ap, subst, arith}
+use Rattle.std.proofs.Common.{◌≡◌, ◌≢◌, ◌∙◌, ◌≤◌, ◌<◌, ◌+◌, ◌*◌, ◌/◌, ◌%◌, inl, inr, ℕ, zero, suc, List, length, set, replicate, length-set, get_or-set_same, get_or-set_other, Option, refl, sym, ap, subst, arith}
 use Rattle.std.specs.Prelude.{◌⊎◌, slice_index}
 use Rattle.std.proofs.lemmas.Bool.{cases_lt, cases_eq}
-use Rattle.std.proofs.lemmas.List.{get_or_past}
-use Rattle.ice_owner.specs.Owners.{OwnersView, groups_at, place_of, holder, ordinal}
+use Rattle.ice_owner.specs.Owners.{place_of, holder, ordinal}
 use Rattle.ice_owner.specs.Places.{view_of, AreKept, IsTaken, AreMarks, mark_slot, mark_ordinal}
 use Rattle.ice_owner.proofs.Held.{holder_at, holder_none}
 use Rattle.ice_owner.proofs.Kept.{lot_length, lot_at, is_taken, taken_at}
@@ -15,10 +14,10 @@ module _ (n : ℕ) (counts places marks : List ℕ) (kept : AreKept n counts pla
   mark_says : (g mark : ℕ) → slice_index marks g ≡ mark → Says g mark
   mark_says g zero is =
       let none = holder_none (view_of n counts places) g (λ s o low at.
-        let small : o < slice_index counts s = omega (arith, low, lot_length n counts places kept.slots kept.all kept.few s) in
-        let taken = is_taken n counts places kept.slots kept.all kept.few s o small in
-        let here : slice_index places (64 * s + o) ≡ g = sym (lot_at n counts places kept.slots kept.all kept.few s o small) ∙ at in
-        are.marked (64 * s + o) taken.0 taken.1 (ap (λ (h : ℕ). slice_index marks h) here ∙ is))
+      let small : o < slice_index counts s = omega (arith, low, lot_length n counts places kept.slots kept.all kept.few s) in
+      let taken = is_taken n counts places kept.slots kept.all kept.few s o small in
+      let here : slice_index places (64 * s + o) ≡ g = sym (lot_at n counts places kept.slots kept.all kept.few s o small) ∙ at in
+      are.marked (64 * s + o) taken.0 taken.1 (ap (λ (h : ℕ). slice_index marks h) here ∙ is))
       in
       (none, ap (λ (f : Option ℕ). place_of (view_of n counts places) f g) none)
   mark_says g (suc k) is =
@@ -55,7 +54,8 @@ zeros_at zero g = refl
 zeros_at (suc n) zero = refl
 zeros_at (suc n) (suc g) = zeros_at n g
 
-pub marks_skip : (k : ℕ) (counts places marks : List ℕ) → AreMarks k counts places marks → slice_index counts (k / 64) ≤ k % 64 → AreMarks (k + 1) counts places marks
+pub marks_skip : (k : ℕ) (counts places marks : List ℕ) → AreMarks k counts places marks → slice_index counts (k / 64) ≤ k % 64
+    → AreMarks (k + 1) counts places marks
 marks_skip k counts places marks are free = record {
   all = are.all;
   found = λ g j is. let old = are.found g j is in (omega (arith, old.0), old.1, old.2);
@@ -82,7 +82,8 @@ marks_more k counts places marks are inside small apart here = record {
     same_mark : slice_index (set marks (slice_index places k) (k + 1)) (slice_index places k) ≡ k + 1
     same_mark = get_or-set_same marks (slice_index places k) (k + 1) 0 (omega (arith, are.all, small k inside here))
 
-    found : (g j : ℕ) → slice_index (set marks (slice_index places k) (k + 1)) g ≡ j + 1 → (g ≡ slice_index places k) ⊎ (g ≡ slice_index places k → ⊥) → (j < k + 1) × IsTaken counts j × (slice_index places j ≡ g)
+    found : (g j : ℕ) → slice_index (set marks (slice_index places k) (k + 1)) g ≡ j + 1 → (g ≡ slice_index places k)
+        ⊎ (g ≡ slice_index places k → ⊥) → (j < k + 1) × IsTaken counts j × (slice_index places j ≡ g)
     found g j is (inl same) =
         let e : j ≡ k = omega (arith, is, ap (λ (h : ℕ). slice_index (set marks (slice_index places k) (k + 1)) h) same, same_mark) in
         (omega (arith, e), subst (λ (i : ℕ). IsTaken counts i) (sym e) here, ap (λ (i : ℕ). slice_index places i) e ∙ sym same)
@@ -92,7 +93,8 @@ marks_more k counts places marks are inside small apart here = record {
 
     marked : (j : ℕ) → j < k + 1 → IsTaken counts j → (j < k) ⊎ (k ≤ j) → slice_index (set marks (slice_index places k) (k + 1)) (slice_index places j) ≢ 0
     marked j low taken (inl less) none =
-        let other : slice_index places j ≢ slice_index places k = λ same. let e = apart j k (omega (arith, less, inside)) inside taken here same in omega (arith, e, less) in
+        let other : slice_index places j ≢ slice_index places k = λ same. let e = apart j k (omega (arith, less, inside)) inside taken here same in
+        omega (arith, e, less) in
         are.marked j less taken (sym (get_or-set_other marks (slice_index places k) (slice_index places j) (k + 1) 0 other) ∙ none)
     marked j low taken (inr high) none =
         let e : j ≡ k = omega (arith, low, high) in

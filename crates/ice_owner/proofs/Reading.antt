@@ -1,10 +1,10 @@
 -- What a table whose entries stand in their places says, and which tables are refused.
-use Rattle.std.proofs.Common.{◌≡◌, ◌≢◌, ◌∙◌, ◌≤◌, ◌<◌, ◌+◌, ◌*◌, ◌/◌, ◌%◌, inl, inr, ℕ, zero, suc, Bool, true, false, List, [], ◌∷◌, length, replicate, Option, Some, None, refl, sym, ap, subst, arith}
-use Rattle.std.specs.Prelude.{◌⊎◌, slice_index, nat_lt, if◌then◌else◌, IsSome}
+use Rattle.std.proofs.Common.{◌≡◌, ◌≢◌, ◌∙◌, ◌≤◌, ◌<◌, ◌+◌, ◌*◌, ◌/◌, ◌%◌, inl, inr, ℕ, zero, suc, Bool, true, false, List, [], ◌∷◌, length, Option, Some, None, refl, sym, ap, arith}
+use Rattle.std.specs.Prelude.{slice_index, nat_lt, if◌then◌else◌, IsSome}
 use Rattle.std.proofs.lemmas.Bool.Decides.{nat_tests}
 use Rattle.ice_tables.specs.Tables.{Tables, AreOwners, HasGroups, owner_byte, ordinal_byte, slot_of, ordinal_of, holder_in, ordinal_in}
-use Rattle.ice_owner.specs.Owners.{OwnersView, AreLots, HasOwners, OwnerTables, groups_at, holder, ordinal, is_live, place_of}
-use Rattle.ice_owner.specs.Places.{nobody, view_of, AreKept, IsTaken, IsEntryAt, IsPlaced, AreGathered, IsBadEntry}
+use Rattle.ice_owner.specs.Owners.{HasOwners, OwnerTables, groups_at, holder, ordinal, is_live, place_of}
+use Rattle.ice_owner.specs.Places.{nobody, view_of, AreKept, IsTaken, AreGathered, IsBadEntry}
 use Rattle.ice_owner.proofs.Held.{holder_at, holder_none, holder_past}
 use Rattle.ice_owner.proofs.Kept.{lot_length, lot_at, is_taken, kept_from}
 use Rattle.ice_owner.proofs.Laws.{owners_accepted}
@@ -29,11 +29,11 @@ module _ (m : ℕ → List ℕ) (live : List Bool) (n : ℕ) (counts places : Li
   read_kept = kept_from n counts places is.slots is.all is.few some most
       (λ k low taken. (is.owned k (full k low taken) low).low)
       (λ k j low low_too taken also same.
-        let a = is.owned k (full k low taken) low in
-        let b = is.owned j (full j low_too also) low_too in
-        let owner = ap (λ (g : ℕ). owner_byte m g) same in
-        let ordinal = ap (λ (g : ℕ). ordinal_byte m g) same in
-        omega (arith, a.owner, b.owner, a.ordinal, b.ordinal, owner, ordinal))
+      let a = is.owned k (full k low taken) low in
+      let b = is.owned j (full j low_too also) low_too in
+      let owner = ap (λ (g : ℕ). owner_byte m g) same in
+      let ordinal = ap (λ (g : ℕ). ordinal_byte m g) same in
+      omega (arith, a.owner, b.owner, a.ordinal, b.ordinal, owner, ordinal))
 
   abbrev Says : ℕ → Option ℕ → Type 0
   Says g found = (found ≡ holder (view_of n counts places) g) × (ordinal_of found (ordinal_byte m g) ≡ ordinal (view_of n counts places) g)
@@ -41,18 +41,19 @@ module _ (m : ℕ → List ℕ) (live : List Bool) (n : ℕ) (counts places : Li
   entry_says : (g owner : ℕ) → g < n → owner_byte m g ≡ owner → Says g (slot_of owner)
   entry_says g zero low own =
       let none : holder (view_of n counts places) g ≡ None = holder_none (view_of n counts places) g (λ s o inside at.
-        let small : o < slice_index counts s = omega (arith, inside, lot_length n counts places is.slots is.all is.few s) in
-        let taken = is_taken n counts places is.slots is.all is.few s o small in
-        let here : slice_index places (64 * s + o) ≡ g = sym (lot_at n counts places is.slots is.all is.few s o small) ∙ at in
-        let entry = is.owned (64 * s + o) (full (64 * s + o) taken.0 taken.1) taken.0 in
-        omega (arith, entry.owner, ap (λ (h : ℕ). owner_byte m h) here, own))
+      let small : o < slice_index counts s = omega (arith, inside, lot_length n counts places is.slots is.all is.few s) in
+      let taken = is_taken n counts places is.slots is.all is.few s o small in
+      let here : slice_index places (64 * s + o) ≡ g = sym (lot_at n counts places is.slots is.all is.few s o small) ∙ at in
+      let entry = is.owned (64 * s + o) (full (64 * s + o) taken.0 taken.1) taken.0 in
+      omega (arith, entry.owner, ap (λ (h : ℕ). owner_byte m h) here, own))
       in
       (sym none, sym (ap (λ (f : Option ℕ). place_of (view_of n counts places) f g) none))
   entry_says g (suc s) low own =
       let e : suc s ≡ s + 1 = omega arith in
       let p = is.placed g s low (own ∙ e) in
-      let at = holder_at (view_of n counts places) read_kept.lots s (ordinal_byte m g) g (omega (arith, p.counted, lot_length n counts places is.slots is.all is.few s))
-          (lot_at n counts places is.slots is.all is.few s (ordinal_byte m g) p.counted ∙ p.place) in
+      let at = holder_at (view_of n counts places) read_kept.lots s (ordinal_byte m g) g
+      (omega (arith, p.counted, lot_length n counts places is.slots is.all is.few s))
+      (lot_at n counts places is.slots is.all is.few s (ordinal_byte m g) p.counted ∙ p.place) in
       (sym at.0, sym at.1)
 
   both_read : (g : ℕ) → Says g (holder_in n m g)
@@ -87,7 +88,8 @@ module _ (m : ℕ → List ℕ) (live : List Bool) (n : ℕ) (counts places : Li
       length_none (x ∷ xs) none = absurd (omega (arith, none))
 
       taken : (s : ℕ) → groups_at (view_of n counts places) s ≢ [] → (count : ℕ) → slice_index counts s ≡ count → IsSome (t.row s)
-      taken s groups zero count = absurd (groups (length_none (groups_at (view_of n counts places) s) (lot_length n counts places is.slots is.all is.few s ∙ count)))
+      taken s groups zero count = absurd (groups (length_none (groups_at (view_of n counts places) s)
+          (lot_length n counts places is.slots is.all is.few s ∙ count)))
       taken s groups (suc c) count =
           let e : suc c ≡ c + 1 = omega arith in
           let top = is.top s c (count ∙ e) in
@@ -110,7 +112,8 @@ module _ (m : ℕ → List ℕ) (live : List Bool) (n : ℕ) (t : Tables) (said 
       owner zero is = absurd (cc is)
       owner (suc r) is = let same : r ≡ s = cc in omega (arith, same)
 
-      by : (b : Bool) → nat_lt g n ≡ b → (if b then slot_of (owner_byte m g) else None) ≡ Some s → (g < n) × (owner_byte m g ≡ s + 1) × (t.ordinal g ≡ ordinal_byte m g)
+      by : (b : Bool) → nat_lt g n ≡ b → (if b then slot_of (owner_byte m g) else None) ≡ Some s
+          → (g < n) × (owner_byte m g ≡ s + 1) × (t.ordinal g ≡ ordinal_byte m g)
       by true less is =
           let low : g < n = grind (arith, nat_tests) in
           let own = owner (owner_byte m g) is in

@@ -1,5 +1,5 @@
 -- The groups of an image, by the slots that have them.
-use Rattle.std.specs.Prelude.{◌≡◌, ◌≢◌, ◌≤◌, ◌<◌, ℕ, zero, suc, ◌+◌, ◌==◌, Bool, true, false, ◌&&◌, nat_lt, cond, List, [], ◌∷◌, length, filter, slice_index, slice_index_or, Option, Some, None, is_none, IsSome}
+use Rattle.std.specs.Prelude.{◌≡◌, ◌≢◌, ◌≤◌, ◌<◌, ℕ, ◌+◌, ◌==◌, Bool, true, false, ◌&&◌, nat_lt, cond, List, [], ◌∷◌, length, filter, slice_index, slice_index_or, Option, Some, None, is_none, IsSome}
 use Rattle.std.specs.List.{range_with_len}
 use Rattle.ice_base.specs.Spare.{has}
 use Rattle.ice_tables.specs.Tables.{Tables, holder_in, ordinal_in}
@@ -53,7 +53,8 @@ pub record AreLots (v : OwnersView) : Type 0 where
   pub most : v.groups ≤ 1024
   pub few : (s : ℕ) → length (groups_at v s) ≤ 64
   pub below : (s o : ℕ) → o < length (groups_at v s) → slice_index (groups_at v s) o < v.groups
-  pub apart : (s r o p : ℕ) → o < length (groups_at v s) → p < length (groups_at v r) → slice_index (groups_at v s) o ≡ slice_index (groups_at v r) p → (s ≡ r) × (o ≡ p)
+  pub apart : (s r o p : ℕ) → o < length (groups_at v s) → p < length (groups_at v r)
+      → slice_index (groups_at v s) o ≡ slice_index (groups_at v r) p → (s ≡ r) × (o ≡ p)
 
 -- ---- beside the bytes and the tables of an image
 

@@ -1,5 +1,5 @@
 -- The places of an owner table: place 64 s + o is that of ordinal o of slot s.
-use Rattle.std.specs.Prelude.{◌≡◌, ◌≢◌, ◌⊎◌, ◌≤◌, ◌<◌, ℕ, zero, suc, ◌+◌, ◌*◌, ◌/◌, ◌%◌, Bool, true, false, cond, List, [], ◌∷◌, length, take, drop, slice_index, Option, Some, None}
+use Rattle.std.specs.Prelude.{◌≡◌, ◌≢◌, ◌⊎◌, ◌≤◌, ◌<◌, ℕ, zero, suc, ◌+◌, ◌*◌, ◌/◌, ◌%◌, Bool, true, false, List, [], ◌∷◌, length, take, drop, slice_index, Option, Some, None}
 use Rattle.ice_tables.specs.Tables.{owner_byte, ordinal_byte}
 use Rattle.ice_owner.specs.Owners.{OwnersView, AreLots, is_live}
 

@@ -7,4 +7,4 @@ mod owners;
 mod promises;
 
 pub use owners::{OwnerFault, Owners};
-pub use promises::{owners_are_tables, rows_and_groups};
+pub use promises::{groups_belong, groups_of_slots, owners_are_tables, rows_and_groups};

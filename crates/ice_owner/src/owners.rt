@@ -19,7 +19,8 @@ pub enum OwnerFault {
     NoGroups,
 }
 
-/// The groups of each of 16 slots, up to 64 in the order of their ordinals, in an image of 1 to 1,024 groups.
+/// The groups of each of 16 slots, up to 64 in the order of their ordinals, in an image of 1 to 1,024 groups. Place `64 s + o` has the
+/// group of ordinal `o` of slot `s`; a place from the slot's count on says nothing.
 #[derive(Drop)]
 pub struct Owners {
     counts: [u8; 16],

@@ -14,7 +14,7 @@ use ice_base::{Host, SinkFault, give_all};
 use ice_script::LineReader;
 use ice_text::{Out, write_reply};
 use std::alloc::{AllocError, Global};
-use tree_spec::{Command, Reply, Room, Value};
+use tree_spec::{Command, Refusal, Reply, Room, Value};
 
 /// What a session works in. No line takes memory.
 #[derive(Drop)]
@@ -42,8 +42,10 @@ fn reply_to(reader: &mut LineReader, room: &mut Room) -> Reply
 {
     room.clear();
     match reader.command() {
-        Ok(Command::Cubes) => Ok(Value::Listed(0)),
-        Ok(_) => unreachable!(),
+        Ok(command) => match command {
+            Command::Cubes => Ok(Value::Listed(0)),
+            _ => Err(Refusal::NoCube),
+        },
         Err(refusal) => Err(refusal),
     }
 }

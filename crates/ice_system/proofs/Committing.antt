@@ -1,9 +1,8 @@
 -- What the commit of a change does, by how it ended.
-use Rattle.std.proofs.Common.{Result, Ok, Err, OnOk, ◌≡◌, ◌∙◌, ◌≤◌, ◌<◌, inl, inr, ⊎_elim, ℕ, zero, suc, true, List, [], ◌∷◌, length, Some, refl, sym, ap, arith}
-use Rattle.std.specs.Prelude.{◌⊎◌, IsErrOf}
+use Rattle.std.proofs.Common.{Ok, Err, ◌≡◌, ◌∙◌, inl, ⊎_elim, ℕ, true, List, [], ◌∷◌, length, Some, refl, sym, ap, arith}
+use Rattle.std.specs.Prelude.{◌⊎◌}
 use Rattle.ice_base.specs.Disk.{Image, DiskState, Below, block}
 use Rattle.ice_base.specs.Frames.{Within, CrashStep, Sure}
-use Rattle.ice_base.specs.FrameLaws.{within_refl}
 use Rattle.ice_layout.specs.Headers.{is_open, system_targets}
 use Rattle.ice_tables.specs.Journals.{system_places, in_tables}
 use Rattle.ice_tables.specs.Tables.{Tables}
@@ -14,9 +13,8 @@ use Rattle.ice_txn.specs.declared.set.Entry.{Entry}
 use Rattle.ice_txn.specs.Sets.{over}
 use Rattle.ice_journal.specs.Blocks.{JournalExtent}
 use Rattle.ice_journal.specs.Phases.{BeforeOrAfter, Idle, RestsIdle}
-use Rattle.ice_system.specs.Says.{IsChange, EitherTables}
+use Rattle.ice_system.specs.Says.{IsChange}
 use Rattle.ice_system.specs.Changes.{HasChanges, MovesTables}
-use Rattle.ice_system.specs.declared.fault.SystemFault.{SystemFault}
 use Rattle.ice_system.specs.declared.fault.SystemFault.TheVariants.{Before, After}
 use Rattle.ice_system.proofs.Crashes.{now_has}
 use Rattle.ice_system.proofs.Moving.{commit_crash, idle_done, idle_before}

@@ -1,15 +1,15 @@
 -- What the images that a crash leaves have, once their table blocks are known.
 use Rattle.std.proofs.Common.{◌≡◌, ◌∙◌, ◌≤◌, ◌<◌, inl, inr, ⊎_elim, ℕ, Bool, true, false, List, [], Option, Some, None, refl, sym, ap, subst, arith}
-use Rattle.std.specs.Prelude.{◌⊎◌, IsSomeAnd, if◌then◌else◌, unwrap_or}
+use Rattle.std.specs.Prelude.{IsSomeAnd, if◌then◌else◌, unwrap_or}
 use Rattle.std.specs.Option.{option_map}
 use Rattle.std.proofs.Math.Path.{fun_ext}
 use Rattle.std.proofs.lemmas.Bool.Decides.{nat_tests}
 use Rattle.ice_base.specs.Disk.{Image, block}
-use Rattle.ice_layout.specs.Headers.{is_open, is_table, system_targets}
+use Rattle.ice_layout.specs.Headers.{is_table, system_targets}
 use Rattle.ice_layout.specs.Supers.{super_fault, super_of}
 use Rattle.ice_layout.specs.declared.superblock.Super.{Super}
 use Rattle.ice_tables.specs.Journals.{system_places, effective, in_tables, table_blocks}
-use Rattle.ice_tables.specs.Tables.{Tables, Row, HasTables, tables_in, row_in, holder_in, ordinal_in, AreNames, AreOwners}
+use Rattle.ice_tables.specs.Tables.{Tables, Row, HasTables, tables_in, row_in, holder_in, ordinal_in}
 use Rattle.ice_tables.specs.Lots.{AtRest}
 use Rattle.ice_tables.proofs.Groups.{super_few}
 use Rattle.ice_tables.proofs.JournalLaws.{table_blocks_homes}
@@ -96,8 +96,8 @@ next_says u sup m slots groups say =
 pub has_said : (t u : Tables) (i j : Image) (m : ℕ → List ℕ) → HasTables i t → block j 0 ≡ block i 0 → u.slots ≡ t.slots → u.groups ≡ t.groups → table_blocks j ≡ Some m → SayTables u m → HasTables j u
 has_said t u i j m h first slots groups is say =
     let sizes : (t.slots ≡ (super_of (block j 0)).slots) × (t.groups ≡ (super_of (block j 0)).groups) =
-        subst (λ (bytes : List ℕ). (t.slots ≡ (super_of bytes).slots) × (t.groups ≡ (super_of bytes).groups)) (sym first)
-            (ap (λ (x : Tables). x.slots) h.says, ap (λ (x : Tables). x.groups) h.says) in
+    subst (λ (bytes : List ℕ). (t.slots ≡ (super_of bytes).slots) × (t.groups ≡ (super_of bytes).groups)) (sym first)
+    (ap (λ (x : Tables). x.slots) h.says, ap (λ (x : Tables). x.groups) h.says) in
     record {
       superblock = ap super_fault first ∙ h.superblock;
       blocks = m;
@@ -116,7 +116,7 @@ now_has t u entries i j slots groups change rest first is =
     let here : SayTables t (in_tables (block i)) = said_tables t i (in_tables (block i)) (table_blocks_homes i rest.closed) rest.has in
     let few = few_of t i rest.has in
     has_said t u i j (in_tables (over entries (block i))) rest.has first slots groups is
-        (mixed_says (in_tables (block i)) change.old change.new (in_tables (over entries (block i))) mixed t u slots groups few.0 few.1 here change.before change.after)
+    (mixed_says (in_tables (block i)) change.old change.new (in_tables (over entries (block i))) mixed t u slots groups few.0 few.1 here change.before change.after)
   where
     mixed : Mixed (in_tables (block i)) change.old change.new (in_tables (over entries (block i)))
     mixed k low high = ⊎_elim

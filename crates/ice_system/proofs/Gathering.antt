@@ -1,5 +1,5 @@
 -- The blocks that a change puts: those of the cube table that differ, and then those of the owner table.
-use Rattle.std.proofs.Common.{◌≡◌, ◌∙◌, ◌≤◌, ◌<◌, ◌+◌, inl, inr, ⊎_elim, ℕ, Bool, true, false, List, [], length, refl, sym, ap, subst, arith}
+use Rattle.std.proofs.Common.{◌≡◌, ◌∙◌, ◌≤◌, ◌<◌, ◌+◌, inl, inr, ⊎_elim, ℕ, Bool, true, false, List, [], length, refl, sym, arith}
 use Rattle.std.specs.Prelude.{◌⊎◌, nat_lt}
 use Rattle.std.proofs.lemmas.Bool.Decides.{nat_tests}
 use Rattle.ice_layout.specs.Headers.{is_table}
@@ -38,17 +38,21 @@ module _ (old new old' new' : List (List ℕ)) (mid entries : List Entry) (rows 
       by true is =
           let less : k < 15 = grind (arith, nat_tests) in
           let stays = owners.elsewhere m k (inl less) in ⊎_elim
-              (λ put. inl (stays ∙ put ∙ sym (joined_low (blocks_from 11 new) (blocks_from 15 new') k less)))
-              (λ left. inr (stays ∙ left.0 ∙ over-none m k,
-                  joined_low (blocks_from 11 old) (blocks_from 15 old') k less ∙ left.1 ∙ sym (joined_low (blocks_from 11 new) (blocks_from 15 new') k less)))
-              (rows.here m k low (omega (arith, less)))
+          (λ put. inl (stays ∙ put ∙ sym (joined_low (blocks_from 11 new) (blocks_from 15 new') k less)))
+          (λ left. inr (
+            stays ∙ left.0 ∙ over-none m k,
+            joined_low (blocks_from 11 old) (blocks_from 15 old') k less ∙ left.1 ∙ sym (joined_low (blocks_from 11 new) (blocks_from 15 new') k less),
+          ))
+          (rows.here m k low (omega (arith, less)))
       by false is =
           let more : 15 ≤ k = grind (arith, nat_tests) in
           let before = rows.elsewhere m k (inr (omega (arith, more))) in ⊎_elim
-              (λ put. inl (put ∙ sym (joined_high (blocks_from 11 new) (blocks_from 15 new') k more)))
-              (λ left. inr (left.0 ∙ before ∙ over-none m k,
-                  joined_high (blocks_from 11 old) (blocks_from 15 old') k more ∙ left.1 ∙ sym (joined_high (blocks_from 11 new) (blocks_from 15 new') k more)))
-              (owners.here m k more (omega (arith, high)))
+          (λ put. inl (put ∙ sym (joined_high (blocks_from 11 new) (blocks_from 15 new') k more)))
+          (λ left. inr (
+            left.0 ∙ before ∙ over-none m k,
+            joined_high (blocks_from 11 old) (blocks_from 15 old') k more ∙ left.1 ∙ sym (joined_high (blocks_from 11 new) (blocks_from 15 new') k more),
+          ))
+          (owners.here m k more (omega (arith, high)))
 
   homes : (a : ℕ) → holds entries a ≡ true → is_table a ≡ true
   homes a is = ⊎_elim

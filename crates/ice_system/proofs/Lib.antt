@@ -5,5 +5,7 @@ mod Committing
 mod Views
 mod Gathering
 mod Planning
+mod Changing
+mod Reserving
 mod Opening
 mod Finishing

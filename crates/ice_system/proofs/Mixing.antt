@@ -4,7 +4,7 @@ use Rattle.std.specs.Prelude.{◌⊎◌, nat_lt, if◌then◌else◌, IsSome}
 use Rattle.std.proofs.lemmas.Bool.Decides.{nat_tests}
 use Rattle.std.proofs.lemmas.Nat.{div_below}
 use Rattle.ice_path.specs.Paths.{path_names}
-use Rattle.ice_tables.specs.Tables.{Tables, Row, row_of, row_in, holder_in, ordinal_in, mark_at, text_at, owner_byte, ordinal_byte, AreNames, AreOwners, IsCubeText}
+use Rattle.ice_tables.specs.Tables.{Tables, Row, row_of, row_in, holder_in, ordinal_in, mark_at, text_at, owner_byte, AreNames, AreOwners, IsCubeText}
 use Rattle.ice_system.specs.Says.{SayTables}
 
 -- ---- the blocks of a row and of an owner

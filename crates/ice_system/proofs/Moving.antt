@@ -1,12 +1,11 @@
 -- From a commit to the journal of the tables to what it does to the tables.
-use Rattle.std.proofs.Common.{Result, Ok, Err, OnOk, ◌≡◌, ◌∙◌, ◌≤◌, ◌<◌, inl, inr, ⊎_elim, ℕ, zero, suc, true, false, List, length, refl, sym, arith}
-use Rattle.std.specs.Prelude.{◌⊎◌}
-use Rattle.ice_base.specs.Disk.{Image, DiskState, Below, AgreesOn, block}
-use Rattle.ice_base.specs.Frames.{Within, CrashStep, Sure, Every}
+use Rattle.std.proofs.Common.{◌≡◌, ◌∙◌, ◌≤◌, ◌<◌, inl, inr, ⊎_elim, ℕ, zero, suc, true, false, List, length, refl, sym, arith}
+use Rattle.ice_base.specs.Disk.{Image, DiskState, Below, block}
+use Rattle.ice_base.specs.Frames.{Within, CrashStep, Sure}
 use Rattle.ice_base.proofs.Frame.{agrees_fewer}
 use Rattle.ice_layout.specs.Headers.{is_table, system_targets}
 use Rattle.ice_tables.specs.Journals.{system_places}
-use Rattle.ice_tables.specs.Tables.{Tables, HasTables}
+use Rattle.ice_tables.specs.Tables.{Tables}
 use Rattle.ice_tables.specs.Lots.{IsTable, AtRest}
 use Rattle.ice_tables.proofs.JournalLaws.{table-range, table_blocks_homes}
 use Rattle.ice_txn.specs.declared.set.Entry.{Entry}
@@ -24,9 +23,9 @@ pub extent_some : (k : ℕ) → JournalExtent system_places 8 k → IsChange k
 extent_some k here = ⊎_elim
     (λ gate. (omega (arith, gate), omega (arith, gate)))
     (λ rest. ⊎_elim
-        (λ body. ⊎_elim (λ header. (omega (arith, header), omega (arith, header))) (λ from. (omega (arith, from.0), omega (arith, from.1))) body)
-        (λ home. let r = table-range home.0 home.1 in (omega (arith, r.0, home.2), omega (arith, r.1, home.2)))
-        rest)
+    (λ body. ⊎_elim (λ header. (omega (arith, header), omega (arith, header))) (λ from. (omega (arith, from.0), omega (arith, from.1))) body)
+    (λ home. let r = table-range home.0 home.1 in (omega (arith, r.0, home.2), omega (arith, r.1, home.2)))
+    rest)
     here
 
 -- what a commit of table blocks writes lies in the journal of the tables and in the tables
@@ -34,9 +33,9 @@ pub commit_change : (entries : List Entry) → length entries ≤ 8 → ((a : �
 commit_change entries few homes k here = ⊎_elim
     (λ gate. (omega (arith, gate), omega (arith, gate)))
     (λ rest. ⊎_elim
-        (λ body. ⊎_elim (λ header. (omega (arith, header), omega (arith, header))) (λ from. (omega (arith, from.0), omega (arith, from.1, few))) body)
-        (λ put. let r = table-range put.0 (homes put.0 put.1) in (omega (arith, r.0, put.2), omega (arith, r.1, put.2)))
-        rest)
+    (λ body. ⊎_elim (λ header. (omega (arith, header), omega (arith, header))) (λ from. (omega (arith, from.0), omega (arith, from.1, few))) body)
+    (λ put. let r = table-range put.0 (homes put.0 put.1) in (omega (arith, r.0, put.2), omega (arith, r.1, put.2)))
+    rest)
     here
 
 extent_low : (k : ℕ) → JournalExtent system_places 8 k → Below 19 k
@@ -86,8 +85,8 @@ module _ {D : Type 0} (state : D → DiskState) (left : D → ℕ → Image → 
     leaves = record {
       each = λ c i o l. ⊎_elim (λ before. inl before)
           (λ here. ⊎_elim (λ before. inl before)
-              (λ agrees. inr (either i (agrees.0.same 0 no-change-0 (sure.settled.settled 0 (inl (omega arith)))) here.0, here.1))
-              (w.left_new c i o l))
+          (λ agrees. inr (either i (agrees.0.same 0 no-change-0 (sure.settled.settled 0 (inl (omega arith)))) here.0, here.1))
+          (w.left_new c i o l))
           (step.leaves.each c i o l);
     };
     after = λ i agrees. either i

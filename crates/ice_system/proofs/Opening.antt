@@ -295,17 +295,8 @@ not_small size image sup is room small =
     let less = subst (λ (s : Super). size < total_blocks s.slots s.groups) is.value small.1 in omega (arith, less, room)
 
 -- blocks that are refused are the first fault
-blocks_first : (sup : Super) (image : Image) (m : ℕ → List ℕ) → IsSuper sup (block image 0) → table_blocks image ≡ Some m → (f : LayoutFault)
-    → RefusesBlocks f sup m → FirstFault image f
-blocks_first sup image m is shown Names bad = (
-  is.accepted,
-  record {
-    blocks = m;
-    effective = shown;
-    names = subst (λ
-        (s : Super). ¬ AreNames s.slots m) (sym is.value) bad;
-  },
-)
+blocks_first : (sup : Super) (image : Image) (m : ℕ → List ℕ) → IsSuper sup (block image 0) → table_blocks image ≡ Some m → (f : LayoutFault) → RefusesBlocks f sup m → FirstFault image f
+blocks_first sup image m is shown Names bad = (is.accepted, record { blocks = m; effective = shown; names = subst (λ (s : Super). ¬ AreNames s.slots m) (sym is.value) bad })
 blocks_first sup image m is shown Owners bad = (
   is.accepted,
   record {
@@ -344,11 +335,7 @@ module _ {D : Type 0} (state : D → DiskState) (left : D → ℕ → Image → 
       → (f : TablesFault) (s : DiskState) → (state b).faults ≡ (state a).faults → RefusesJournal f (state b) s → RefusesDisk f (state a) s
   refuses_journal sup is room Small s calm refused = absurd refused
   refuses_journal sup is room (Layout f) s calm refused = λ told. (
-    subst (λ (h : LayoutFault). FirstFault (state a).now h) (sym refused.0) (
-      (is told).accepted,
-      sym (still_blocks state left a b w)
-          ∙ refused.1 (w.tells ∙ told),
-    ),
+    subst (λ (h : LayoutFault). FirstFault (state a).now h) (sym refused.0) ((is told).accepted, sym (still_blocks state left a b w) ∙ refused.1 (w.tells ∙ told)),
     not_small (state a).size (state a).now sup (is told) room,
   )
   refuses_journal sup is room Disk s calm refused = omega (arith, refused, calm)

@@ -1,10 +1,10 @@
 -- The lot that a cube would get, from the rows and the groups.
 use Rattle.std.proofs.Common.{◌≡◌, ◌≢◌, ◌∙◌, ◌≤◌, ◌<◌, ◌+◌, ◌*◌, ℕ, Bool, true, false, List, [], ◌∷◌, ◌++◌, length, Option, Some, None, refl, sym, ap, subst, arith}
-use Rattle.std.specs.Prelude.{nat_lt, take, IsSome}
+use Rattle.std.specs.Prelude.{nat_lt, take, IsSome, is_some, MatchOption, Result, Ok, Err, IfOk, IfErr}
 use Rattle.std.proofs.lemmas.Bool.Decides.{nat_tests}
 use Rattle.ice_base.specs.Lots.{LotView}
 use Rattle.tree_spec.specs.declared.reply.Refusal.{Refusal}
-use Rattle.tree_spec.specs.declared.reply.Refusal.TheVariants.{Exists, NoSlot, CubeFull, NoGroups}
+use Rattle.tree_spec.specs.declared.reply.Refusal.TheVariants.{CubeFull, NoGroups}
 use Rattle.ice_names.specs.Names.{NamesView, NoneHas, path_at, path_of, row_at}
 use Rattle.ice_owner.specs.Owners.{OwnersView, AreLots, groups_at}
 use Rattle.ice_owner.specs.Owners.{Changes as ChangesLots, free_groups as free_of}
@@ -90,6 +90,15 @@ none_path names owners p none has = none has.0 (ap path_of has.2 ∙ ap (λ (x :
 pub path_none : (names : NamesView) (owners : OwnersView) (p : List (List ℕ)) → ¬ HasPath (tables_with names owners) p → NoneHas names p
 path_none names owners p never s is = never (has_path names owners p s is)
 
+-- what a search for a path found
+pub some_found : (names : NamesView) (owners : OwnersView) (p : List (List ℕ)) (o : Option ℕ) → is_some o ≡ true → MatchOption o (NoneHas names p) (λ s. path_at names s ≡ Some p) → HasPath (tables_with names owners) p
+some_found names owners p None is found = absurd (cc is)
+some_found names owners p (Some s) is found = has_path names owners p s found
+
+pub none_found : (names : NamesView) (p : List (List ℕ)) (o : Option ℕ) → is_some o ≡ false → MatchOption o (NoneHas names p) (λ s. path_at names s ≡ Some p) → NoneHas names p
+none_found names p None is found = found
+none_found names p (Some s) is found = absurd (cc is)
+
 -- ---- a new cube
 
 pub plans_create : (names : NamesView) (owners : OwnersView) (p : List (List ℕ)) (s n : ℕ) (lot : LotView) → AreLots owners → AreTables names owners
@@ -116,4 +125,13 @@ pub refuses_create : (names : NamesView) (owners : OwnersView) (p : List (List �
 refuses_create names owners p s n why lots tables none low free is =
     let empty : groups_of (tables_with names owners) s ≡ [] = no_groups names owners lots tables s free in
     refused_free names owners p n why (none_path names owners p none) (λ full. full s low free)
-        (subst (λ (g : List ℕ). RefusesGroups (tables_with names owners) (length g) n why) empty is)
+    (subst (λ (g : List ℕ). RefusesGroups (tables_with names owners) (length g) n why) empty is)
+
+-- what holds of an answer, and what follows from it
+pub ok_more : {X E : Type 0} (P Q : X → Type 0) (r : Result X E) → ((x : X) → P x → Q x) → IfOk r P → IfOk r Q
+ok_more P Q (Ok x) more is = more x is
+ok_more P Q (Err e) more is = is
+
+pub err_more : {X E : Type 0} (P Q : E → Type 0) (r : Result X E) → ((e : E) → P e → Q e) → IfErr r P → IfErr r Q
+err_more P Q (Ok x) more is = is
+err_more P Q (Err e) more is = more e is

@@ -1,11 +1,12 @@
 -- The tables that rows and groups are: their bytes, and what a change of one slot makes of them.
-use Rattle.std.proofs.Common.{◌≡◌, ◌≢◌, ◌∙◌, ◌≤◌, ◌<◌, ◌==◌, ℕ, Bool, true, false, List, [], Option, refl, sym, ap, subst, arith}
+use Rattle.std.proofs.Common.{◌≡◌, ◌≢◌, ◌∙◌, ◌≤◌, ◌<◌, ◌==◌, ℕ, Bool, true, false, List, [], Option, refl, sym, subst, arith}
 use Rattle.std.specs.Prelude.{nat_lt, if◌then◌else◌, IsSome}
 use Rattle.std.proofs.lemmas.Bool.Decides.{nat_tests}
+use Rattle.ice_base.specs.Lots.{LotView}
 use Rattle.ice_names.specs.Names.{NamesView, RowSet, row_at}
 use Rattle.ice_owner.specs.Owners.{OwnersView, AreLots, HasOwners, groups_at, holder, ordinal}
 use Rattle.ice_owner.specs.Owners.{Changes as ChangesLots}
-use Rattle.ice_tables.specs.Tables.{Row, AreNames, AreOwners, row_in, holder_in, ordinal_in, owner_byte}
+use Rattle.ice_tables.specs.Tables.{Row, AreNames, row_in, holder_in, ordinal_in, owner_byte}
 use Rattle.ice_tables.specs.Lots.{groups_of}
 use Rattle.ice_system.specs.Says.{SayTables}
 use Rattle.ice_system.specs.Systems.{AreTables, tables_with}
@@ -20,6 +21,12 @@ has_owners names owners = record { groups = refl; holder = λ g. refl; ordinal =
 
 pub groups_with : (names : NamesView) (owners : OwnersView) → AreLots owners → (s : ℕ) → groups_of (tables_with names owners) s ≡ groups_at owners s
 groups_with names owners lots s = groups_same owners (tables_with names owners) lots (has_owners names owners) s
+
+abbrev with_parts : (s base : ℕ) (groups : List ℕ) → LotView
+with_parts s base groups = record { slot = s; base = base; groups = groups }
+
+pub same_lot : (s b c : ℕ) (g h : List ℕ) → b ≡ c → g ≡ h → with_parts s b g ≡ with_parts s c h
+same_lot s b c g h base groups = rw (base, groups) refl
 
 -- ---- the blocks of both tables
 
@@ -107,10 +114,18 @@ pub still_tables : (names names' : NamesView) (owners owners' : OwnersView) (s :
 still_tables names names' owners owners' s row groups tables set change live taken = record {
   live = λ r. same_or_not r s (IsSome (row_at names' r) → groups_at owners' r ≢ [])
       (λ same. subst (λ r. IsSome (row_at names' r) → groups_at owners' r ≢ []) (sym same)
-          (λ some none. live (subst (λ o. IsSome o) set.here some) (sym change.lot ∙ none)))
+      (λ some none. live (subst (λ o. IsSome o) set.here some) (sym change.lot ∙ none)))
       (λ other some none. tables.live r (subst (λ o. IsSome o) (set.others r other) some) (sym (change.others r other) ∙ none));
   taken = λ r. same_or_not r s (groups_at owners' r ≢ [] → IsSome (row_at names' r))
       (λ same. subst (λ r. groups_at owners' r ≢ [] → IsSome (row_at names' r)) (sym same)
-          (λ some. subst (λ o. IsSome o) (sym set.here) (taken (λ none. some (change.lot ∙ none)))))
+      (λ some. subst (λ o. IsSome o) (sym set.here) (taken (λ none. some (change.lot ∙ none)))))
       (λ other some. subst (λ o. IsSome o) (sym (set.others r other)) (tables.taken r (λ none. some (change.others r other ∙ none))));
 }
+
+-- the same of a copy of the rows
+pub row_set_at : (names copy new : NamesView) (s r : ℕ) (row : Option Row) → copy ≡ names → r ≡ s → RowSet copy r row new → RowSet names s row new
+row_set_at names copy new s r row same here set = subst (λ n. RowSet n s row new) same (subst (λ x. RowSet copy x row new) here set)
+
+-- and of a copy of the groups
+pub changes_at : (owners copy new : OwnersView) (s r : ℕ) (groups : List ℕ) → copy ≡ owners → r ≡ s → ChangesLots copy new r groups → ChangesLots owners new s groups
+changes_at owners copy new s r groups same here change = subst (λ o. ChangesLots o new s groups) same (subst (λ x. ChangesLots copy new x groups) here change)

@@ -1,5 +1,5 @@
 -- What a change of a volume's tables does to them, and to the disk.
-use Rattle.std.specs.Prelude.{◌≡◌, ◌≢◌, ◌≤◌, ◌<◌, ◌⊎◌, ℕ, Bool, true, false, List, length, Option, Result, Err, OnOk, IsErrOf}
+use Rattle.std.specs.Prelude.{◌≡◌, ◌≢◌, ◌≤◌, ◌<◌, ◌⊎◌, ℕ, true, false, List, length, Option, Result, Err, OnOk, IsErrOf}
 use Rattle.ice_base.specs.Disk.{Image, DiskState, block, Below, Rose}
 use Rattle.ice_base.specs.Frames.{Within, CrashStep, Sure}
 use Rattle.ice_layout.specs.Headers.{is_open, is_table}

@@ -1,5 +1,5 @@
 -- The lot that a cube would get, and why it gets none.
-use Rattle.std.specs.Prelude.{◌≡◌, ◌≢◌, ◌≤◌, ◌<◌, ◌+◌, ◌*◌, ◌&&◌, ℕ, List, ◌++◌, length, take, filter, nat_lt, Option, Some, None, is_none, ⊤}
+use Rattle.std.specs.Prelude.{◌≡◌, ◌≢◌, ◌≤◌, ◌<◌, ◌+◌, ◌*◌, ◌&&◌, ℕ, List, ◌++◌, length, take, filter, nat_lt, Some, None, is_none}
 use Rattle.std.specs.List.{range_with_len}
 use Rattle.ice_base.specs.Lots.{LotView}
 use Rattle.ice_tables.specs.Tables.{Tables, Row}

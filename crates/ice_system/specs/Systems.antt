@@ -1,5 +1,5 @@
 -- What a volume's tables are while they are open.
-use Rattle.std.specs.Prelude.{◌≡◌, ◌≢◌, ℕ, Bool, [], IsSome}
+use Rattle.std.specs.Prelude.{◌≢◌, ℕ, Bool, [], IsSome}
 use Rattle.ice_names.specs.Names.{NamesView, row_at}
 use Rattle.ice_owner.specs.Owners.{OwnersView, groups_at, holder, ordinal}
 use Rattle.ice_tables.specs.Tables.{Tables}

@@ -69,13 +69,7 @@ impl System {
         ensures moves { Sure IsTable (AtRest (tables_of self.old)) (D.state disk.old)
             → MovesTables D.state D.left (tables_of self.old) (tables_with names owners) result disk.old disk.new }
     {
-        gather(
-            &mut self.set,
-            &self.names,
-            &self.owners,
-            &names,
-            &owners,
-        );
+        gather(&mut self.set, &self.names, &self.owners, &names, &owners);
         match commit_set(disk, &self.set) {
             Ok(()) => {
                 self.names = names;

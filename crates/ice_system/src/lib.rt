@@ -1,7 +1,7 @@
 //! The tables of a volume with their journal: each change of them is whole or absent.
 #![tactic(auto)]
 
-mod attaching;
+mod attach;
 mod change;
 mod fault;
 mod gather;
@@ -9,6 +9,5 @@ mod plan;
 mod replay;
 mod system;
 
-pub use attaching::attach;
 pub use fault::{SystemFault, TablesFault};
 pub use system::System;

@@ -19,7 +19,7 @@ returns-in-Ok-clause-moves g c t u change slots groups sure =
     let idle = rest_idle t (g.D.Disk.state c.args.disk.now) sure in
     let map = block (g.D.Disk.state c.args.disk.now).now in
     let w = within_more g.D.Disk.state g.D.Disk.left (CommitBlocks system_places c.args.set.now.entries) IsChange c.args.disk.now c.commit.new.disk
-        (commit_change c.args.set.now.entries c.requires.few c.requires.homes) c.commit.ensures.within in
+    (commit_change c.args.set.now.entries c.requires.few c.requires.homes) c.commit.ensures.within in
     moves_ok g.D.Disk.state g.D.Disk.left t u c.args.set.now.entries slots groups change c.args.disk.now c.commit.new.disk sure w (c.commit.ensures.crash map idle) tt (c.in-Ok.ensures.done map idle)
 
 -- src/change.rt:25:1
@@ -28,7 +28,7 @@ returns-in-Err-Before-clause-moves g c t u change slots groups sure =
     let idle = rest_idle t (g.D.Disk.state c.args.disk.now) sure in
     let map = block (g.D.Disk.state c.args.disk.now).now in
     let w = within_more g.D.Disk.state g.D.Disk.left (CommitBlocks system_places c.args.set.now.entries) IsChange c.args.disk.now c.commit.new.disk
-        (commit_change c.args.set.now.entries c.requires.few c.requires.homes) c.commit.ensures.within in
+    (commit_change c.args.set.now.entries c.requires.few c.requires.homes) c.commit.ensures.within in
     moves_before g.D.Disk.state g.D.Disk.left t u c.args.set.now.entries slots groups change c.args.disk.now c.commit.new.disk sure w (c.commit.ensures.crash map idle) (c.commit.ensures.before map idle (cc c.in-Err-Before.field-0-is))
 
 -- src/change.rt:25:1
@@ -37,5 +37,5 @@ returns-in-Err-After-clause-moves g c t u change slots groups sure =
     let idle = rest_idle t (g.D.Disk.state c.args.disk.now) sure in
     let map = block (g.D.Disk.state c.args.disk.now).now in
     let w = within_more g.D.Disk.state g.D.Disk.left (CommitBlocks system_places c.args.set.now.entries) IsChange c.args.disk.now c.commit.new.disk
-        (commit_change c.args.set.now.entries c.requires.few c.requires.homes) c.commit.ensures.within in
+    (commit_change c.args.set.now.entries c.requires.few c.requires.homes) c.commit.ensures.within in
     moves_after g.D.Disk.state g.D.Disk.left t u c.args.set.now.entries slots groups change c.args.disk.now c.commit.new.disk sure w (c.commit.ensures.crash map idle) (c.commit.ensures.late sure.settled.told (cc c.in-Err-After.field-0-is))

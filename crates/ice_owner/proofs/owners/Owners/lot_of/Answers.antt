@@ -1,4 +1,4 @@
-use Rattle.std.proofs.Common.{◌≡◌, ◌≢◌, ◌∙◌, ◌<◌, ◌+◌, ◌*◌, ◌++◌, ◌∷◌, [], List, ℕ, length, refl, sym, ap, subst}
+use Rattle.std.proofs.Common.{◌≢◌, ◌∙◌, ◌<◌, ◌+◌, ◌*◌, ◌++◌, ◌∷◌, [], List, ℕ, length, refl, sym, ap, subst}
 use Rattle.std.specs.Prelude.{slice_index}
 use Rattle.ice_base.specs.Lots.{LotView}
 use Rattle.ice_owner.specs.Owners.{OwnersView, groups_at}
@@ -32,4 +32,5 @@ pub returns-clause-lot : goal.returns-clause-lot
 returns-clause-lot c =
     let i = c.self.inside in
     same_view c.loop-o.lot c.args.slot c.args.base (groups_at c.args.self.now c.args.slot) c.loop-o.invariant.slot c.loop-o.invariant.base
-    (c.loop-o.invariant.groups ∙ lot_all i.groups i.counts i.places c.self.invariant c.args.slot c.loop-o.o c.loop-o-test.false ∙ ap (λ (v : OwnersView). groups_at v c.args.slot) c.self.view_is)
+    (c.loop-o.invariant.groups ∙ lot_all i.groups i.counts i.places c.self.invariant c.args.slot c.loop-o.o c.loop-o-test.false
+    ∙ ap (λ (v : OwnersView). groups_at v c.args.slot) c.self.view_is)

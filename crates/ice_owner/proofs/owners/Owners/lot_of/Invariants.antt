@@ -1,6 +1,5 @@
 use Rattle.std.proofs.Common.{◌≡◌, take}
 use Rattle.std.specs.Prelude.{slice_index}
-use Rattle.ice_base.specs.Lots.{LotView}
 use Rattle.ice_owner.specs.Owners.{groups_at}
 use Rattle.ice_owner.specs.Places.{view_of}
 use Rattle.ice_owner.proofs.owners.Owners.lot_of.Given as goal

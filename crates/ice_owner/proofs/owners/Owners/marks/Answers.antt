@@ -1,4 +1,4 @@
-use Rattle.std.proofs.Common.{◌≡◌, ℕ, sym, subst}
+use Rattle.std.proofs.Common.{◌≡◌, subst}
 use Rattle.std.specs.Prelude.{slice_index}
 use Rattle.ice_owner.specs.Owners.{OwnersView, AreLots, holder, ordinal}
 use Rattle.ice_owner.specs.Places.{mark_slot, mark_ordinal}
@@ -19,7 +19,9 @@ returns c =
     let marks = c.marks_of.result in record {
       all = c.marks_of.ensures.all;
       small = mark_small i.counts i.places marks c.marks_of.ensures;
-      holders = λ g. subst (λ (v : OwnersView). holder v g ≡ mark_slot (slice_index marks g)) c.self.view_is (mark_holder i.groups i.counts i.places marks c.self.invariant c.marks_of.ensures g);
-      ordinals = λ g. subst (λ (v : OwnersView). ordinal v g ≡ mark_ordinal (slice_index marks g)) c.self.view_is (mark_place i.groups i.counts i.places marks c.self.invariant c.marks_of.ensures g);
+      holders = λ g. subst (λ (v : OwnersView). holder v g ≡ mark_slot (slice_index marks g)) c.self.view_is
+          (mark_holder i.groups i.counts i.places marks c.self.invariant c.marks_of.ensures g);
+      ordinals = λ g. subst (λ (v : OwnersView). ordinal v g ≡ mark_ordinal (slice_index marks g)) c.self.view_is
+          (mark_place i.groups i.counts i.places marks c.self.invariant c.marks_of.ensures g);
       lots = subst (λ (v : OwnersView). AreLots v) c.self.view_is c.self.invariant.lots;
     }

@@ -29,6 +29,7 @@ returns c =
     let free = subst (λ (v : OwnersView). holder v g ≡ None) (sym c.self.view_is) c.requires.free in
     record {
       pushed =
-          subst (λ (v : OwnersView). Changes v (view_of i.groups (set i.counts s (slice_index i.counts s + 1)) (set i.places (64 * s + slice_index i.counts s) g)) s (groups_at v s ++ g ∷ []))
-              c.self.view_is (pushed i.groups i.counts i.places c.self.invariant s c.requires.slot g room small free);
+          subst (λ (v : OwnersView). Changes v (view_of i.groups (set i.counts s (slice_index i.counts s + 1))
+          (set i.places (64 * s + slice_index i.counts s) g)) s (groups_at v s ++ g ∷ []))
+          c.self.view_is (pushed i.groups i.counts i.places c.self.invariant s c.requires.slot g room small free);
     }
