@@ -75,14 +75,11 @@ module _ {D : Type 0} (state : D → DiskState) (left : D → ℕ → Image → 
   pub still_finishes : is_open (block (state a).now 1) ≡ false → Settled Everywhere (state a) → Finishes (state a) (state b)
   still_finishes closed settled = record { closed = ap is_open (still_block 1) ∙ closed; same = still_blocks; settled = still_settled settled }
 
-module _ {D : Type 0} (state : D → DiskState) (left : D → ℕ → Image → List ℕ
-    → Type 0) (a b c : D) (w : Within state left Nowhere a b) (ts : List ℕ) (targets : AreTargets 8 is_table ts)
+module _ {D : Type 0} (state : D → DiskState) (left : D → ℕ → Image → List ℕ → Type 0)
+    (a b c : D) (w : Within state left Nowhere a b) (ts : List ℕ) (targets : AreTargets 8 is_table ts)
     (v : Within state left (ReplayBlocks system_places ts) b c) (settled : Settled Everywhere (state a))
     (pending : IsPending system_targets system_places ts (state a).now) where
   -- the journal after it was looked at
-  abbrev map : ℕ → List ℕ
-  map = with_bodies ts (state b).now
-
   now_pending : IsPending system_targets system_places ts (state b).now
   now_pending = still_pending state left a b w ts pending
 
@@ -107,8 +104,8 @@ module _ {D : Type 0} (state : D → DiskState) (left : D → ℕ → Image → 
   -- and each crash of one leaves the tables.
   pub replay_crash : (t : Tables) → HasTables (state a).now t → ((m : ℕ → List ℕ) → Settled (JournalExtent system_places 8) (state b)
       → IsPending system_targets system_places ts (state b).now
-      → StandsFor system_targets system_places m (state b).now → CrashStep state left (JournalExtent system_places 8)
-      (StandsFor system_targets system_places m) b c)
+      → StandsFor system_targets system_places m (state b).now
+      → CrashStep state left (JournalExtent system_places 8) (StandsFor system_targets system_places m) b c)
       → CrashStep state left (Below 19) (λ i. HasTables i t) a c
   replay_crash t has crash = step_then state left (Below 19) (λ i. HasTables i t) a b c w.streams (still_crash state left a b w t settled has) (record {
     leaves = record {

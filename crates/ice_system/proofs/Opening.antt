@@ -149,8 +149,8 @@ module _ (slots : ℕ) (few : slots ≤ 16) (m n : ℕ → List ℕ) (same : (k 
       let mark : (s : ℕ) → s < 16 → _ = λ s low. same_mark m n s (row_here s low) in
       record {
         marks = λ s low. rw (mark s (omega (arith, low, few))) (is.marks s low);
-        texts = λ s low live. same_cube_text m n s (row_here s (omega (arith, low, few))) (is.texts s low (λ none. live (mark s (omega
-            (arith, low, few)) ∙ none)));
+        texts = λ s low live. same_cube_text m n s (row_here s (omega (arith, low, few)))
+            (is.texts s low (λ none. live (mark s (omega (arith, low, few)) ∙ none)));
         differ = λ s r less low live other. rw (row_here s (omega (arith, less, low, few)), row_here r (omega (arith, low, few)))
             (is.differ s r less low (λ none. live (mark s (omega (arith, less, low, few)) ∙ none)) (λ none. other (mark r (omega (arith, low, few)) ∙ none)));
         no_more = λ s high low. mark s low ∙ is.no_more s high low;
@@ -183,15 +183,15 @@ with_parts slots groups row holder ordinal = record { slots = slots; groups = gr
 
 tables_same : (a b : Tables) → a.slots ≡ b.slots → a.groups ≡ b.groups → ((s : ℕ) → a.row s ≡ b.row s) → ((g : ℕ) → a.holder g ≡ b.holder g)
     → ((g : ℕ) → a.ordinal g ≡ b.ordinal g) → a ≡ b
-tables_same a b slots groups row holder ordinal = made a.slots b.slots a.groups b.groups a.row b.row a.holder b.holder a.ordinal b.ordinal slots
-    groups (fun_ext row) (fun_ext holder) (fun_ext ordinal)
+tables_same a b slots groups row holder ordinal =
+    made a.slots b.slots a.groups b.groups a.row b.row a.holder b.holder a.ordinal b.ordinal slots groups (fun_ext row) (fun_ext holder) (fun_ext ordinal)
   where
     made : (a b c d : ℕ) (e f : ℕ → Option Row) (h i : ℕ → Option ℕ) (j k : ℕ → ℕ) → a ≡ b → c ≡ d → e ≡ f → h ≡ i → j ≡ k
         → with_parts a c e h j ≡ with_parts b d f i k
     made a b c d e f h i j k p q r s t = rw (p, q, r, s, t) refl
 
-module _ (sup : Super) (geometry : is_geometry sup ≡ true) (rows owners : List (List ℕ)) (names : NamesView) (accepted : AreNames sup.slots
-    (blocks_from 11 rows))
+module _ (sup : Super) (geometry : is_geometry sup ≡ true) (rows owners : List (List ℕ)) (names : NamesView)
+    (accepted : AreNames sup.slots (blocks_from 11 rows))
     (reads : (s : ℕ) → row_at names s ≡ row_in sup.slots (blocks_from 11 rows) s) (live : List Bool)
     (has : (s : ℕ) → is_live live s ≡ true → IsSome (row_at names s)) (all : (s : ℕ) → IsSome (row_at names s) → is_live live s ≡ true) where
   few_slots : sup.slots ≤ 16
@@ -218,16 +218,15 @@ module _ (sup : Super) (geometry : is_geometry sup ≡ true) (rows owners : List
         }) (owners_same m (blocks_from 15 owners) (λ k low high. sym (five k low high)) (tables_in sup m) are),
   )
 
-  module _ (lots : OwnersView) (are : AreLots lots) (groups : lots.groups ≡ sup.groups) (holders : (g : ℕ)
-      → holder_in sup.groups (blocks_from 15 owners) g ≡ holder lots g)
+  module _ (lots : OwnersView) (are : AreLots lots) (groups : lots.groups ≡ sup.groups)
+      (holders : (g : ℕ) → holder_in sup.groups (blocks_from 15 owners) g ≡ holder lots g)
       (ordinals : (g : ℕ) → ordinal_in sup.groups (blocks_from 15 owners) g ≡ ordinal lots g)
       (takes : (t : Tables) → OwnerTables sup.groups live (blocks_from 15 owners) t → AreOwners t (blocks_from 15 owners)) where
     taken_owners : AreOwners (tables_with names lots) (blocks_from 15 owners)
     taken_owners = takes (tables_with names lots) (record {
       groups = groups;
       holder = λ g. sym (holders g);
-      ordinal = λ g. sym
-          (ordinals g);
+      ordinal = λ g. sym (ordinals g);
       has_row = has;
       row_live = all;
     })
@@ -295,8 +294,16 @@ not_small size image sup is room small =
     let less = subst (λ (s : Super). size < total_blocks s.slots s.groups) is.value small.1 in omega (arith, less, room)
 
 -- blocks that are refused are the first fault
-blocks_first : (sup : Super) (image : Image) (m : ℕ → List ℕ) → IsSuper sup (block image 0) → table_blocks image ≡ Some m → (f : LayoutFault) → RefusesBlocks f sup m → FirstFault image f
-blocks_first sup image m is shown Names bad = (is.accepted, record { blocks = m; effective = shown; names = subst (λ (s : Super). ¬ AreNames s.slots m) (sym is.value) bad })
+blocks_first : (sup : Super) (image : Image) (m : ℕ → List ℕ) → IsSuper sup (block image 0) → table_blocks image ≡ Some m → (f : LayoutFault)
+    → RefusesBlocks f sup m → FirstFault image f
+blocks_first sup image m is shown Names bad = (
+  is.accepted,
+  record {
+    blocks = m;
+    effective = shown;
+    names = subst (λ (s : Super). ¬ AreNames s.slots m) (sym is.value) bad;
+  },
+)
 blocks_first sup image m is shown Owners bad = (
   is.accepted,
   record {
@@ -335,7 +342,10 @@ module _ {D : Type 0} (state : D → DiskState) (left : D → ℕ → Image → 
       → (f : TablesFault) (s : DiskState) → (state b).faults ≡ (state a).faults → RefusesJournal f (state b) s → RefusesDisk f (state a) s
   refuses_journal sup is room Small s calm refused = absurd refused
   refuses_journal sup is room (Layout f) s calm refused = λ told. (
-    subst (λ (h : LayoutFault). FirstFault (state a).now h) (sym refused.0) ((is told).accepted, sym (still_blocks state left a b w) ∙ refused.1 (w.tells ∙ told)),
+    subst (λ (h : LayoutFault). FirstFault (state a).now h) (sym refused.0) (
+      (is told).accepted,
+      sym (still_blocks state left a b w) ∙ refused.1 (w.tells ∙ told),
+    ),
     not_small (state a).size (state a).now sup (is told) room,
   )
   refuses_journal sup is room Disk s calm refused = omega (arith, refused, calm)
@@ -360,21 +370,21 @@ module _ {D : Type 0} (state : D → DiskState) (left : D → ℕ → Image → 
       step_then state left (Below 19) (λ i. HasTables i t) a b c w.streams first (next (first.after (state b).now
       (record { count = whole; same = λ k here settled. refl })))
 
-module _ {D : Type 0} (state : D → DiskState) (left : D → ℕ → Image → List ℕ
-    → Type 0) (a b c : D) (w : Within state left Nowhere a b) (t : Tables) (settled : Settled Everywhere (state a))
+module _ {D : Type 0} (state : D → DiskState) (left : D → ℕ → Image → List ℕ → Type 0)
+    (a b c : D) (w : Within state left Nowhere a b) (t : Tables) (settled : Settled Everywhere (state a))
     (has : HasTables (state a).now t) (crash : HasTables (state b).now t → CrashStep state left (Below 19) (λ i. HasTables i t) b c) where
   -- Once the superblock was read and the journal finished, each crash leaves the tables,
   pub finish_crash : CrashStep state left (Below 19) (λ i. HasTables i t) a c
-  finish_crash = step_then state left (Below 19) (λ i. HasTables i t) a b c w.streams (still_crash state left a b w t settled has) (crash
-      (still_tables state left a b w t has))
+  finish_crash = step_then state left (Below 19) (λ i. HasTables i t) a b c w.streams (still_crash state left a b w t settled has)
+      (crash (still_tables state left a b w t has))
 
   -- and so does a read of the tables.
   pub read_crash : (d : D) → (state c).streams ≡ (state a).streams → Within state left Nowhere c d → CrashStep state left (Below 19) (λ i. HasTables i t) a d
   read_crash d streams v = step_then state left (Below 19) (λ i. HasTables i t) a c d streams finish_crash
       (step_apart state left (Below 19) Nowhere (λ i. HasTables i t) c d (λ k here n. n) v finish_crash.after)
 
-module _ {D : Type 0} (state : D → DiskState) (left : D → ℕ → Image → List ℕ
-    → Type 0) (a b c : D) (w : Within state left Nowhere a b) (r : Within state left IsReplayed b c)
+module _ {D : Type 0} (state : D → DiskState) (left : D → ℕ → Image → List ℕ → Type 0)
+    (a b c : D) (w : Within state left Nowhere a b) (r : Within state left IsReplayed b c)
     (sup : Super) (is : (state a).tells ≡ true → IsSuper sup (block (state a).now 0)) (finish : (state b).tells ≡ true → Finishes (state b) (state c)) where
   shown : (state a).tells ≡ true → table_blocks (state a).now ≡ Some (in_tables (block (state c).now))
   shown told = let f = finish (w.tells ∙ told) in sym (still_blocks state left a b w) ∙ sym f.same ∙ table_blocks_homes (state c).now f.closed
@@ -384,8 +394,7 @@ module _ {D : Type 0} (state : D → DiskState) (left : D → ℕ → Image → 
       → RefusesTables f sup (in_tables (block (state c).now)) (state c) s → RefusesDisk f (state a) s
   refuses_tables room Small s calm refused = absurd refused
   refuses_tables room (Layout f) s calm refused = λ told. (
-    blocks_first sup (state a).now (in_tables (block (state c).now)) (is told) (shown told) f (refused (r.tells ∙ w.tells
-        ∙ told)),
+    blocks_first sup (state a).now (in_tables (block (state c).now)) (is told) (shown told) f (refused (r.tells ∙ w.tells ∙ told)),
     not_small (state a).size (state a).now sup (is told) room,
   )
   refuses_tables room Disk s calm refused = omega (arith, refused, calm)

@@ -5,7 +5,8 @@ use Rattle.ice_system.proofs.attach.decode.Goals as goal
 pub invariant_of-result : goal.invariant_of-result
 invariant_of-result c =
     let read = c.in-Some.ensures in let own = c.in-Some-read.ensures in (
-      are_tables c.args.sup c.requires.geometry c.args.rows.now c.args.owners.now c.in-Some.names read.accepted read.rows c.live_slots-live.result c.live_slots-live.ensures.has c.live_slots-live.ensures.all
+      are_tables c.args.sup c.requires.geometry c.args.rows.now c.args.owners.now c.in-Some.names read.accepted read.rows c.live_slots-live.result
+          c.live_slots-live.ensures.has c.live_slots-live.ensures.all
           c.in-Some-read.owners own.lots own.groups own.holders own.ordinals own.accepted,
       c.requires.set,
     )
