@@ -12,9 +12,9 @@ use Rattle.ice_tables.proofs.JournalLaws.{table-range, table_blocks_rest}
 use Rattle.ice_tables.proofs.TableLaws.{tables_rest}
 use Rattle.ice_journal.specs.Blocks.{JournalExtent, ReplayBlocks}
 use Rattle.ice_journal.specs.Phases.{Idle, IsPending, RestsIdle, StandsFor}
-use Rattle.ice_journal.proofs.StandLaws.{pending_rests}
+use Rattle.ice_journal.proofs.StandLaws.{pending_rests, tables_effective, tables_idle_blocks}
 use Rattle.ice_system.specs.Attaching.{Finishes, IsReplayed}
-use Rattle.ice_system.proofs.Crashes.{stands_blocks, idle_blocks, still_has}
+use Rattle.ice_system.proofs.Crashes.{still_has}
 use Rattle.ice_system.proofs.Moving.{extent_some}
 
 -- an open journal whose header is refused leaves no tables
@@ -96,8 +96,8 @@ module _ {D : Type 0} (state : D → DiskState) (left : D → ℕ → Image → 
   replay_finishes done calm =
       let idle = done (with_bodies ts (state b).now) now_settled now_pending now_stands in record {
         closed = idle.now.gate;
-        same = idle_blocks (with_bodies ts (state b).now) (state c).now idle.now
-            ∙ sym (stands_blocks (with_bodies ts (state b).now) (state b).now now_stands) ∙ still_blocks state left a b w;
+        same = tables_idle_blocks (with_bodies ts (state b).now) (state c).now idle.now
+            ∙ sym (tables_effective (with_bodies ts (state b).now) (state b).now now_stands) ∙ still_blocks state left a b w;
         settled = calm;
       }
 
@@ -130,5 +130,5 @@ module _ {D : Type 0} (state : D → DiskState) (left : D → ℕ → Image → 
 
       leaves : (i : Image) → block i 0 ≡ block (state b).now 0 → StandsFor system_targets system_places (with_bodies ts (state b).now) i → HasTables i t
       leaves i first stands = still_has t (state b).now i first
-          (stands_blocks (with_bodies ts (state b).now) i stands ∙ sym (stands_blocks (with_bodies ts (state b).now) (state b).now now_stands))
+          (tables_effective (with_bodies ts (state b).now) i stands ∙ sym (tables_effective (with_bodies ts (state b).now) (state b).now now_stands))
           (still_tables state left a b w t has)

@@ -1,7 +1,6 @@
 -- What opening the tables of a disk answers, from the superblock to the tables.
 use Rattle.std.proofs.Common.{◌≡◌, ◌≢◌, ◌∙◌, ◌≤◌, ◌<◌, ◌+◌, ◌==◌, inl, inr, ⊎_elim, ℕ, Bool, true, false, List, length, slice_set, Option, Some, None, Result, Ok, Err, IfOk, IfErr, IsErr, refl, sym, ap, subst, arith, get_or-set_other, get_or-set_same}
 use Rattle.std.specs.Prelude.{◌⊎◌, not, IsErrAnd, nat_lt, if◌then◌else◌, IsSome}
-use Rattle.std.proofs.Math.Path.{fun_ext}
 use Rattle.std.proofs.lemmas.List.{length-set}
 use Rattle.std.proofs.lemmas.Bool.Decides.{nat_tests}
 use Rattle.ice_base.specs.Disk.{Image, DiskState, Below, Everywhere, Nowhere, block}
@@ -24,8 +23,8 @@ use Rattle.ice_system.specs.Systems.{SystemView, AreTables, tables_of, tables_wi
 use Rattle.ice_system.specs.Attaching.{Accepts, AreFour, Attaches, Finishes, IsReplayed, RefusesBlocks, RefusesDisk, RefusesJournal, RefusesTables, TooSmall}
 use Rattle.ice_system.specs.declared.fault.TablesFault.{TablesFault}
 use Rattle.ice_system.specs.declared.fault.TablesFault.TheVariants.{Small, Layout, Disk, Memory}
-use Rattle.ice_system.proofs.Mixing.{row_block, owner_block, row_block_high, owner_block_high, same_row, same_mark, same_cube_text, same_owner, same_holder, same_ordinal}
-use Rattle.ice_system.proofs.Crashes.{still_has}
+use Rattle.ice_system.proofs.Mixing.{rows_same, names_same, holders_same, ordinals_same, owners_same}
+use Rattle.ice_system.proofs.Crashes.{tables_same, still_has}
 use Rattle.ice_system.proofs.Views.{has_owners}
 use Rattle.ice_system.proofs.Finishing.{no-replay-0, still_settled, still_block, still_blocks, still_tables, still_crash}
 
@@ -131,64 +130,6 @@ live_all names live table is = (
     by s false is low high = high (grind (arith, nat_tests))
 
 -- ---- the blocks of the tables
-
--- rows are what their four blocks say
-module _ (slots : ℕ) (few : slots ≤ 16) (m n : ℕ → List ℕ) (same : (k : ℕ) → 11 ≤ k → k < 15 → n k ≡ m k) where
-  row_here : (s : ℕ) → s < 16 → n (row_block s) ≡ m (row_block s)
-  row_here s low = same (row_block s) (omega arith) (row_block_high s low)
-
-  rows_same : (s : ℕ) → row_in slots n s ≡ row_in slots m s
-  rows_same s = by (nat_lt s slots) refl
-    where
-      by : (b : Bool) → nat_lt s slots ≡ b → row_in slots n s ≡ row_in slots m s
-      by false is = rw is refl
-      by true is = let low : s < slots = grind (arith, nat_tests) in same_row m n s (row_here s (omega (arith, low, few))) slots
-
-  names_same : AreNames slots m → AreNames slots n
-  names_same is =
-      let mark : (s : ℕ) → s < 16 → _ = λ s low. same_mark m n s (row_here s low) in
-      record {
-        marks = λ s low. rw (mark s (omega (arith, low, few))) (is.marks s low);
-        texts = λ s low live. same_cube_text m n s (row_here s (omega (arith, low, few)))
-            (is.texts s low (λ none. live (mark s (omega (arith, low, few)) ∙ none)));
-        differ = λ s r less low live other. rw (row_here s (omega (arith, less, low, few)), row_here r (omega (arith, low, few)))
-            (is.differ s r less low (λ none. live (mark s (omega (arith, less, low, few)) ∙ none)) (λ none. other (mark r (omega (arith, low, few)) ∙ none)));
-        no_more = λ s high low. mark s low ∙ is.no_more s high low;
-      }
-
--- and so are owners
-module _ (m n : ℕ → List ℕ) (same : (k : ℕ) → 15 ≤ k → k < 19 → n k ≡ m k) where
-  owner_here : (g : ℕ) → g < 1024 → n (owner_block g) ≡ m (owner_block g)
-  owner_here g low = same (owner_block g) (omega arith) (owner_block_high g low)
-
-  holders_same : (groups g : ℕ) → groups ≤ 1024 → holder_in groups n g ≡ holder_in groups m g
-  holders_same groups g few = by (nat_lt g groups) refl
-    where
-      by : (b : Bool) → nat_lt g groups ≡ b → holder_in groups n g ≡ holder_in groups m g
-      by false is = rw is refl
-      by true is = let low : g < groups = grind (arith, nat_tests) in same_holder m n g (owner_here g (omega (arith, low, few))) groups
-
-  ordinals_same : (groups g : ℕ) → groups ≤ 1024 → ordinal_in groups n g ≡ ordinal_in groups m g
-  ordinals_same groups g few = by (nat_lt g groups) refl
-    where
-      by : (b : Bool) → nat_lt g groups ≡ b → ordinal_in groups n g ≡ ordinal_in groups m g
-      by false is = rw is refl
-      by true is = let low : g < groups = grind (arith, nat_tests) in same_ordinal m n g (owner_here g (omega (arith, low, few))) groups
-
-  owners_same : (t : Tables) → AreOwners t m → AreOwners t n
-  owners_same t is = record { live = is.live; groups = is.groups; no_more = λ g high low. same_owner m n g (owner_here g low) ∙ is.no_more g high low }
-
-abbrev with_parts : (slots groups : ℕ) (row : ℕ → Option Row) (holder : ℕ → Option ℕ) (ordinal : ℕ → ℕ) → Tables
-with_parts slots groups row holder ordinal = record { slots = slots; groups = groups; row = row; holder = holder; ordinal = ordinal }
-
-tables_same : (a b : Tables) → a.slots ≡ b.slots → a.groups ≡ b.groups → ((s : ℕ) → a.row s ≡ b.row s) → ((g : ℕ) → a.holder g ≡ b.holder g)
-    → ((g : ℕ) → a.ordinal g ≡ b.ordinal g) → a ≡ b
-tables_same a b slots groups row holder ordinal =
-    made a.slots b.slots a.groups b.groups a.row b.row a.holder b.holder a.ordinal b.ordinal slots groups (fun_ext row) (fun_ext holder) (fun_ext ordinal)
-  where
-    made : (a b c d : ℕ) (e f : ℕ → Option Row) (h i : ℕ → Option ℕ) (j k : ℕ → ℕ) → a ≡ b → c ≡ d → e ≡ f → h ≡ i → j ≡ k
-        → with_parts a c e h j ≡ with_parts b d f i k
-    made a b c d e f h i j k p q r s t = rw (p, q, r, s, t) refl
 
 module _ (sup : Super) (geometry : is_geometry sup ≡ true) (rows owners : List (List ℕ)) (names : NamesView)
     (accepted : AreNames sup.slots (blocks_from 11 rows))
