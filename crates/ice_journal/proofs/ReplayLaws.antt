@@ -5,6 +5,7 @@ use Rattle.ice_base.specs.Disk.{Image, DiskState, block, Everywhere}
 use Rattle.ice_base.specs.Frames.{Within, CrashStep, Settled, Sure, Moves}
 use Rattle.ice_base.specs.FrameLaws.{within_more}
 use Rattle.ice_base.proofs.Frame.{step_more, moves_more, moves_then}
+use Rattle.ice_base.specs.Lots.{LotView, is_address}
 use Rattle.ice_layout.specs.Headers.{is_open, AreTargets}
 use Rattle.ice_tables.specs.Journals.{Places, replayed, effective}
 use Rattle.ice_txn.specs.declared.set.Entry.{Entry}
@@ -12,6 +13,7 @@ use Rattle.ice_txn.specs.Sets.{address, addresses, contents, holds, over, Differ
 use Rattle.ice_txn.proofs.SetLaws.{held_entry, held_here}
 use Rattle.ice_journal.specs.Blocks.{IsPut, IsTargetPlace, JournalExtent, AreHomes, AreApart}
 use Rattle.ice_journal.specs.Phases.{HoldBlocks, HoldsSet, Idle, Full, Open, RestsIdle, StandsFor, IsPending}
+use Rattle.ice_journal.specs.Shown.{are_some, AreNoneOrTargets}
 use Rattle.ice_journal.proofs.PhaseLaws.{replayed_is, open_stands, close_stands, idle_inside}
 use Rattle.ice_journal.proofs.StepLaws.{homes_written, gate_closed, sure_at}
 
@@ -59,6 +61,11 @@ module _ (at : Places) (most : ℕ) (ts : List ℕ) (targets : AreTargets most a
 
   put_of : (k : ℕ) → IsTargetPlace at ts k → IsPut at (entries_of ts at.body i) k
   put_of k is = (slice_index ts is.0, held_here (entries_of ts at.body i) is.0 (slice_index ts is.0) (omega (arith, is.1, count_of ts at.body i)) (address_of ts at.body i is.0), is.2)
+
+-- The targets of a journal that is open are such as a replay takes.
+pub open_targets : (lot : LotView) (ts : List ℕ) → AreNoneOrTargets lot ts → are_some ts ≡ true → AreTargets 240 (is_address lot) ts
+open_targets lot ts (inl none) some = absurd (let f : are_some ts ≡ false = ap are_some none in cc)
+open_targets lot ts (inr are) some = are
 
 -- a map that is the same at the addresses
 pub stands_map : (reads : List ℕ → Option (List ℕ)) (at : Places) (m n : ℕ → List ℕ) (i : Image) → ((a : ℕ) → at.home a ≡ true → m a ≡ n a) → StandsFor reads at n i → StandsFor reads at m i

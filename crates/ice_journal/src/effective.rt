@@ -121,6 +121,13 @@ impl Effective {
         self.count > 0
     }
 
+    /// The targets, none where the gate was closed.
+    pub fn targets(&self) -> &[u32]
+        ensures { result.now ≡ self.now }
+    {
+        &self.targets[..self.count as usize]
+    }
+
     /// Which target is the address, the first where several were.
     fn find(&self, at: u32) -> Option<usize>
         ensures few { length self.now ≤ 240 }

@@ -1,4 +1,4 @@
-use Rattle.std.proofs.Common.{rules, ◌≡◌, ◌<◌, ℕ, true, length, ap, sym, ◌∙◌, arith}
+use Rattle.std.proofs.Common.{rules, ◌≡◌, ◌<◌, ℕ, List, true, length, ap, sym, ◌∙◌, arith}
 use Rattle.ice_txn.specs.Sets.{address, contents, holds}
 use Rattle.ice_txn.proofs.SetLaws.{held_here, held_at}
 use Rattle.ice_base.specs.Disk.{block}
@@ -11,6 +11,9 @@ back a b e = sym e
 
 place_of : (place : ℕ → ℕ) (h a b : ℕ) → h ≡ place a → a ≡ b → h ≡ place b
 place_of place h a b e is = e ∙ ap place is
+
+follow : (a b c : List ℕ) → a ≡ b → b ≡ c → a ≡ c
+follow a b c e f = e ∙ f
 
 pub home-home-requires : goal.home-home-requires
 home-home-requires g c =
@@ -39,7 +42,7 @@ loop-i-preserved g c =
     let held : holds entries c.address.result ≡ true = held_here entries c.loop-i.i c.address.result less (back c.address.result (address entries c.loop-i.i) c.address.ensures) in
     wrote_more g.D.Disk.state g.D.Disk.left (IsPut at entries) (λ j. at.place (address entries j)) (λ j. contents entries j) c.loop-i.i c.args.disk.now c.loop-i.disk c.write.new.self
     c.home-home.result (place_of at.place c.home-home.result c.address.result (address entries c.loop-i.i) c.home-home.ensures c.address.ensures) (c.address.result, held, c.home-home.ensures) c.loop-i.invariant c.write.ensures.within c.in_ok-write.ensures.calm
-    (λ told. c.in_ok-write.ensures.bytes told ∙ c.block.ensures)
+    (λ told. follow (block (g.D.Disk.state c.write.new.self).now c.home-home.result) c.block.result.now (contents entries c.loop-i.i) (c.in_ok-write.ensures.bytes told) c.block.ensures)
     (λ told. search rules)
     (λ j before e. c.len-i-end.ensures.differ j c.loop-i.i before less
     (c.requires.apart.home_home (address entries j) (address entries c.loop-i.i) (c.requires.homes (address entries j) (held_at entries j (omega (arith, before))))
