@@ -1,2 +1,3 @@
 mod ThroughLaws
 mod ListLaws
+mod JournaledLaws
