@@ -1,1 +1,2 @@
+mod OthersLaws
 mod ReplayLaws
