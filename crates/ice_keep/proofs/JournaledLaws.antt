@@ -1,11 +1,11 @@
--- What a commit of held blocks leaves of a lot, from what a commit to its journal leaves.
-use Rattle.std.proofs.Common.{◌≡◌, ◌⊎◌, inl, inr, ℕ, zero, suc, List, [], ◌∷◌, length, true, false, Result, OnOk, IsErrOf, refl, sym, ◌∙◌, ap, subst, arith}
+-- What a keep that holds all changes back shows of a lot at rest, and what its commit leaves of it.
+use Rattle.std.proofs.Common.{◌≡◌, inl, inr, ℕ, zero, suc, List, [], ◌∷◌, length, true, false, cond, ◌==◌, refl, sym, ◌∙◌, ap, subst, arith}
 use Rattle.std.proofs.Math.Path.{fun_ext}
-use Rattle.std.proofs.lemmas.Result.{on_ok_weaker}
 use Rattle.ice_base.specs.Disk.{Image, DiskState}
 use Rattle.ice_base.specs.Frames.{CrashStep, RestsOn, Sure, With}
-use Rattle.ice_base.specs.Lots.{LotView, inside}
+use Rattle.ice_base.specs.Lots.{LotView, homes, inside}
 use Rattle.ice_base.proofs.Frame.{leaves_refl, step_more}
+use Rattle.ice_base.proofs.LotLaws.{inside_at, inside_same}
 use Rattle.ice_layout.specs.Headers.{slot_targets}
 use Rattle.ice_tables.specs.Journals.{lot_places}
 use Rattle.ice_txn.specs.declared.set.Entry.{Entry}
@@ -15,7 +15,30 @@ use Rattle.ice_journal.specs.Blocks.{AreHomes, JournalExtent}
 use Rattle.ice_journal.specs.Phases.{BeforeOrAfter, Idle, RestsIdle}
 use Rattle.ice_journal.specs.Rests.{BlocksEither, LotAtRest, RestsLot}
 use Rattle.ice_journal.proofs.PhaseLaws.{idle_rests, idle_stands}
-use Rattle.ice_journal.proofs.RestLaws.{effective_inside, either_blocks, idle_rest, over_inside, rest_idle, rest_rests}
+use Rattle.ice_journal.proofs.RestLaws.{effective_inside, either_blocks, idle_rest, over_inside, rest_homes, rest_idle, rest_rests}
+
+-- ---- what a keep holds
+
+no_entry : (a : ℕ) → holds [] a ≡ false
+unfolding holds
+no_entry a = refl
+
+over_same : (entries : List Entry) (m n : ℕ → List ℕ) (a : ℕ) → m a ≡ n a → over entries m a ≡ over entries n a
+unfolding over
+over_same [] m n a e = e
+over_same (x ∷ entries) m n a e = ap (λ (y : List ℕ). cond (x.at == a) x.block y) (over_same entries m n a e)
+
+-- A keep that holds nothing holds addresses of the lot alone.
+pub none_homes : (lot : LotView) (entries : List Entry) → entries ≡ [] → AreHomes (lot_places lot) entries
+none_homes lot entries none a held = absurd (let f : holds entries a ≡ false = subst (λ (x : List Entry). holds x a ≡ false) (sym none) (no_entry a) in cc)
+
+-- Over a lot at rest it shows the blocks with what it holds in place.
+pub rest_map : (lot : LotView) (entries : List Entry) (map : ℕ → List ℕ) (i : Image) → AreHomes (lot_places lot) entries → LotAtRest lot map i → inside lot (over entries (homes lot i)) ≡ over entries map
+rest_map lot entries map i kept rest =
+    fun_ext (λ a. inside_same lot (over entries map) (over entries (homes lot i)) a (λ is. over_same entries (homes lot i) map a (sym (inside_at lot (homes lot i) a is) ∙ ap (λ (m : ℕ → List ℕ). m a) (rest_homes lot map i rest))))
+    ∙ over_inside lot entries map kept (effective_inside lot map i rest.blocks)
+
+-- ---- what a commit leaves
 
 -- a lot at rest has its journal at rest, and the other way round
 pub sure_idle : (lot : LotView) (map : ℕ → List ℕ) (s : DiskState) → Sure (RestsLot lot) (LotAtRest lot map) s → Sure (RestsIdle (lot_places lot)) (Idle (lot_places lot) map) s
@@ -28,9 +51,9 @@ sure_inside : (lot : LotView) (map : ℕ → List ℕ) (s : DiskState) → Sure 
 sure_inside lot map s sure = effective_inside lot map s.now sure.now.blocks
 
 -- a set and what is said of it
-module _ {D : Type 0} (state : D → DiskState) (left : D → ℕ → Image → List ℕ → Type 0) (lot : LotView) (set v : SetView) (is : set ≡ v) (homes : AreHomes (lot_places lot) v.entries) (map : ℕ → List ℕ) (a b : D) where
+module _ {D : Type 0} (state : D → DiskState) (left : D → ℕ → Image → List ℕ → Type 0) (lot : LotView) (set v : SetView) (is : set ≡ v) (kept : AreHomes (lot_places lot) v.entries) (map : ℕ → List ℕ) (a b : D) where
   homes-in : AreHomes (lot_places lot) set.entries
-  homes-in = subst (λ (x : SetView). AreHomes (lot_places lot) x.entries) (sym is) homes
+  homes-in = subst (λ (x : SetView). AreHomes (lot_places lot) x.entries) (sym is) kept
 
   pub held_crash : Sure (RestsLot lot) (LotAtRest lot map) (state a)
       → CrashStep state left (JournalExtent (lot_places lot) 240) (BeforeOrAfter (slot_targets lot) (lot_places lot) set.entries map) a b
@@ -61,10 +84,6 @@ module _ {D : Type 0} (state : D → DiskState) (left : D → ℕ → Image → 
 pub none_held : (entries : List Entry) → length entries ≡ 0 → entries ≡ []
 none_held [] e = refl
 none_held (e ∷ entries) n = absurd (omega (arith, n))
-
-no_entry : (a : ℕ) → holds [] a ≡ false
-unfolding holds
-no_entry a = refl
 
 over_nothing : (entries : List Entry) (map : ℕ → List ℕ) → entries ≡ [] → over entries map ≡ map
 over_nothing entries map none = fun_ext (λ a. over_free entries map a (subst (λ (x : List Entry). holds x a ≡ false) (sym none) (no_entry a)))

@@ -1,3 +1,3 @@
-mod ThroughLaws
+pub mod JournaledLaws
 mod ListLaws
-mod JournaledLaws
+mod ThroughLaws
