@@ -100,8 +100,8 @@ unfolding targets_now
 some_pending lot ts i e some = elim (cases_Bool (is_open (block i (gate_place lot)))) [
   | inl on ↦ record { gate = on; header = let h : slot_targets lot (block i (header_place lot)) ≡ Some ts = rw on at e in h }
   | inr off ↦ absurd (
-    let none : Some [] ≡ Some ts = rw off at e in
-    let f : are_some ts ≡ false = ap are_some (sym (ap (λ o. unwrap_or o ts) none)) in cc)
+      let none : Some [] ≡ Some ts = rw off at e in
+      let f : are_some ts ≡ false = ap are_some (sym (ap (λ o. unwrap_or o ts) none)) in cc)
 ]
 
 -- and the other way round.

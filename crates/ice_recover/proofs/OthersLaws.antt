@@ -40,4 +40,3 @@ either_kept lot entries map s t kept every = journal_kept lot (BlocksEither lot 
 pub blocks_kept : (lot : LotView) (map : ℕ → List ℕ) (s t : DiskState) → Kept (extent lot) s t
     → Every (JournalExtent (lot_places lot) 240) s (λ i. effective_of lot i ≡ Some map) → Every (JournalExtent (lot_places lot) 240) t (λ i. effective_of lot i ≡ Some map)
 blocks_kept lot map s t kept every = journal_kept lot (λ i. effective_of lot i ≡ Some map) s t kept every
-
