@@ -1,3 +1,4 @@
 pub mod Kept
-mod Only
+pub mod Only
 mod Tokens
+mod Words

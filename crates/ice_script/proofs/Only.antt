@@ -1,37 +1,49 @@
--- The commands that lines ask for so far.
-use Rattle.std.proofs.Common.{◌≡◌, ℕ, Bool, true, false, List, [], ◌∷◌, length, if◌then◌else◌, refl}
-use Rattle.std.specs.Prelude.{codes, nat_lt}
+-- The requests that lines make so far.
+use Rattle.std.proofs.Common.{◌≡◌, ℕ, Bool, true, false, List, [], ◌∷◌, length, if◌then◌else◌, subst}
+use Rattle.std.specs.Prelude.{⊤, codes, nat_lt, is_some}
 use Rattle.std.specs.Str.{bytes_eq}
-use Rattle.tree_spec.specs.Why.{Word, Long}
-use Rattle.tree_spec.specs.Lines.{Bad, Asks, Request, Cubes, asked}
-use Rattle.tree_spec.specs.declared.command.Command.{Command}
-use Rattle.tree_spec.specs.declared.command.Command.TheVariants as code
-use Rattle.ice_script.specs.Grammar.{line_of, words_of, cubes_of, tokens, longest_line}
+use Rattle.tree_spec.specs.Why.{Long, Path}
+use Rattle.tree_spec.specs.Lines.{Line, Bad, Asks, Request, Cubes, Delete, Offline, Online}
+use Rattle.ice_path.specs.Paths.{path_fault, path_names}
+use Rattle.ice_script.specs.Grammar.{line_of, words_of, word_of, bare, of_path, tokens, longest_line}
 
-of_cubes : (args : List (List ℕ)) (r : Request) → cubes_of args ≡ Asks r → r ≡ Cubes
-of_cubes [] r h = cc
-of_cubes (t ∷ args) r h = cc
+-- the requests of the words that are read so far
+abbrev pub IsRead : Request → Type 0
+IsRead Cubes = ⊤
+IsRead (Delete p) = ⊤
+IsRead (Offline p) = ⊤
+IsRead (Online p) = ⊤
+IsRead _ = ⊥
 
-of_word : (b : Bool) (args : List (List ℕ)) (r : Request) → (if b then cubes_of args else Bad Word) ≡ Asks r → r ≡ Cubes
-of_word true args r h = of_cubes args r h
-of_word false args r h = cc
+-- a line that is refused, or makes such a request
+abbrev MayBe : Line → Type 0
+MayBe (Bad why) = ⊤
+MayBe (Asks request) = IsRead request
 
-of_words : (words : List (List ℕ)) (r : Request) → words_of words ≡ Asks r → r ≡ Cubes
-of_words [] r h = cc
-of_words (word ∷ args) r h = of_word (bytes_eq word (codes "cubes")) args r h
+either : (b : Bool) (one other : Line) → MayBe one → MayBe other → MayBe (if b then one else other)
+either true one other p q = p
+either false one other p q = q
 
-of_line : (b : Bool) (words : List (List ℕ)) (r : Request) → (if b then Bad Long else words_of words) ≡ Asks r → r ≡ Cubes
-of_line true words r h = cc
-of_line false words r h = of_words words r h
+bare_may : (request : Request) → IsRead request → (args : List (List ℕ)) → MayBe (bare request args)
+bare_may request p [] = p
+bare_may request p (token ∷ args) = tt
 
--- `cubes` is all that a line can ask for
-pub asks_only_cubes : (line : List ℕ) (r : Request) → line_of line ≡ Asks r → r ≡ Cubes
-asks_only_cubes line r h = of_line (nat_lt longest_line (length line)) (tokens line) r h
+of_path_may : (request : List (List ℕ) → Request) → ((path : List (List ℕ)) → IsRead (request path)) → (args : List (List ℕ)) → MayBe (of_path request args)
+of_path_may request p [] = tt
+of_path_may request p (token ∷ []) = either (is_some (path_fault token)) (Bad Path) (Asks (request (path_names token))) tt (p (path_names token))
+of_path_may request p (token ∷ more ∷ args) = tt
 
-asked_cubes : (c : Command) → asked c ≡ Cubes → c ≡ code.Cubes
-asked_cubes code.Cubes h = refl
-asked_cubes _ h = cc
+word_may : (word : List ℕ) (args : List (List ℕ)) → MayBe (word_of word args)
+word_may word args =
+    either (bytes_eq word (codes "cubes")) _ _ (bare_may Cubes tt args)
+    (either (bytes_eq word (codes "delete")) _ _ (of_path_may Delete (λ path. tt) args)
+    (either (bytes_eq word (codes "offline")) _ _ (of_path_may Offline (λ path. tt) args)
+    (either (bytes_eq word (codes "online")) _ _ (of_path_may Online (λ path. tt) args) tt)))
 
--- and `Cubes` is the only command that a reader answers
-pub only_cubes : (line : List ℕ) (c : Command) → line_of line ≡ Asks (asked c) → c ≡ code.Cubes
-only_cubes line c h = asked_cubes c (asks_only_cubes line (asked c) h)
+words_may : (words : List (List ℕ)) → MayBe (words_of words)
+words_may [] = tt
+words_may (word ∷ args) = word_may word args
+
+-- a line makes no other request
+pub asks_read : (line : List ℕ) (request : Request) → line_of line ≡ Asks request → IsRead request
+asks_read line request is = subst MayBe is (either (nat_lt longest_line (length line)) (Bad Long) _ tt (words_may (tokens line)))

@@ -1,16 +1,14 @@
 -- The tokens of a line.
 use Rattle.std.proofs.Common.{◌≡◌, ℕ, ◌+◌, ◌<◌, ◌≤◌, Bool, true, false, not, List, [], ◌∷◌, length, take, drop, get_or, cond, refl, arith}
-use Rattle.std.specs.Prelude.{Option, Some, None, MatchOption, nat_lt, codes}
-use denote.Bor.{Bor}
+use Rattle.std.specs.Prelude.{Some, None, nat_lt}
 use Rattle.std.specs.List.{position, position_or_len, slice_split, onto_first}
-use Rattle.std.specs.Str.{bytes_eq}
 use Rattle.std.proofs.lemmas.List.Sums.{prefix_len_passes}
 use Rattle.std.proofs.lemmas.List.Splits.{slice_split_first, slice_split_none}
 use Rattle.std.proofs.lemmas.Bool.Decides.{nat_tests}
 use Rattle.std.proofs.Common.{sym}
-use Rattle.tree_spec.specs.Why.{Args, Word}
-use Rattle.tree_spec.specs.Lines.{Bad}
-use Rattle.ice_script.specs.Grammar.{tokens, is_blank, cubes_of, words_of}
+use Rattle.tree_spec.specs.Why.{Args}
+use Rattle.tree_spec.specs.Lines.{Line, Bad, Request}
+use Rattle.ice_script.specs.Grammar.{tokens, is_blank, bare, of_path}
 
 at : (n len i : ℕ) → cond (nat_lt n len) (Some n) None ≡ Some i → (n ≡ i) × (n < len)
 at n len i h = (elim (nat_lt n len) as (λ y. nat_lt n len ≡ y → cond y (Some n) None ≡ Some i → (n ≡ i) × (n < len)) [
@@ -44,23 +42,25 @@ tokens_at text i h =
     let found = at (position_or_len is_blank text) (length text) i h in
     rw (sym found.0) (slice_split_first is_blank text 0 found.1)
 
-cubes_some : (ts : List (List ℕ)) (x : ℕ) → cubes_of (onto_first x ts) ≡ Bad Args
-cubes_some [] x = refl
-cubes_some (t ∷ ts) x = refl
 
--- the tokens behind a blank are one at least
-cubes_more : (rest : List ℕ) → cubes_of (tokens rest) ≡ Bad Args
-unfolding tokens
-cubes_more [] = refl
-cubes_more (x ∷ xs) = (elim (is_blank x) as (λ y. cubes_of (cond y ([] ∷ slice_split is_blank xs) (onto_first x (slice_split is_blank xs))) ≡ Bad Args) [
-  | true ↦ refl
-  | false ↦ cubes_some (slice_split is_blank xs) x
-])
+-- what is refused of every list of some tokens is refused of the tokens of a text, of which there is one at least
+module _ (ask : List (List ℕ) → Line) (refuses : (token : List ℕ) (more : List (List ℕ)) → ask (token ∷ more) ≡ Bad Args) where
+  with_first : (ts : List (List ℕ)) (x : ℕ) → ask (onto_first x ts) ≡ Bad Args
+  with_first [] x = refuses _ _
+  with_first (t ∷ ts) x = refuses _ _
 
-pub cubes_and_more : (line word rest : List ℕ) → tokens line ≡ word ∷ tokens rest → bytes_eq word (codes "cubes") ≡ true → words_of (tokens line) ≡ Bad Args
-cubes_and_more line word rest e h = rw (e, h) (cubes_more rest)
+  pub some_token : (text : List ℕ) → ask (tokens text) ≡ Bad Args
+  unfolding tokens
+  some_token [] = refuses _ _
+  some_token (x ∷ xs) = (elim (is_blank x) as (λ y. ask (cond y ([] ∷ slice_split is_blank xs) (onto_first x (slice_split is_blank xs))) ≡ Bad Args) [
+    | true ↦ refuses _ _
+    | false ↦ with_first (slice_split is_blank xs) x
+  ])
 
--- a first token that is no command word, whatever follows
-pub no_word : (line word : List ℕ) (rest : Option (Bor (List ℕ))) → MatchOption rest (tokens line ≡ word ∷ []) (λ r. tokens line ≡ word ∷ tokens r.now) → bytes_eq word (codes "cubes") ≡ false → words_of (tokens line) ≡ Bad Word
-no_word line word None e h = rw (e, h) refl
-no_word line word (Some rest) e h = rw (e, h) refl
+-- a blank behind a word without tokens is one too many
+pub bare-more : (request : Request) (text : List ℕ) → bare request (tokens text) ≡ Bad Args
+bare-more request text = some_token (bare request) (λ token more. refl) text
+
+-- and so is a blank behind the path
+pub of_path-more : (request : List (List ℕ) → Request) (token text : List ℕ) → of_path request (token ∷ tokens text) ≡ Bad Args
+of_path-more request token text = some_token (λ ts. of_path request (token ∷ ts)) (λ token more. refl) text

@@ -1,10 +1,11 @@
 -- The grammar of lines: tokens, numbers, and the command that a line asks for, or its refusal.
-use Rattle.std.specs.Prelude.{ℕ, ◌+◌, ◌*◌, ◌-◌, ◌^◌, Bool, ◌&&◌, ◌||◌, not, ◌==◌, nat_le, nat_lt, if◌then◌else◌, List, [], ◌∷◌, length, Option, Some, None, codes, slice_index}
+use Rattle.std.specs.Prelude.{ℕ, ◌+◌, ◌*◌, ◌-◌, ◌^◌, Bool, ◌&&◌, ◌||◌, not, ◌==◌, nat_le, nat_lt, if◌then◌else◌, List, [], ◌∷◌, length, Option, Some, None, is_some, codes, slice_index}
 use Rattle.std.specs.List.{fold, list_all, slice_split}
 use Rattle.std.specs.Str.{bytes_eq}
 use Rattle.std.specs.Char.{is_ascii_digit}
-use Rattle.tree_spec.specs.Why.{Word, Args, Long}
-use Rattle.tree_spec.specs.Lines.{Line, Bad, Asks, Cubes}
+use Rattle.tree_spec.specs.Why.{Word, Args, Long, Path}
+use Rattle.tree_spec.specs.Lines.{Line, Bad, Asks, Request, Cubes, Delete, Offline, Online}
+use Rattle.ice_path.specs.Paths.{path_fault, path_names}
 
 -- the bytes of the longest line
 abbrev pub longest_line : ℕ
@@ -31,15 +32,28 @@ value_of token = fold (λ seen digit. seen * 10 + (digit - 48)) 0 token
 abbrev pub number_of : List ℕ → Option ℕ
 number_of token = if is_number token && nat_lt (value_of token) (2 ^ 32) then Some (value_of token) else None
 
--- `cubes`, without further tokens
-abbrev pub cubes_of : List (List ℕ) → Line
-cubes_of [] = Asks Cubes
-cubes_of (token ∷ tokens) = Bad Args
+-- what a path token asks for, or its refusal
+abbrev pub with_path : List ℕ → (List (List ℕ) → Line) → Line
+with_path token ask = if is_some (path_fault token) then Bad Path else ask (path_names token)
+
+-- a request without further tokens
+abbrev pub bare : Request → List (List ℕ) → Line
+bare request [] = Asks request
+bare request (token ∷ tokens) = Bad Args
+
+-- a request of a path, which is the one further token
+abbrev pub of_path : (List (List ℕ) → Request) → List (List ℕ) → Line
+of_path request [] = Bad Args
+of_path request (token ∷ []) = with_path token (λ path. Asks (request path))
+of_path request (token ∷ more ∷ tokens) = Bad Args
 
 -- one row for each command word, with what its further tokens ask for
 abbrev pub word_of : List ℕ → List (List ℕ) → Line
 word_of word args =
-    if bytes_eq word (codes "cubes") then cubes_of args
+    if bytes_eq word (codes "cubes") then bare Cubes args
+    else if bytes_eq word (codes "delete") then of_path Delete args
+    else if bytes_eq word (codes "offline") then of_path Offline args
+    else if bytes_eq word (codes "online") then of_path Online args
     else Bad Word
 
 -- the tokens of a line, of which there is always one

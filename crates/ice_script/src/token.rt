@@ -1,7 +1,8 @@
 //! The parts of a line.
-ghost use Rattle.std.specs.Prelude.{◌≡◌, ◌∷◌, [], MatchOption, ◌<◌, length, IfSome};
+ghost use Rattle.std.specs.Prelude.{◌≡◌, ◌∷◌, ◌<◌, length, IfSome};
 ghost use Rattle.std.specs.List.{position};
 ghost use Rattle.ice_script.specs.Grammar.{is_blank, tokens, number_of};
+ghost use Rattle.ice_script.specs.Reading.{tokens_behind};
 
 const DIGITS: usize = 10;
 
@@ -14,7 +15,7 @@ fn next_blank(text: &[u8]) -> Option<usize>
 
 /// The first token, and what stands behind the blank after it.
 pub(crate) fn split_token(text: &[u8]) -> (&[u8], Option<&[u8]>)
-    ensures { MatchOption result.1 (tokens text.now ≡ result.0.now ∷ []) (λ rest. tokens text.now ≡ result.0.now ∷ tokens rest.now) }
+    ensures { tokens text.now ≡ result.0.now ∷ tokens_behind result.1 }
 {
     match next_blank(text) {
         Some(end) => (&text[..end], Some(&text[end + 1..])),
