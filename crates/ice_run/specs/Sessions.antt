@@ -1,5 +1,5 @@
 -- A session under way: what was answered and given so far, and how it breaks off.
-use Rattle.std.specs.Prelude.{◌≡◌, ℕ, ◌+◌, List, [], ◌∷◌, ◌++◌, take}
+use Rattle.std.specs.Prelude.{◌≡◌, ℕ, ◌+◌, false, List, [], ◌∷◌, ◌++◌, take}
 use Rattle.ice_base.specs.Disk.{Image, DiskState, RoseBy}
 use Rattle.ice_base.specs.Frames.{LeavesOnly}
 use Rattle.ice_base.specs.declared.status.Status.{Status}
@@ -11,15 +11,25 @@ use Rattle.ice_text.specs.Text.{text}
 use Rattle.ice_script.specs.Reading.{Gathered}
 use Rattle.ice_system.specs.Systems.{SystemView}
 use Rattle.ice_run.specs.Scripts.{cut_of, ended_lines, script_lines}
-use Rattle.ice_run.specs.Runs.{Answered, AllNamed, Runs, end, lines_of, reply_texts, faults_of, IsProperPrefix, Next}
+use Rattle.ice_run.specs.Runs.{Answered, AllNamed, RunsFirst, end, lines_of, reply_texts, faults_of, IsProperPrefix, Next}
 use Rattle.ice_run.specs.Crashes.{CrashLeaves}
 use Rattle.ice_run.specs.Clauses.{IsTableOrder}
-use Rattle.ice_run.specs.Volumes.{StandsFor}
+use Rattle.ice_run.specs.Volumes.{StandsFor, HasRoom}
 
--- what was given from one state to another: the replies of a run of these lines, and the front of a further one
-pub record GaveReplies (w : World) (lines : List Line) (tail : List ℕ) (old new : DiskState) : Type 0 where
+-- no change failed late, and the disk has all blocks of the volume
+pub record IsLive (v : SystemView) (s : DiskState) : Type 0 where
+  pub live : v.failed ≡ false
+  pub room : HasRoom v s
+
+-- and the reader's line is not ended
+pub record IsReady (v : SystemView) (s : DiskState) (reader : Gathered) : Type 0 where
+  pub held : IsLive v s
+  pub open_line : reader.ended ≡ false
+
+-- what was given from one state to another: the replies to these lines, which are the first of the script, and the front of a further reply
+pub record GaveReplies (w : World) (script lines : List Line) (tail : List ℕ) (old new : DiskState) : Type 0 where
   pub steps : List Answered
-  pub runs : Runs w steps
+  pub first : RunsFirst w script steps
   pub asked : lines_of steps ≡ lines
   pub named : AllNamed steps
   pub gives : new.streams.aside ≡ old.streams.aside ++ reply_texts steps ++ tail
@@ -32,7 +42,7 @@ module _ {D : Type 0} (state : D → DiskState) (left : D → ℕ → Image → 
 
   -- These first lines of the script are answered, the volume and the disk stand for the world after them, and each crash left what it may.
   pub record SoFar (v : SystemView) (lines : List Line) (old new : D) : Type 0 where
-    pub gave : GaveReplies w lines [] (state old) (state new)
+    pub gave : GaveReplies w script lines [] (state old) (state new)
     pub stands : StandsFor v (state new) (end w gave.steps)
     pub crash : CrashesSo old new
 
@@ -40,7 +50,7 @@ module _ {D : Type 0} (state : D → DiskState) (left : D → ℕ → Image → 
   pub record CutShort (heard : List Line) (old new : D) : Type 0 where
     pub lines : List Line
     pub tail : List ℕ
-    pub gave : GaveReplies w lines tail (state old) (state new)
+    pub gave : GaveReplies w script lines tail (state old) (state new)
     pub reply : Response
     pub then : World
     pub next : Next w heard gave.steps reply then
@@ -51,7 +61,7 @@ module _ {D : Type 0} (state : D → DiskState) (left : D → ℕ → Image → 
   -- the next of these lines is a change of the tables, which failed late
   pub record FailedLate (heard : List Line) (old new : D) : Type 0 where
     pub lines : List Line
-    pub gave : GaveReplies w lines [] (state old) (state new)
+    pub gave : GaveReplies w script lines [] (state old) (state new)
     pub line : Line
     pub ahead : List Line
     pub next : heard ≡ lines_of gave.steps ++ line ∷ ahead

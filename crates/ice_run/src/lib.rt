@@ -1,6 +1,9 @@
 //! The top call: what the words ask for, done on a host.
 #![tactic(auto)]
 
+mod format;
+mod intake;
+mod session;
 mod volume;
 mod words;
 
