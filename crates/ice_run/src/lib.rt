@@ -3,6 +3,7 @@
 
 mod format;
 mod intake;
+mod serve;
 mod session;
 mod volume;
 mod words;
