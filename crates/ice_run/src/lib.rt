@@ -5,7 +5,9 @@ mod format;
 mod intake;
 mod serve;
 mod session;
+mod top;
 mod volume;
 mod words;
 
+pub use top::run;
 pub use words::image_of;

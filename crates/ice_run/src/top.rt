@@ -1,0 +1,113 @@
+//! The top call.
+ghost use Rattle.std.specs.Prelude.{◌≡◌, ◌⊎◌, ◌<◌, ◌↔◌, ℕ, List, [], true, false, None, Some};
+ghost use Rattle.ice_base.specs.Disk.{Image, Below, Everywhere};
+ghost use Rattle.ice_base.specs.Frames.{Within, LeavesOnly, Settled};
+ghost use Rattle.ice_layout.specs.Geometry.{total_blocks};
+ghost use Rattle.ice_layout.specs.Supers.{is_geometry, IsFreshImage};
+ghost use Rattle.ice_layout.specs.declared.superblock.Super.{Super as Geometry};
+ghost use Rattle.tree_spec.specs.World.{World};
+ghost use Rattle.ice_images.specs.Opening.{Opens, empty_world};
+ghost use Rattle.ice_run.specs.Behaving.{Behaves};
+ghost use Rattle.ice_run.specs.Causes.{FormatCause};
+ghost use Rattle.ice_run.specs.Clauses.{Starts, Ends};
+ghost use Rattle.ice_run.specs.Crashes.{CrashLeaves, DamageLeaves};
+ghost use Rattle.ice_run.specs.Forms.{request_of, Formats, Runs};
+ghost use Rattle.ice_run.specs.Scripts.{script_lines};
+ghost use Rattle.ice_run.specs.Tops.{FormatsImage};
+
+use crate::format::format;
+use crate::serve::serve;
+use crate::session::Session;
+use crate::volume::Volume;
+use crate::words::{Form, read_form};
+use ice_base::{Disk, Host, Status, Words};
+use ice_layout::{Super, total};
+use ice_system::{System, TablesFault};
+use std::alloc::Global;
+
+/// Makes the fresh image where the disk is large enough.
+fn format_image<D: Disk>(disk: &mut D, sup: &Super) -> Status
+    requires { is_geometry sup.now ≡ true }
+    ensures within { Within D.state D.left (Below 32) disk.old disk.new }
+    ensures cause { FormatCause sup.now result (D.state disk.old) (D.state disk.new) }
+    ensures room { (D.state disk.old).size < total_blocks sup.now.slots sup.now.groups → (result ≡ Status.Small) × (disk.new ≡ disk.old) }
+    ensures fresh { (D.state disk.old).tells ≡ true → result ≡ Status.Done
+        → IsFreshImage sup.now (D.state disk.new).now × Settled Everywhere (D.state disk.new) }
+    ensures starts { (D.state disk.old).tells ≡ true → result ≡ Status.Done → Starts (D.state disk.new) (empty_world sup.now) }
+    ensures opens { (D.state disk.old).tells ≡ true → result ≡ Status.Done → Opens (D.state disk.new).now (empty_world sup.now) }
+{
+    if disk.blocks() < total(sup.slots, sup.groups) {
+        return Status::Small;
+    }
+    match format(disk, sup) {
+        Ok(()) => Status::Done,
+        Err(_) => Status::Disk,
+    }
+}
+
+/// Opens the volume and answers the script.
+fn open_and_serve<H: Host>(alloc: Global, host: &mut H, session: &mut Session) -> Status
+    requires text { session.old.reader.text ≡ [] }
+    requires open_line { session.old.reader.ended ≡ false }
+    ensures behaves { Behaves result (H.state host.old) (H.state host.new) }
+    ensures memory { result ≡ Status.Memory → host.new ≡ host.old }
+    ensures ends { (w : World) → Starts (H.state host.old) w → Ends result w (H.state host.old) (H.state host.new) }
+    ensures crash { (w : World) → Starts (H.state host.old) w
+        → LeavesOnly H.left host.old host.new (CrashLeaves (H.state host.old).streams.aside w (script_lines (H.state host.old).streams.intake)) }
+{
+    let system = match System::attach(alloc, host) {
+        Ok(system) => system,
+        Err(TablesFault::Small) => return Status::Small,
+        Err(TablesFault::Layout(_)) => return Status::Volume,
+        Err(TablesFault::Disk) => return Status::Disk,
+        Err(TablesFault::Memory) => return Status::Memory,
+    };
+    let mut volume = Volume { system };
+    serve(host, &mut volume, session)
+}
+
+/// Makes room for a session, and runs it.
+fn run_session<H: Host>(alloc: Global, host: &mut H) -> Status
+    ensures behaves { Behaves result (H.state host.old) (H.state host.new) }
+    ensures memory { result ≡ Status.Memory → host.new ≡ host.old }
+    ensures ends { (w : World) → Starts (H.state host.old) w → Ends result w (H.state host.old) (H.state host.new) }
+    ensures crash { (w : World) → Starts (H.state host.old) w → (crashed : Image) (out : List ℕ)
+        → H.left host.new (H.state host.old).clock crashed out
+        → CrashLeaves (H.state host.old).streams.aside w (script_lines (H.state host.old).streams.intake) crashed out }
+{
+    match Session::new(alloc) {
+        Ok(session) => {
+            let mut session = session;
+            open_and_serve(alloc, host, &mut session)
+        }
+        Err(_) => Status::Memory,
+    }
+}
+
+/// Does what the words ask for on the host, and says how that ended.
+///
+/// `format IMAGE --slots S --groups N`, S of 1 to 16 and N of 1 to 1,024, writes blocks 0 to 31 of a fresh image and settles them.
+/// `run IMAGE` opens the volume and answers the script. The reply to a line is given whole before the next line is looked at.
+/// A change of the tables that failed from the first write of its gate on has no reply, and ends the session with `Disk`.
+/// Other words are `Usage`. `Usage` and `Memory` come before any call on the host.
+pub fn run<H: Host>(alloc: Global, words: &Words, host: &mut H) -> Status
+    ensures usage { (result ≡ Status.Usage) ↔ (request_of words.now ≡ None) }
+    ensures untouched { (result ≡ Status.Usage) ⊎ (result ≡ Status.Memory) → host.new ≡ host.old }
+    ensures format { (image : List ℕ) (sup : Geometry) → request_of words.now ≡ Some (Formats image sup)
+        → FormatsImage H.state H.left sup result host.old host.new }
+    ensures behaves { (image : List ℕ) → request_of words.now ≡ Some (Runs image) → Behaves result (H.state host.old) (H.state host.new) }
+    ensures ends { (image : List ℕ) (w : World) → request_of words.now ≡ Some (Runs image)
+        → Starts (H.state host.old) w → Ends result w (H.state host.old) (H.state host.new) }
+    ensures crash { (image : List ℕ) (w : World) → request_of words.now ≡ Some (Runs image)
+        → Starts (H.state host.old) w → (crashed : Image) (out : List ℕ) → H.left host.new (H.state host.old).clock crashed out
+        → CrashLeaves (H.state host.old).streams.aside w (script_lines (H.state host.old).streams.intake) crashed out }
+    ensures damage { (image : List ℕ) (w : World) → request_of words.now ≡ Some (Runs image)
+        → Starts (H.state host.old) w → (crashed : Image) (out : List ℕ) → H.left host.new (H.state host.old).clock crashed out
+        → DamageLeaves (H.state host.old).streams.aside w (script_lines (H.state host.old).streams.intake) crashed out }
+{
+    match read_form(words) {
+        Some(Form::Format { image: _, sup }) => format_image(host, &sup),
+        Some(Form::Run { image: _ }) => run_session(alloc, host),
+        None => Status::Usage,
+    }
+}
