@@ -18,7 +18,7 @@ use Rattle.ice_tables.specs.Lots.{groups_of, lot_of}
 use Rattle.ice_images.specs.Fitting.{Entry, cube_entry}
 use Rattle.ice_images.specs.Opening.{closed_state}
 use Rattle.ice_names.specs.Names.{row_at, path_at, NoneHas, marked}
-use Rattle.ice_names.specs.declared.stand.Mark.TheVariants as mark
+use Rattle.ice_names.specs.declared.mark.Mark.TheVariants as mark
 use Rattle.ice_system.specs.Systems.{SystemView, tables_of}
 use Rattle.ice_run.specs.Volumes.{EachHas, IsClosed, StandsFor, is_marked, shown_rows}
 use Rattle.ice_run.proofs.Lookups.{row_path, slot_found, slot_none, rows_shown}

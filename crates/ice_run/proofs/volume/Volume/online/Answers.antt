@@ -3,7 +3,7 @@ use Rattle.tree_spec.specs.Lines.{Asks, Online}
 use Rattle.tree_spec.specs.Own as order
 use Rattle.ice_tables.specs.Lots.{groups_of}
 use Rattle.ice_names.specs.Names.{row_at, marked}
-use Rattle.ice_names.specs.declared.stand.Mark.TheVariants as mark
+use Rattle.ice_names.specs.declared.mark.Mark.TheVariants as mark
 use Rattle.ice_system.specs.Systems.{tables_of}
 use Rattle.ice_run.specs.Volumes.{AnswersLine}
 use Rattle.ice_run.proofs.Orders.{refused, goes_online, stays_online}
