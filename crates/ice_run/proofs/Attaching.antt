@@ -1,8 +1,8 @@
 -- A volume that is opened: it stands for each world that the image opens.
-use Rattle.std.proofs.Common.{◌≡◌, ◌∙◌, ◌⊎◌, inl, inr, ⊎_elim, ◌<◌, ◌≤◌, ◌+◌, ◌*◌, ℕ, true, false, List, [], length, Option, Some, None, refl, sym, ap, subst, arith}
+use Rattle.std.proofs.Common.{◌≡◌, ◌∙◌, ◌⊎◌, inl, inr, ⊎_elim, ◌≤◌, ℕ, true, false, List, length, Option, Some, None, sym, ap, subst, arith}
 use Rattle.std.specs.Prelude.{unwrap_or}
-use Rattle.ice_base.specs.Disk.{Image, DiskState, AgreesOn, Everywhere, Outside, Below, block}
-use Rattle.ice_base.specs.Frames.{Within, LeavesOnly, With, Sure, Every, CrashStep}
+use Rattle.ice_base.specs.Disk.{Image, DiskState, Everywhere, Below, block}
+use Rattle.ice_base.specs.Frames.{Within, LeavesOnly, With, Every, CrashStep}
 use Rattle.ice_base.specs.Lots.{LotView, extent}
 use Rattle.tree_spec.specs.Records.{Cube}
 use Rattle.tree_spec.specs.World.{World}
@@ -13,17 +13,17 @@ use Rattle.ice_layout.specs.declared.superblock.LayoutFault.{LayoutFault}
 use Rattle.ice_layout.specs.declared.superblock.LayoutFault.TheVariants.{Magic, Version, Slots, Groups, Total, Zero, Names, Owners, Header}
 use Rattle.ice_tables.specs.Journals.{table_blocks}
 use Rattle.ice_tables.specs.Tables.{Tables, HasTables, AreNames, AreOwners, FirstFault, tables_in}
-use Rattle.ice_tables.specs.Lots.{IsTable, AtRest, total, lot_of}
+use Rattle.ice_tables.specs.Lots.{total, lot_of}
 use Rattle.ice_tables.proofs.TableLaws.{tables_one, tables_rest}
 use Rattle.ice_tables.proofs.LotSites.{lot_high}
 use Rattle.ice_images.specs.Fitting.{ShowCubes, Has, Fits}
-use Rattle.ice_images.specs.Opening.{Opens, OpensCube}
+use Rattle.ice_images.specs.Opening.{OpensCube}
 use Rattle.ice_images.proofs.FittingLaws.{has_rests}
 use Rattle.ice_images.proofs.OpeningLaws.{opens_fits}
 use Rattle.ice_system.specs.Attaching.{IsReplayed, Attaches, TooSmall}
 use Rattle.ice_system.specs.Systems.{SystemView, tables_of}
 use Rattle.ice_run.specs.Clauses.{Starts}
-use Rattle.ice_run.specs.Volumes.{EachHas, IsClosed, StandsFor}
+use Rattle.ice_run.specs.Volumes.{IsClosed, StandsFor}
 
 -- ---- an image with tables is no refused one
 
@@ -82,11 +82,11 @@ module _ (s : DiskState) (w : World) (whole : s.tells ≡ true → length s.now 
   not_short short = ⊎_elim
       (λ none. omega (arith, room_there, none))
       (λ small.
-        let q = small told_at_start in
-        let slots : found.tables.slots ≡ (q.0).slots = ap (λ (t : Tables). t.slots) found.has.says ∙ ap (λ (u : Super). u.slots) q.1.value in
-        let groups : found.tables.groups ≡ (q.0).groups = ap (λ (t : Tables). t.groups) found.has.says ∙ ap (λ (u : Super). u.groups) q.1.value in
-        let all : total found.tables ≡ total_blocks (q.0).slots (q.0).groups = ap (λ (n : ℕ). total_blocks n found.tables.groups) slots ∙ ap (λ (n : ℕ). total_blocks (q.0).slots n) groups in
-        omega (arith, room_there, q.2, all))
+      let q = small told_at_start in
+      let slots : found.tables.slots ≡ (q.0).slots = ap (λ (t : Tables). t.slots) found.has.says ∙ ap (λ (u : Super). u.slots) q.1.value in
+      let groups : found.tables.groups ≡ (q.0).groups = ap (λ (t : Tables). t.groups) found.has.says ∙ ap (λ (u : Super). u.groups) q.1.value in
+      let all : total found.tables ≡ total_blocks (q.0).slots (q.0).groups = ap (λ (n : ℕ). total_blocks n found.tables.groups) slots ∙ ap (λ (n : ℕ). total_blocks (q.0).slots n) groups in
+      omega (arith, room_there, q.2, all))
       short
 
   -- its tables are not refused
@@ -116,12 +116,15 @@ module _ {D : Type 0} (state : D → DiskState) (left : D → ℕ → Image → 
   pub attach_leaves : ((t : Tables) → (state a).tells ≡ true → Every (Below 19) (state a) (λ i. HasTables i t) → CrashStep state left (Below 19) (λ i. HasTables i t) a b) → LeavesOnly left a b (With (state a).streams.aside (Fits w))
   attach_leaves crash =
       let step = crash there.tables starts.settled.told (low_at_start (state a) w whole starts) in record {
-        each = λ m i out l. ⊎_elim (λ before. inl before) (λ here. ⊎_elim (λ before. inl before) (λ low. inr (record {
+        each = λ m i out l. ⊎_elim (λ before. inl before) (λ here. ⊎_elim (λ before. inl before) (λ low. inr (
+          record {
             tables = there.tables;
             has = low.0;
             room = subst (λ n. total there.tables ≤ n) (sym here.0.count) (room_there (state a) w whole starts);
             shows = there.shows;
             cubes = λ x on. has_rests (lot_of there.tables x) (w.cube x) (state a).now i
                 (λ k own. here.0.same k (high_settled there.tables x k own) (starts.settled.settled k tt)) (there.cubes x on);
-          }, low.1)) (step.leaves.each m i out l)) (within.left_new m i out l);
+          },
+          low.1,
+        )) (step.leaves.each m i out l)) (within.left_new m i out l);
       }

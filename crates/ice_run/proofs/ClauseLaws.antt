@@ -1,5 +1,5 @@
 -- That each cube answers by itself follows from a run and the image at its start.
-use Rattle.std.proofs.Common.{◌≡◌, ◌∙◌, ⊎_elim, ℕ, ◌+◌, Bool, true, false, nat_eq, List, [], ◌∷◌, ◌++◌, length, Option, None, Some, refl, sym, ap, subst, arith}
+use Rattle.std.proofs.Common.{◌≡◌, ◌∙◌, ⊎_elim, ℕ, Bool, true, false, nat_eq, List, [], ◌∷◌, ◌++◌, Option, None, Some, refl, sym, ap, subst, arith}
 use Rattle.std.specs.Prelude.{IsOk, if◌then◌else◌}
 use Rattle.ice_base.specs.Disk.{Image}
 use Rattle.ice_base.specs.Lots.{LotView}

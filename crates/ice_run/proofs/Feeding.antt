@@ -11,8 +11,8 @@ use Rattle.ice_script.specs.Grammar.{line_of}
 use Rattle.ice_script.specs.Reading.{Gathered}
 use Rattle.ice_run.specs.Scripts.{script_lines, ended_lines}
 use Rattle.ice_system.specs.Systems.{SystemView}
-use Rattle.ice_run.specs.Runs.{Answered, lines_of}
-use Rattle.ice_run.specs.Sessions.{SoFar, CutShort, FailedLate, BreaksOff, Serving}
+use Rattle.ice_run.specs.Runs.{lines_of}
+use Rattle.ice_run.specs.Sessions.{SoFar, BreaksOff, Serving}
 use Rattle.ice_run.proofs.Scripts.{next_line, ended_lines-ended, ended_lines-other, rest-ended, rest-other, last_line, no_last_line, ended_ahead}
 
 lf_of : (b : ℕ) → nat_eq b 10 ≡ true → b ≡ 10

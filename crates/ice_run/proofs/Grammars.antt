@@ -1,11 +1,10 @@
 -- A line that the grammar knows asks for a request that a volume answers.
-use Rattle.std.proofs.Common.{◌≡◌, ◌<◌, ℕ, Bool, true, false, List, [], ◌∷◌, length, subst}
+use Rattle.std.proofs.Common.{◌≡◌, ℕ, Bool, true, false, List, [], ◌∷◌, length, subst}
 use Rattle.std.specs.Prelude.{⊤, if◌then◌else◌, codes, is_some, nat_lt}
 use Rattle.std.specs.Str.{bytes_eq}
-use Rattle.tree_spec.specs.Why.{Why}
 use Rattle.tree_spec.specs.Lines.{Line, Bad, Asks, Request, Cubes, Delete, Offline, Online}
 use Rattle.ice_path.specs.Paths.{path_fault, path_names}
-use Rattle.ice_script.specs.Grammar.{tokens, with_path, bare, of_path, word_of, words_of, line_of, longest_line}
+use Rattle.ice_script.specs.Grammar.{tokens, bare, of_path, word_of, words_of, line_of, longest_line}
 use Rattle.ice_run.specs.Volumes.{IsAnswered}
 
 -- a line that asks for something asks for what is answered

@@ -1,12 +1,12 @@
 -- The slot of a path, and the rows of the cubes, as the tables show them.
-use Rattle.std.proofs.Common.{◌≡◌, ◌≢◌, ◌∙◌, inl, inr, ⊎_elim, ◌<◌, ◌≤◌, ◌+◌, ℕ, zero, suc, Bool, true, false, cond, nat_eq, List, [], ◌∷◌, ◌++◌, length, Option, Some, None, option_map, refl, sym, ap, subst, arith}
+use Rattle.std.proofs.Common.{◌≡◌, ◌≢◌, ◌∙◌, ⊎_elim, ◌<◌, ◌≤◌, ◌+◌, ℕ, zero, suc, Bool, true, false, cond, List, [], ◌∷◌, ◌++◌, length, Option, Some, None, option_map, refl, sym, ap, arith}
 use Rattle.std.specs.Prelude.{◌⊎◌, ◌&&◌, nat_lt, if◌then◌else◌}
 use Rattle.std.specs.List.{range_with_len, flat_map, find}
 use Rattle.std.proofs.lemmas.Grind.{flat_map-append}
 use Rattle.std.proofs.lemmas.Bool.{cases_eq}
 use Rattle.std.proofs.lemmas.Bool.Decides.{nat_tests}
 use Rattle.ice_base.specs.Disk.{Image, DiskState, block}
-use Rattle.tree_spec.specs.Records.{Cube, is_offline}
+use Rattle.tree_spec.specs.Records.{Cube}
 use Rattle.tree_spec.specs.Routes.{is_prefix, is_same_name, is_same_path}
 use Rattle.tree_spec.specs.World.{World, has_path, slot_with_path, cube_rows, cube_row_at}
 use Rattle.tree_spec.specs.declared.reply.CubeRow.{CubeRow}
@@ -15,7 +15,7 @@ use Rattle.ice_layout.specs.Supers.{super_of}
 use Rattle.ice_path.specs.Paths.{path_names}
 use Rattle.ice_tables.specs.Tables.{Tables, Row, HasTables, row_of, row_in, mark_at, text_at}
 use Rattle.ice_tables.specs.Lots.{groups_of}
-use Rattle.ice_images.specs.Fitting.{Entry, entry_at, cube_entry}
+use Rattle.ice_images.specs.Fitting.{Entry, cube_entry}
 use Rattle.ice_images.specs.Opening.{closed_state}
 use Rattle.ice_names.specs.Names.{row_at, path_at, path_of, NoneHas}
 use Rattle.ice_system.specs.Systems.{SystemView, tables_of}
@@ -104,9 +104,9 @@ rows_differ i t has s q p here there =
     let a = row_says (super_of (block i 0)).slots m s p (sym (ap (λ (u : Tables). path_of (u.row s)) has.says) ∙ here) in
     let b = row_says (super_of (block i 0)).slots m q p (sym (ap (λ (u : Tables). path_of (u.row q)) has.says) ∙ there) in
     ⊎_elim (λ same. same) (λ other. absurd (⊎_elim
-        (λ less. has.names.differ s q less (omega (arith, b.0, slots)) a.1 b.1 (a.2 ∙ sym b.2))
-        (λ less. has.names.differ q s less (omega (arith, a.0, slots)) b.1 a.1 (b.2 ∙ sym a.2))
-        (apart s q other))) (cases_eq s q)
+    (λ less. has.names.differ s q less (omega (arith, b.0, slots)) a.1 b.1 (a.2 ∙ sym b.2))
+    (λ less. has.names.differ q s less (omega (arith, a.0, slots)) b.1 a.1 (b.2 ∙ sym a.2))
+    (apart s q other))) (cases_eq s q)
   where
     apart : (a b : ℕ) → a ≢ b → (a < b) ⊎ (b < a)
     apart a b other = grind (arith, other)

@@ -1,5 +1,5 @@
 -- The orders to a cube that change its row, and the refusals of them.
-use Rattle.std.proofs.Common.{◌≡◌, ◌∙◌, inl, inr, ◌<◌, ℕ, Bool, true, false, List, [], length, Option, Some, None, option_map, Result, Ok, Err, refl, sym, ap, subst}
+use Rattle.std.proofs.Common.{◌≡◌, ◌∙◌, inl, inr, ◌<◌, ℕ, Bool, true, false, List, [], Option, Some, None, option_map, Ok, Err, refl, sym, ap, subst}
 use Rattle.ice_base.specs.Disk.{DiskState}
 use Rattle.tree_spec.specs.Lines.{Line, Asks, Delete, Offline, Online, Cubes}
 use Rattle.tree_spec.specs.Why as why
@@ -11,7 +11,6 @@ use Rattle.tree_spec.specs.Own.{Own, No, Yes, on_offline, on_online}
 use Rattle.tree_spec.specs.World.{World, Aim, At, aim, Step, Goes, to_cube, slot_with_path, with_slot}
 use Rattle.tree_spec.specs.declared.reply.Entry.{Entry as Entered}
 use Rattle.tree_spec.specs.declared.reply.CubeRow.{CubeRow}
-use Rattle.tree_spec.specs.declared.reply.StateWord.{StateWord}
 use Rattle.tree_spec.specs.declared.reply.StateWord.TheVariants as word
 use Rattle.ice_tables.specs.Tables.{Row}
 use Rattle.ice_tables.specs.Lots.{groups_of, lot_of}

@@ -1,12 +1,12 @@
 -- A refusal keeps what images see of a world.
-use Rattle.std.proofs.Common.{◌≡◌, ◌∙◌, inl, inr, ⊎_elim, ℕ, Bool, true, false, cond, nat_eq, Option, None, Some, Ok, Err, option_map, refl, sym, ap, subst, arith}
+use Rattle.std.proofs.Common.{◌≡◌, ◌∙◌, inl, inr, ⊎_elim, ℕ, Bool, true, false, cond, nat_eq, Option, None, Some, Err, option_map, refl, sym, ap, subst, arith}
 use Rattle.std.specs.Prelude.{◌&&◌}
 use Rattle.std.proofs.lemmas.Bool.{cases_Bool}
 use Rattle.ice_base.specs.Disk.{Image}
 use Rattle.ice_base.specs.Lots.{LotView}
 use Rattle.tree_spec.specs.Lines.{Line}
 use Rattle.tree_spec.specs.Records.{Cube, with_state, is_mounted, is_offline}
-use Rattle.tree_spec.specs.Replies.{Refused, Fault, Memory}
+use Rattle.tree_spec.specs.Replies.{Refused}
 use Rattle.tree_spec.specs.Own.{Order, OnTree, Sync, Unmount, Mount, Check, SetOffline, SetOnline, Delete, Grow, Create, Verdict, No, Yes, Says, Own, needs_disk, stops, may_fault, after_fault}
 use Rattle.tree_spec.specs.World.{World, Aim, Refuse, Listing, At, aim, Goes, Step, with_slot}
 use Rattle.tree_spec.specs.declared.reply.StateWord.{StateWord}

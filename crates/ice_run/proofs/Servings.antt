@@ -1,5 +1,5 @@
 -- A session under way: what a piece more does to it, and how it ends.
-use Rattle.std.proofs.Common.{◌≡◌, ◌∙◌, inl, inr, ⊎_elim, ◌<◌, ◌≤◌, ◌+◌, ℕ, List, [], ◌∷◌, ◌++◌, length, take, Result, Ok, Err, refl, sym, ap, subst, append_assoc, length-append, arith}
+use Rattle.std.proofs.Common.{◌≡◌, ◌∙◌, inl, inr, ⊎_elim, ◌<◌, ◌≤◌, ◌+◌, ℕ, List, [], ◌∷◌, ◌++◌, length, take, refl, sym, ap, subst, append_assoc, length-append, arith}
 use Rattle.std.proofs.Math.Seq.{take-append_seam}
 use Rattle.ice_base.specs.Disk.{Image, DiskState, Everywhere, RoseBy}
 use Rattle.ice_base.specs.Host.{SameDisk, Leaves}
@@ -11,12 +11,11 @@ use Rattle.tree_spec.specs.World.{World}
 use Rattle.ice_script.specs.Reading.{Gathered}
 use Rattle.ice_system.specs.Systems.{SystemView}
 use Rattle.ice_run.specs.Clauses.{Heard}
-use Rattle.ice_run.specs.Crashes.{CrashLeaves}
-use Rattle.ice_run.specs.Runs.{end, reply_texts, faults_of}
+use Rattle.ice_run.specs.Runs.{end, faults_of}
 use Rattle.ice_run.specs.Scripts.{script_lines, ended_lines, longest_script, cut_of}
 use Rattle.ice_run.specs.Pieces.{TookOnly, TookPiece}
-use Rattle.ice_run.specs.Sessions.{GaveReplies, SoFar, BreaksOff, Serving}
-use Rattle.ice_run.specs.Servings.{Fed, Broken, Served, asked_lines}
+use Rattle.ice_run.specs.Sessions.{SoFar, BreaksOff, Serving}
+use Rattle.ice_run.specs.Servings.{Fed, Served}
 use Rattle.ice_run.specs.Volumes.{StandsFor}
 use Rattle.ice_run.proofs.SessionLaws.{between_lines}
 use Rattle.ice_run.proofs.Standing.{stands_fits, stands_kept}

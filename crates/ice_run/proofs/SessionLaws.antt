@@ -1,19 +1,19 @@
 -- One more line of a session, answered whole or in part, or not at all.
-use Rattle.std.proofs.Common.{Result, Ok, Err, IsOk, true, ◌≡◌, ◌∙◌, ◌⊎◌, inl, inr, ⊎_elim, ◌<◌, ◌≤◌, ◌+◌, ℕ, List, [], ◌∷◌, ◌++◌, length, take, refl, sym, ap, subst, append_assoc, arith}
+use Rattle.std.proofs.Common.{Ok, Err, IsOk, ◌≡◌, ◌∙◌, ◌⊎◌, inl, inr, ⊎_elim, ◌<◌, ◌≤◌, ◌+◌, ℕ, List, [], ◌∷◌, ◌++◌, length, take, refl, sym, ap, subst, append_assoc, arith}
 use Rattle.std.proofs.lemmas.List.{take_all}
-use Rattle.ice_base.specs.Disk.{Image, DiskState, Streams, AgreesOn, Everywhere, Rose, RoseBy}
+use Rattle.ice_base.specs.Disk.{Image, DiskState, Streams, Rose, RoseBy}
 use Rattle.ice_base.specs.Frames.{LeavesOnly, With}
 use Rattle.ice_base.specs.Host.{SameDisk, Leaves, FirstOf, CutOf}
 use Rattle.tree_spec.specs.Lines.{Line}
-use Rattle.tree_spec.specs.Replies.{Response, Accepted, Refused, HasNames}
+use Rattle.tree_spec.specs.Replies.{Response, HasNames}
 use Rattle.tree_spec.specs.World.{World, Step, aim}
 use Rattle.ice_text.specs.Text.{text, closings, ended, data_lines, closing_line}
 use Rattle.ice_text.proofs.Closings.{closings-part}
 use Rattle.ice_images.specs.Fitting.{Fits}
 use Rattle.ice_system.specs.Systems.{SystemView}
 use Rattle.ice_run.specs.Clauses.{IsTableOrder}
-use Rattle.ice_run.specs.Crashes.{MayFit, Reached, After, CrashLeaves}
-use Rattle.ice_run.specs.Runs.{Answered, AllNamed, RunsFirst, Next, end, lines_of, reply_texts, fault_in, faults_of, IsProperPrefix}
+use Rattle.ice_run.specs.Crashes.{MayFit, Reached, CrashLeaves}
+use Rattle.ice_run.specs.Runs.{Answered, Next, end, lines_of, reply_texts, fault_in, faults_of, IsProperPrefix}
 use Rattle.ice_run.specs.Sessions.{GaveReplies, SoFar, CutShort, FailedLate, CrashesSo}
 use Rattle.ice_run.specs.Volumes.{StandsFor}
 use Rattle.ice_run.proofs.Refusals.{fits_refused}

@@ -1,12 +1,11 @@
 -- What a line does to the world that a volume and its disk stand for.
-use Rattle.std.proofs.Common.{◌≡◌, ◌≢◌, ◌∙◌, ◌⊎◌, inl, inr, ⊎_elim, ◌<◌, ◌≤◌, ◌+◌, ◌*◌, ℕ, Bool, true, false, cond, nat_eq, List, length, Option, Some, None, option_map, Result, Ok, Err, IsOk, OnOk, OnErr, IfOk, refl, sym, ap, subst, arith}
+use Rattle.std.proofs.Common.{◌≡◌, ◌≢◌, ◌∙◌, inl, inr, ⊎_elim, ◌≤◌, ◌+◌, ◌*◌, ℕ, true, false, cond, nat_eq, List, length, Option, option_map, Result, Ok, Err, OnOk, OnErr, IfOk, refl, sym, ap, subst, arith}
 use Rattle.std.proofs.lemmas.Bool.{cases_eq}
 use Rattle.ice_base.specs.Disk.{Image, DiskState, AgreesOn, Everywhere, Outside, Rose, RoseBy}
 use Rattle.ice_base.specs.Frames.{Within, LeavesOnly, With, Sure, Every, Kept}
 use Rattle.ice_base.specs.FrameLaws.{within_refl}
 use Rattle.ice_base.specs.Lots.{LotView, extent}
 use Rattle.ice_base.proofs.Kept.{sure_kept, every_kept, kept_within, kept_fewer}
-use Rattle.ice_base.proofs.Frame.{agrees_fewer}
 use Rattle.tree_spec.specs.Held.{RoomContent}
 use Rattle.tree_spec.specs.Lines.{Line}
 use Rattle.tree_spec.specs.Records.{Cube}
@@ -15,9 +14,7 @@ use Rattle.tree_spec.specs.Replies as reply
 use Rattle.tree_spec.specs.Own.{Order, Own}
 use Rattle.tree_spec.specs.World.{World, Aim, At, aim, Step, Goes, with_slot}
 use Rattle.tree_spec.specs.declared.reply.Refusal.{Refusal}
-use Rattle.tree_spec.specs.declared.reply.Refusal.TheVariants as code
 use Rattle.tree_spec.specs.declared.reply.Value.{Value}
-use Rattle.tree_spec.specs.declared.reply.Value.TheVariants as given
 use Rattle.ice_tables.specs.Tables.{Tables, Row, HasTables}
 use Rattle.ice_tables.specs.Lots.{IsTable, AtRest, total, lot_of, groups_of}
 use Rattle.ice_tables.proofs.TableLaws.{at_rest_rests}
@@ -25,10 +22,9 @@ use Rattle.ice_tables.proofs.LotSites.{lot_high}
 use Rattle.ice_images.specs.Fitting.{Entry, entry_at, cube_entry, ShowCubes, Has, Fits}
 use Rattle.ice_images.proofs.FittingLaws.{fits_every}
 use Rattle.ice_system.specs.Systems.{SystemView, tables_of}
-use Rattle.ice_system.specs.Changes.{IsChange, SlotBecomes, EitherTables, MovesTables, Changes}
+use Rattle.ice_system.specs.Changes.{IsChange, SlotBecomes, EitherTables, Changes}
 use Rattle.ice_system.specs.declared.stand.SystemFault.{SystemFault}
 use Rattle.ice_system.specs.declared.stand.SystemFault.TheVariants.{Before, After}
-use Rattle.ice_run.specs.declared.volume.LateFault.{LateFault}
 use Rattle.ice_run.specs.Clauses.{IsTableOrder}
 use Rattle.ice_run.specs.Crashes.{MayFit}
 use Rattle.ice_run.specs.Runs.{fault_in}
@@ -149,10 +145,13 @@ module _ {D : Type 0} (state : D → DiskState) (left : D → ℕ → Image → 
   -- each crash in the change leaves the one or the other world
   change_leaves : (t : Tables) → SlotBecomes x row groups (tables_of v) t → LeavesOnly left a b (With (state a).streams.aside (EitherTables (tables_of v) t)) → LeavesOnly left a b (With (state a).streams.aside (MayFit w line))
   change_leaves t becomes leaves = record {
-    each = λ m i out l. ⊎_elim (λ before. inl before) (λ here. ⊎_elim (λ before. inl before) (λ there. inr (⊎_elim
-        (λ old. inl (fits_with (tables_of v) w i here.0 old stands.room stands.shows stands.each))
-        (λ new. inr (Ok reply.Plain, with_slot w x to.then, step_to, refl, fits_with t (with_slot w x to.then) i here.0 new (room_new t becomes) (shows_new t becomes) (each_new t becomes)))
-        there.0, there.1)) (leaves.each m i out l)) (within.left_new m i out l);
+    each = λ m i out l. ⊎_elim (λ before. inl before) (λ here. ⊎_elim (λ before. inl before) (λ there. inr (
+      ⊎_elim
+          (λ old. inl (fits_with (tables_of v) w i here.0 old stands.room stands.shows stands.each))
+          (λ new. inr (Ok reply.Plain, with_slot w x to.then, step_to, refl, fits_with t (with_slot w x to.then) i here.0 new (room_new t becomes) (shows_new t becomes) (each_new t becomes)))
+          there.0,
+      there.1,
+    )) (leaves.each m i out l)) (within.left_new m i out l);
   }
 
   kept_lot : (t : Tables) (y : ℕ) → Kept (extent (lot_of t y)) (state a) (state b)

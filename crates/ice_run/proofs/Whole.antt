@@ -1,9 +1,8 @@
 -- A whole session, from the opening of its volume to its end.
 use Rattle.std.proofs.Common.{◌≡◌, ◌∙◌, ◌⊎◌, inl, inr, ⊎_elim, ◌<◌, ◌≤◌, ◌+◌, ℕ, zero, suc, Bool, true, false, List, [], ◌∷◌, ◌++◌, length, Option, Some, None, refl, sym, ap, subst, length-append, arith}
-use Rattle.std.specs.Prelude.{⊤}
 use Rattle.std.specs.Option.{option_map}
 use Rattle.ice_base.specs.Disk.{Image, DiskState, Streams, AgreesOn, Everywhere, Rose, RoseBy}
-use Rattle.ice_base.specs.Frames.{Within, LeavesOnly, With, Every}
+use Rattle.ice_base.specs.Frames.{LeavesOnly, With, Every}
 use Rattle.ice_base.specs.declared.status.Status.{Status}
 use Rattle.ice_base.specs.declared.status.Status.TheVariants.{Done, Usage, Memory, Source, Sink, Disk, Volume, Script, Small}
 use Rattle.ice_base.proofs.Frame.{since_start}
@@ -17,12 +16,12 @@ use Rattle.ice_images.specs.Opening.{closed_state}
 use Rattle.ice_system.specs.Systems.{SystemView}
 use Rattle.ice_tables.specs.Lots.{lot_of}
 use Rattle.ice_run.specs.Causes.{GoesOn, LoopCause}
-use Rattle.ice_run.specs.Clauses.{Starts, Ends, EndsAt, EndsWell, NoneRose, StopsAt, fault_at, finished, put_away}
+use Rattle.ice_run.specs.Clauses.{Starts, Ends, EndsAt, EndsWell, NoneRose, fault_at, finished, put_away}
 use Rattle.ice_run.specs.Crashes.{CrashLeaves}
-use Rattle.ice_run.specs.Runs.{Answered, RunsFirst, end, lines_of, reply_texts, faults_of}
-use Rattle.ice_run.specs.Scripts.{script_lines, ended_lines, longest_script}
-use Rattle.ice_run.specs.Servings.{Served, Broken}
-use Rattle.ice_run.specs.Sessions.{GaveReplies, SoFar, CutShort, FailedLate}
+use Rattle.ice_run.specs.Runs.{RunsFirst, end, reply_texts, faults_of}
+use Rattle.ice_run.specs.Scripts.{script_lines, longest_script}
+use Rattle.ice_run.specs.Servings.{Served}
+use Rattle.ice_run.specs.Sessions.{GaveReplies}
 use Rattle.ice_run.specs.Volumes.{StandsFor, IsClosed}
 use Rattle.ice_run.proofs.Answering.{answers_well}
 use Rattle.ice_run.proofs.ClauseLaws.{all_alone}

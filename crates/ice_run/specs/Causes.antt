@@ -1,6 +1,6 @@
 -- Why calls of a session and the making of an image end.
 use Rattle.std.specs.Prelude.{◌≡◌, ◌≤◌, ◌<◌, ⊤}
-use Rattle.ice_base.specs.Disk.{DiskState, Streams, Rose}
+use Rattle.ice_base.specs.Disk.{DiskState, Rose}
 use Rattle.ice_base.specs.declared.status.Status.{Status}
 use Rattle.ice_base.specs.declared.status.Status.TheVariants.{Done, Usage, Memory, Source, Sink, Disk, Volume, Script, Small}
 use Rattle.ice_layout.specs.Geometry.{total_blocks}

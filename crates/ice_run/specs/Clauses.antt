@@ -1,7 +1,7 @@
 -- The clauses of a whole session, for each world that the image opens at its start.
-use Rattle.std.specs.Prelude.{◌≡◌, ◌⊎◌, ◌≤◌, ◌<◌, ◌+◌, ℕ, ⊤, List, [], ◌∷◌, ◌++◌, length, take, Some, Ok, Err, IsOk}
+use Rattle.std.specs.Prelude.{◌≡◌, ◌⊎◌, ◌≤◌, ◌<◌, ◌+◌, ℕ, ⊤, List, [], ◌∷◌, ◌++◌, length, take, Some, Err, IsOk}
 use Rattle.std.specs.Option.{option_map}
-use Rattle.ice_base.specs.Disk.{Image, DiskState, Everywhere, Rose, RoseBy}
+use Rattle.ice_base.specs.Disk.{DiskState, Everywhere, Rose, RoseBy}
 use Rattle.ice_base.specs.Frames.{Every, Settled}
 use Rattle.ice_base.specs.declared.status.Status.{Status}
 use Rattle.ice_base.specs.declared.status.Status.TheVariants.{Done, Usage, Memory, Source, Sink, Disk, Volume, Script, Small}

@@ -1,4 +1,4 @@
-use Rattle.std.proofs.Common.{◌≡◌, ◌∙◌, ◌⊎◌, ◌+◌, ◌<◌, ◌≤◌, ℕ, ⊎_elim, arith}
+use Rattle.std.proofs.Common.{◌≡◌, ◌⊎◌, ◌+◌, ◌<◌, ◌≤◌, ℕ, ⊎_elim, arith}
 use Rattle.ice_run.specs.Scripts.{longest_script}
 use Rattle.ice_run.proofs.Servings.{took_serving, source_failed, took_more, too_long, fed_more, broke_off}
 use Rattle.ice_run.proofs.serve.pass.Goals as goal

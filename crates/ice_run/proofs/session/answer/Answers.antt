@@ -1,4 +1,4 @@
-use Rattle.std.proofs.Common.{◌≡◌, ◌∙◌, ◌++◌, ℕ, List, length, ap, subst}
+use Rattle.std.proofs.Common.{◌∙◌, ◌++◌, ℕ, List, length, ap, subst}
 use Rattle.ice_base.specs.Disk.{Everywhere}
 use Rattle.ice_base.specs.Host.{Leaves, FirstOf, CutOf}
 use Rattle.ice_base.proofs.Kept.{kept_same}

@@ -1,4 +1,4 @@
-use Rattle.std.proofs.Common.{◌≡◌, ◌∙◌, inl, inr, refl, subst, arith}
+use Rattle.std.proofs.Common.{◌≡◌, inl, refl, subst, arith}
 use Rattle.ice_base.specs.Disk.{DiskState, Rose}
 use Rattle.ice_system.specs.Attaching.{RefusesDisk}
 use Rattle.ice_system.specs.declared.stand.TablesFault.{TablesFault}

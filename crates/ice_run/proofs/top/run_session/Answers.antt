@@ -1,4 +1,4 @@
-use Rattle.std.proofs.Common.{◌≡◌, inl, refl, arith}
+use Rattle.std.proofs.Common.{refl, arith}
 use Rattle.ice_base.specs.declared.status.Status.TheVariants.{Memory}
 use Rattle.ice_run.specs.Crashes.{CrashLeaves}
 use Rattle.ice_run.specs.Scripts.{script_lines}

@@ -1,10 +1,8 @@
-use Rattle.std.proofs.Common.{◌≡◌, ◌∙◌, [], Ok, length, refl, sym, ap, subst}
-use Rattle.tree_spec.specs.Lines.{Line, Asks, Delete, Offline, Online, Cubes, asked}
-use Rattle.tree_spec.specs.Lines as request
+use Rattle.std.proofs.Common.{◌∙◌, Ok, length, refl, sym, subst}
+use Rattle.tree_spec.specs.Lines.{Asks, Cubes, asked}
 use Rattle.tree_spec.specs.declared.command.Command.{Command}
 use Rattle.tree_spec.specs.declared.reply.Value.TheVariants.{Listed}
 use Rattle.ice_run.specs.Volumes.{AnswersLine}
-use Rattle.ice_run.proofs.Lookups.{rows_shown}
 use Rattle.ice_run.proofs.Orders.{lists}
 use Rattle.ice_run.proofs.Standing.{unchanged}
 use Rattle.ice_run.proofs.volume.Volume.line.Goals as goal

@@ -1,8 +1,7 @@
-use Rattle.std.proofs.Common.{◌≡◌, ◌∙◌, ◌+◌, Option, List, [], ◌∷◌, ◌++◌, Some, None, length, refl, sym, ap, arith}
-use Rattle.ice_names.specs.Names.{row_at}
+use Rattle.std.proofs.Common.{◌∙◌, Option, List, [], ◌∷◌, ◌++◌, length, refl, sym, ap, arith}
 use Rattle.tree_spec.specs.Held.{RoomContent}
 use Rattle.tree_spec.specs.declared.reply.CubeRow.{CubeRow}
-use Rattle.ice_run.specs.Volumes.{shown_row, shown_rows, at_most_one}
+use Rattle.ice_run.specs.Volumes.{shown_rows, at_most_one}
 use Rattle.ice_run.proofs.Lookups.{shown_none, shown_more, shown_few, append_none}
 use Rattle.ice_run.proofs.volume.Volume.list.Goals as goal
 use Rattle.ice_run.proofs.volume.Volume.list.Goals.{in-Some, in_default}
