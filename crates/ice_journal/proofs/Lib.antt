@@ -1,1 +1,8 @@
+pub mod AreaLaws
 mod JournalLaws
+mod Loops
+pub mod PhaseLaws
+pub mod ReplayLaws
+mod SetLaws
+pub mod StandLaws
+pub mod StepLaws

@@ -1,2 +1,4 @@
 pub mod Areas
+pub mod Blocks
+pub mod Phases
 pub mod Shown

@@ -2,7 +2,7 @@
 use Rattle.std.specs.Prelude.{◌≡◌, ◌⊎◌, ℕ, ◌+◌, ◌==◌, Bool, false, true, if◌then◌else◌, List, [], ◌∷◌, Option, Some, refl}
 use Rattle.std.proofs.Common.{◌∙◌}
 use Rattle.ice_base.specs.Disk.{Image, DiskState, block}
-use Rattle.ice_base.specs.Lots.{LotView, place, gate_place, header_place, inside}
+use Rattle.ice_base.specs.Lots.{LotView, is_address, place, gate_place, header_place, inside}
 use Rattle.ice_base.specs.Still.{Still, still_refl, still_then}
 use Rattle.ice_layout.specs.Headers.{is_open, slot_targets, AreTargets}
 use Rattle.ice_tables.specs.Journals.{lot_places, replayed}
@@ -27,7 +27,7 @@ are_some (t ∷ ts) = true
 
 -- no targets, or 1 to 240 different addresses of the lot
 abbrev pub AreNoneOrTargets : LotView → List ℕ → Type 0
-AreNoneOrTargets lot ts = (ts ≡ []) ⊎ AreTargets lot ts
+AreNoneOrTargets lot ts = (ts ≡ []) ⊎ AreTargets 240 (is_address lot) ts
 
 -- the disk is as it was, and so is the view
 pub record SameAll {V D : Type 0} (state : D → DiskState) (left : D → ℕ → Image → List ℕ → Type 0) (v : V) (old : D) (w : V) (new : D) : Type 0 where

@@ -1,11 +1,12 @@
 //! Where a journal lies on the disk.
 ghost use Rattle.std.specs.Prelude.{◌≡◌, ◌≤◌, ◌+◌, ℕ, true};
 ghost use Rattle.ice_base.specs.Lots.{is_sited};
-ghost use Rattle.ice_journal.specs.Areas.{slot_area};
+ghost use Rattle.ice_journal.specs.Areas.{slot_area, tables_area, IsArea};
 
 use ice_base::Lot;
 
-/// Where a journal lies: its gate, its header, the first of its 240 bodies, and the slot whose journal it is.
+/// Where a journal lies: its gate, its header, the first of its bodies, and the slot whose journal it is. That of a slot has
+/// 240 bodies; that of the tables has no slot and eight bodies.
 #[derive(Clone, Copy, Debug)]
 pub struct Area {
     pub gate: u32,
@@ -25,5 +26,17 @@ pub fn area_of(lot: &Lot) -> Area
         header: lot.header(),
         body: lot.body(0),
         slot: Some(lot.slot()),
+    }
+}
+
+/// The journal of the tables: gate 1, header 2, bodies 3 to 10, no slot.
+pub fn system_area() -> Area
+    ensures { result ≡ tables_area }
+{
+    Area {
+        gate: 1,
+        header: 2,
+        body: 3,
+        slot: None,
     }
 }

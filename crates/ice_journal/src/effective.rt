@@ -3,7 +3,7 @@ ghost use Rattle.std.specs.Prelude.{◌≡◌, ◌≢◌, ◌<◌, ◌≤◌, �
 ghost use Rattle.ice_base.specs.Disk.{HasCause, block, Caused};
 ghost use Rattle.ice_base.specs.Lots.{is_address, is_sited, place, gate_place};
 ghost use Rattle.ice_base.specs.Still.{Still};
-ghost use Rattle.ice_layout.specs.Headers.{is_open, targets_said, IsProperHeader};
+ghost use Rattle.ice_layout.specs.Headers.{is_open, may_be_address, targets_said, IsProperHeader};
 ghost use Rattle.ice_tables.specs.Journals.{effective_of, lot_places};
 ghost use Rattle.ice_journal.specs.Shown.{targets_now, shown, source, are_some, AreNoneOrTargets};
 ghost use Rattle.ice_journal.specs.declared.effective.JournalFault.TheVariants.{Disk as FaultDisk, Header as FaultHeader};
@@ -63,7 +63,7 @@ impl Effective {
     }
 
     fn open(header: &Header) -> Effective
-        requires { IsProperHeader header.now }
+        requires { IsProperHeader 240 may_be_address header.now }
         ensures { result ≡ targets_said header.now }
     {
         Effective {
@@ -119,6 +119,13 @@ impl Effective {
         ensures { result ≡ are_some self.now }
     {
         self.count > 0
+    }
+
+    /// The targets, none where the gate was closed.
+    pub fn targets(&self) -> &[u32]
+        ensures { result.now ≡ self.now }
+    {
+        &self.targets[..self.count as usize]
     }
 
     /// Which target is the address, the first where several were.

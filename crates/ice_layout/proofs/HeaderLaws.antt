@@ -18,7 +18,7 @@ use Rattle.ice_layout.proofs.SuperLaws.{zero_at}
 use Rattle.ice_base.specs.Lots.{LotView, is_address}
 use Rattle.ice_base.specs.Spare.{has}
 use Rattle.ice_layout.specs.Geometry.{zero_block, between}
-use Rattle.ice_layout.specs.Headers.{is_open, gate_block, slot_magic, system_magic, is_table, all_differ, targets_in, targets_of, slot_targets, system_targets, filled, header_with, header_of, targets_said, may_be_address, AreTargets, IsProperHeader, HeaderZeros}
+use Rattle.ice_layout.specs.Headers.{is_open, gate_block, slot_magic, system_magic, is_table, all_differ, targets_in, targets_of, slot_targets, system_targets, filled, header_with, header_of, system_header_of, header_in, targets_said, may_be_address, AreTargets, IsProperHeader, HeaderZeros, HeaderFields}
 use Rattle.ice_layout.specs.declared.header.Header.{Header}
 
 -- ---- gates
@@ -181,22 +181,50 @@ differ-at (x ∷ xs) i zero h less in_it = absurd (omega arith)
 differ-at (x ∷ xs) zero (suc j) h less in_it = not-at xs x j (grind arith) (omega arith)
 differ-at (x ∷ xs) (suc i) (suc j) h less in_it = differ-at xs i j (grind arith) (omega arith) (omega arith)
 
-pub slot_targets_right : (lot : LotView) (bytes ts : List ℕ) → slot_targets lot bytes ≡ Some ts → AreTargets lot ts
-unfolding slot_targets
-slot_targets_right lot bytes ts e =
-    let i = if-some (word_at bytes 0 == slot_magic && slice_index bytes 4 == lot.slot) (targets_of 240 (is_address lot) bytes (word_at bytes 8)) ts e in
-    let f = found 240 (is_address lot) bytes (word_at bytes 8) ts i.1 in
-    let n = found-number _ _ _ _ ts f in
-    record { some = n.0; few = n.1; homes = λ k less. all-at (is_address lot) ts k f.homes less; differ = λ k l h less. differ-at ts k l f.differ h less }
+found-right : (most : ℕ) (home : ℕ → Bool) (header : List ℕ) (n : ℕ) (ts : List ℕ) → Found most home header n ts → AreTargets most home ts
+found-right most home header n ts f =
+    let few = found-number _ _ _ _ ts f in
+    record { some = few.0; few = few.1; homes = λ k less. all-at home ts k f.homes less; differ = λ k l h less. differ-at ts k l f.differ h less }
 
 -- ---- what was read
+
+take-filled : (ts : List ℕ) → take (length ts) (filled ts) ≡ ts
+take-filled ts = take-append_seam ts (replicate (240 - length ts) 0)
+
+-- a header that was made of targets says these
+pub header-said : (o : Option (List ℕ)) (h : Header) → option_map (λ ts. header_with ts) o ≡ Some h → o ≡ Some (targets_said h)
+header-said None h e = absurd (cc e)
+header-said (Some ts) h e =
+    let is : h ≡ header_with ts = some_of (header_with ts) h e in
+    ap (λ (xs : List ℕ). Some xs) (sym (take-filled ts) ∙ ap (λ (g : Header). targets_said g) (sym is))
+
+header-rest : (o : Option (List ℕ)) (h : Header) → Some h ≡ option_map (λ ts. header_with ts) o → h ≡ header_with (targets_said h)
+header-rest None h e = absurd (cc e)
+header-rest (Some ts) h e =
+    let is : h ≡ header_with ts = some_of (header_with ts) h (sym e) in
+    subst (λ (g : Header). g ≡ header_with (targets_said g)) (sym is) (ap (λ (xs : List ℕ). header_with xs) (sym (take-filled ts)))
+
+-- the targets of a header that is read are those of the bytes
+pub said_targets : (lot : LotView) (bytes : List ℕ) (h : Header) → Some h ≡ header_of lot bytes → slot_targets lot bytes ≡ Some (targets_said h)
+said_targets lot bytes h e = header-said (slot_targets lot bytes) h (sym e)
+
+-- no header was made of no targets
+pub no-header : (o : Option (List ℕ)) → option_map (λ ts. header_with ts) o ≡ None → o ≡ None
+no-header None e = refl
+no-header (Some ts) e = absurd (cc e)
+
+-- a refused header names no targets
+pub no_targets : (lot : LotView) (bytes : List ℕ) → None ≡ header_of lot bytes → slot_targets lot bytes ≡ None
+no_targets lot bytes e = no-header (slot_targets lot bytes) (sym e)
+
+-- ---- the number and the targets of a header
 
 make : ℕ → List ℕ → Header
 make n xs = record { count = n; targets = xs }
 
-may_be : (lot : LotView) (a : ℕ) → length lot.groups ≤ 64 → is_address lot a ≡ true → may_be_address a ≡ true
-unfolding is_address
-may_be lot a few is = grind (arith, nat_tests)
+all-any : (xs : List ℕ) → list_all (λ a. true) xs ≡ true
+all-any [] = refl
+all-any (x ∷ xs) = all-any xs
 
 all-may : (p q : ℕ → Bool) → ((a : ℕ) → p a ≡ true → q a ≡ true) → (xs : List ℕ) → list_all p xs ≡ true → list_all q xs ≡ true
 all-may p q weaker [] h = refl
@@ -206,79 +234,131 @@ all-may p q weaker (x ∷ xs) h =
     let rest = all-may p q weaker xs b.1 in
     grind arith
 
-take-filled : (ts : List ℕ) → take (length ts) (filled ts) ≡ ts
-take-filled ts = take-append_seam ts (replicate (240 - length ts) 0)
+-- a header is refused by its number of targets, or where two are equal
+pub refused-number : (most : ℕ) (bytes : List ℕ) (n : ℕ) → n ≡ word_at bytes 8 → between 1 most n ≡ false → None ≡ header_in most (λ a. true) bytes
+refused-number most bytes n is not_in =
+    let number : between 1 most (word_at bytes 8) ≡ false = subst (λ k. between 1 most k ≡ false) is not_in in
+    rw number refl
 
-taken : (header : List ℕ) (n : ℕ) → take n (filled (targets_in header n)) ≡ targets_in header n
-taken header n = subst (λ (k : ℕ). take k (filled (targets_in header n)) ≡ targets_in header n) (targets-length header n) (take-filled (targets_in header n))
+module _ (most : ℕ) (bytes : List ℕ) (n : ℕ) (xs : List ℕ) (is : n ≡ word_at bytes 8)
+    (fits : between 1 most n ≡ true) (all : xs ≡ filled (targets_in bytes n)) where
+  number : between 1 most (word_at bytes 8) ≡ true
+  number = subst (λ k. between 1 most k ≡ true) is fits
 
--- a header is refused by its first bytes, by its number of targets, or by these
-pub refused-mark : (lot : LotView) (bytes : List ℕ) → (word_at bytes 0 == slot_magic && slice_index bytes 4 == lot.slot) ≡ false → None ≡ header_of lot bytes
+  said : take n xs ≡ targets_in bytes n
+  said =
+      let us = targets_in bytes n in
+      ap (λ (x : List ℕ). take n x) all ∙ subst (λ (k : ℕ). take k (filled us) ≡ us) (targets-length bytes n) (take-filled us)
+
+  tested : (b : Bool) → all_differ (take n xs) ≡ b
+      → (list_all (λ a. true) (targets_in bytes (word_at bytes 8)) && all_differ (targets_in bytes (word_at bytes 8))) ≡ b
+  tested b differ =
+      let us : take n xs ≡ targets_in bytes (word_at bytes 8) = said ∙ ap (λ (k : ℕ). targets_in bytes k) is in
+      rw (all-any (targets_in bytes (word_at bytes 8))) (subst (λ (x : List ℕ). all_differ x ≡ b) us differ)
+
+  pub refused-equal : all_differ (take n xs) ≡ false → None ≡ header_in most (λ a. true) bytes
+  refused-equal equal = let test = tested false equal in rw (number, test) refl
+
+  pub counted : all_differ (take n xs) ≡ true → Some (record { count = n; targets = xs }) ≡ header_in most (λ a. true) bytes
+  unfolding make
+  counted differ =
+      let test = tested true differ in
+      let us = targets_in bytes n in
+      let long : make n xs ≡ make (length us) xs = ap (λ (k : ℕ). make k xs) (sym (targets-length bytes n)) in
+      let whole : make n xs ≡ make (length us) (filled us) = long ∙ ap (λ (x : List ℕ). make (length us) x) all in
+      rw (number, test) (ap (λ (h : Header). Some h) (whole ∙ ap (λ (k : ℕ). header_with (targets_in bytes k)) is))
+
+-- ---- their homes
+
+-- a header of another magic is refused
+pub refused-slot : (lot : LotView) (bytes : List ℕ) → (word_at bytes 0 == slot_magic && slice_index bytes 4 == lot.slot) ≡ false → None ≡ header_of lot bytes
 unfolding slot_targets
-refused-mark lot bytes mark = rw mark refl
+refused-slot lot bytes mark = rw mark refl
 
-module _ (lot : LotView) (bytes : List ℕ) (n : ℕ) (mark : (word_at bytes 0 == slot_magic && slice_index bytes 4 == lot.slot) ≡ true) (is : n ≡ word_at bytes 8) where
-  pub refused-number : between 1 240 n ≡ false → None ≡ header_of lot bytes
-  unfolding slot_targets
-  refused-number not_in = let number : between 1 240 (word_at bytes 8) ≡ false = subst (λ k. between 1 240 k ≡ false) is not_in in rw (mark, number) refl
+pub refused-system : (bytes : List ℕ) → word_at bytes 0 ≢ system_magic → None ≡ system_header_of bytes
+unfolding system_targets
+refused-system bytes other = let mark : (word_at bytes 0 == system_magic) ≡ false = grind (arith, nat_tests) in rw mark refl
 
-  module _ (xs : List ℕ) (fits : between 1 240 n ≡ true) (all : xs ≡ filled (targets_in bytes n)) where
-    number : between 1 240 (word_at bytes 8) ≡ true
-    number = subst (λ k. between 1 240 k ≡ true) is fits
+-- with its magic it says what its targets do
+pub slot-marked : (lot : LotView) (bytes : List ℕ) (o : Option Header) → (word_at bytes 0 == slot_magic && slice_index bytes 4 == lot.slot) ≡ true
+    → o ≡ header_in 240 (is_address lot) bytes → o ≡ header_of lot bytes
+unfolding slot_targets
+slot-marked lot bytes o mark e = rw mark e
 
-    targets : take n xs ≡ targets_in bytes (word_at bytes 8)
-    targets = ap (λ (x : List ℕ). take n x) all ∙ taken bytes n ∙ ap (λ (k : ℕ). targets_in bytes k) is
+pub system-marked : (bytes : List ℕ) (o : Option Header) → word_at bytes 0 ≡ system_magic
+    → o ≡ header_in 8 is_table bytes → o ≡ system_header_of bytes
+unfolding system_targets
+system-marked bytes o first e = let mark : (word_at bytes 0 == system_magic) ≡ true = rw first refl in rw mark e
 
-    pub refused-targets : (list_all (is_address lot) (take n xs) && all_differ (take n xs)) ≡ false → None ≡ header_of lot bytes
-    unfolding slot_targets
-    refused-targets wrong = let w = subst (λ (x : List ℕ). (list_all (is_address lot) x && all_differ x) ≡ false) targets wrong in rw (mark, number, w) refl
+module _ (most : ℕ) (home : ℕ → Bool) (bytes : List ℕ) where
+  -- a header is refused where its number and targets are
+  pub refused-counted : None ≡ header_in most (λ a. true) bytes → None ≡ header_in most home bytes
+  refused-counted e =
+      let us = targets_in bytes (word_at bytes 8) in
+      let none = no-header (targets_of most (λ a. true) bytes (word_at bytes 8)) (sym e) in
+      by us (between 1 most (word_at bytes 8)) (list_all (λ a. true) us) (all_differ us) (list_all home us) (all-any us) none
+    where
+      by : (us : List ℕ) (fits any differ homes : Bool) → any ≡ true → (if fits && (any && differ) then Some us else None) ≡ None
+          → None ≡ option_map (λ ts. header_with ts) (if fits && (homes && differ) then Some us else None)
+      by us false any differ homes is none = refl
+      by us true any differ false is none = refl
+      by us true any false true is none = refl
+      by us true true true true is none = absurd (cc none)
+      by us true false true true is none = absurd (cc is)
 
-    -- else it is accepted
-    accepted : (list_all (is_address lot) (take n xs) && all_differ (take n xs)) ≡ true → slot_targets lot bytes ≡ Some (targets_in bytes n)
-    unfolding slot_targets
-    accepted right = let w = subst (λ (x : List ℕ). (list_all (is_address lot) x && all_differ x) ≡ true) targets right in rw (mark, number, w) (ap (λ (k : ℕ). Some (targets_in bytes k)) (sym is))
+  module _ (header : Header) (e : Some header ≡ header_in most (λ a. true) bytes) where
+    it : Found most (λ a. true) bytes (word_at bytes 8) (targets_said header)
+    it =
+        let n = word_at bytes 8 in
+        found most (λ a. true) bytes n (targets_said header) (header-said (targets_of most (λ a. true) bytes n) header (sym e))
 
-    pub read_whole : (list_all (is_address lot) (take n xs) && all_differ (take n xs)) ≡ true → Some (record { count = n; targets = xs }) ≡ header_of lot bytes
-    unfolding make
-    read_whole right =
-        let said : make n xs ≡ make (length (targets_in bytes n)) (filled (targets_in bytes n)) = ap (λ (k : ℕ). make k xs) (sym (targets-length bytes n)) ∙ ap (λ (x : List ℕ). make (length (targets_in bytes n)) x) all in
-        rw (accepted right) (ap (λ (h : Header). Some h) said)
+    rest : header ≡ header_with (targets_said header)
+    rest = header-rest (targets_of most (λ a. true) bytes (word_at bytes 8)) header e
 
-    pub read_right : (list_all (is_address lot) (take n xs) && all_differ (take n xs)) ≡ true → AreTargets lot (take n xs)
-    read_right right =
-        let us : take n xs ≡ targets_in bytes n = ap (λ (x : List ℕ). take n x) all ∙ taken bytes n in
-        subst (λ (x : List ℕ). AreTargets lot x) (sym us) (slot_targets_right lot bytes (targets_in bytes n) (accepted right))
+    count-said : header.count ≡ word_at bytes 8
+    count-said = ap (λ (h : Header). h.count) rest ∙ (ap (λ (x : List ℕ). length x) it.are ∙ targets-length bytes (word_at bytes 8))
 
-    -- and may be written again
-    pub read_proper : length lot.groups ≤ 64 → (list_all (is_address lot) (take n xs) && all_differ (take n xs)) ≡ true → IsProperHeader (record { count = n; targets = xs })
-    unfolding make
-    read_proper few right =
-        let us : take n xs ≡ targets_in bytes n = ap (λ (x : List ℕ). take n x) all ∙ taken bytes n in
-        let tests = both (list_all (is_address lot) (take n xs)) (all_differ (take n xs)) right in
-        let back : make n xs ≡ make (length (take n xs)) (filled (take n xs)) =
-        ap (λ (k : ℕ). make k xs) (sym (ap (λ (x : List ℕ). length x) us ∙ targets-length bytes n)) ∙ ap (λ (x : List ℕ). make (length (take n xs)) x) (all ∙ ap (λ (x : List ℕ). filled x) (sym us)) in
-        record { number = fits; homes = all-may (is_address lot) may_be_address (λ a is. may_be lot a few is) (take n xs) tests.0; differ = tests.1; rest = back }
+    -- where a target is at no home
+    pub refused-homes : list_all home (targets_said header) ≡ false → None ≡ header_in most home bytes
+    refused-homes away =
+        let fits = it.number in
+        let homes : list_all home (targets_in bytes (word_at bytes 8)) ≡ false = subst (λ (x : List ℕ). list_all home x ≡ false) it.are away in
+        rw (fits, homes) refl
 
-header-said : (o : Option (List ℕ)) (h : Header) → option_map (λ ts. header_with ts) o ≡ Some h → o ≡ Some (targets_said h)
-header-said None h e = absurd (cc e)
-header-said (Some ts) h e =
-    let is : h ≡ header_with ts = header-of (header_with ts) h e in
-    ap (λ (xs : List ℕ). Some xs) (sym (take-filled ts) ∙ ap (λ (g : Header). targets_said g) (sym is))
-  where
-    header-of : (g h : Header) → Some g ≡ Some h → h ≡ g
-    header-of g h e = sym (ap (λ o. unwrap_or o g) e)
+    module _ (homes : list_all home (targets_said header) ≡ true) where
+      -- else it is accepted
+      pub accepted : Some header ≡ header_in most home bytes
+      accepted =
+          let fits = it.number in
+          let us = targets_in bytes (word_at bytes 8) in
+          let right : (list_all home us && all_differ us) ≡ true =
+          subst (λ (x : List ℕ). (list_all home x && all_differ x) ≡ true) it.are (rw homes it.differ) in
+          rw (fits, right) (ap (λ (h : Header). Some h) (rest ∙ ap (λ (x : List ℕ). header_with x) it.are))
 
--- the targets of a header that is read are those of the bytes
-pub said_targets : (lot : LotView) (bytes : List ℕ) (h : Header) → Some h ≡ header_of lot bytes → slot_targets lot bytes ≡ Some (targets_said h)
-said_targets lot bytes h e = header-said (slot_targets lot bytes) h (sym e)
+      -- and its targets are right
+      pub read_right : AreTargets most home (targets_said header)
+      read_right =
+          let ours : Found most home bytes (word_at bytes 8) (targets_said header) =
+          record { number = it.number; homes = homes; differ = it.differ; are = it.are } in
+          found-right most home bytes (word_at bytes 8) (targets_said header) ours
 
-no-header : (o : Option (List ℕ)) → option_map (λ ts. header_with ts) o ≡ None → o ≡ None
-no-header None e = refl
-no-header (Some ts) e = absurd (cc e)
+      -- and it may be written again, wherever its homes may be
+      pub read_proper : (may : ℕ → Bool) → ((a : ℕ) → home a ≡ true → may a ≡ true) → IsProperHeader most may header
+      read_proper may weaker = record {
+        number = rw count-said it.number;
+        homes = all-may home may weaker (targets_said header) homes;
+        differ = it.differ;
+        rest = rest;
+      }
 
--- a refused header names no targets
-pub no_targets : (lot : LotView) (bytes : List ℕ) → None ≡ header_of lot bytes → slot_targets lot bytes ≡ None
-no_targets lot bytes e = no-header (slot_targets lot bytes) (sym e)
+-- the count of a header is that of its targets
+pub counted-few : (most : ℕ) (n : ℕ) → most ≤ 240 → between 1 most n ≡ true → n ≤ 240
+counted-few most n few fits = grind (arith, nat_tests)
+
+-- an address of a lot is one that may be
+pub may_be : (lot : LotView) (a : ℕ) → length lot.groups ≤ 64 → is_address lot a ≡ true → may_be_address a ≡ true
+unfolding is_address
+may_be lot a few is = grind (arith, nat_tests)
 
 -- ---- what was written
 
@@ -289,8 +369,8 @@ taken-said header n xs few same =
     ext_get_or 0 (targets_in header n) (take n xs) (long ∙ sym short)
     (λ i h. let less : i < n = omega (arith, h, long) in target-at header n i less ∙ same i less ∙ sym (get_or-take n xs i 0 less))
 
-room-said : (header : Header) → IsProperHeader header → header.count ≤ 240 → length header.targets ≡ 240
-room-said header proper few =
+room-said : (most : ℕ) (may : ℕ → Bool) (header : Header) → IsProperHeader most may header → header.count ≤ 240 → length header.targets ≡ 240
+room-said most may header proper few =
     let ts = targets_said header in
     let short : length ts ≤ 240 = omega (arith, length-take header.count header.targets) in
     let whole : header.targets ≡ filled ts = ap (λ (h : Header). h.targets) proper.rest in
@@ -318,16 +398,19 @@ write-more header b0 b b' n v said others w is = (
     far k (inl h) = inl h
     far k (inr h) = inr (omega (arith, h))
 
-module _ (slot : ℕ) (header : Header) (b1 b2 b3 b4 : List ℕ) (w1 : WordSet zero_block 0 slot_magic b1) (long : length b1 ≡ 1024) (is : b2 ≡ slice_set b1 4 slot) (n : ℕ) (same : n ≡ header.count) (w3 : WordSet b2 8 n b3)
+module _ (magic byte : ℕ) (header : Header) (b1 b2 b3 b4 : List ℕ)
+    (w1 : WordSet zero_block 0 magic b1) (long : length b1 ≡ 1024) (is : b2 ≡ slice_set b1 4 byte) (n : ℕ) (same : n ≡ header.count) (w3 : WordSet b2 8 n b3)
     (targets : (i : ℕ) → i < header.count → word_at b4 (16 + 4 * i) ≡ slice_index header.targets i) (others : SameBeside 16 (4 * header.count) b3 b4) where
   set-beside : SameBeside 4 1 b1 b2
-  set-beside k apart = let e : b2 ≡ slice_set b1 4 slot = is in grind (arith, elements)
+  set-beside k apart = let e : b2 ≡ slice_set b1 4 byte = is in grind (arith, elements)
 
-  magic : word_at b4 0 ≡ slot_magic
-  magic = word-beside b3 b4 16 (4 * header.count) 0 others (inl (omega arith)) ∙ word-beside b2 b3 8 4 0 w3.others (inl (omega arith)) ∙ word-beside b1 b2 4 1 0 set-beside (inl (omega arith)) ∙ w1.value
+  mark-there : word_at b4 0 ≡ magic
+  mark-there =
+      word-beside b3 b4 16 (4 * header.count) 0 others (inl (omega arith))
+      ∙ word-beside b2 b3 8 4 0 w3.others (inl (omega arith)) ∙ word-beside b1 b2 4 1 0 set-beside (inl (omega arith)) ∙ w1.value
 
-  slot-there : slice_index b4 4 ≡ slot
-  slot-there = others 4 (inl (omega arith)) ∙ w3.others 4 (inl (omega arith)) ∙ rw is (let l = long in grind (arith, elements))
+  byte-there : slice_index b4 4 ≡ byte
+  byte-there = others 4 (inl (omega arith)) ∙ w3.others 4 (inl (omega arith)) ∙ rw is (let l = long in grind (arith, elements))
 
   count-there : word_at b4 8 ≡ header.count
   count-there = word-beside b3 b4 16 (4 * header.count) 8 others (inl (omega arith)) ∙ w3.value ∙ same
@@ -339,21 +422,54 @@ module _ (slot : ℕ) (header : Header) (b1 b2 b3 b4 : List ℕ) (w1 : WordSet z
       by (inl h) = inl h
       by (inr h) = inr (omega (arith, h))
 
-  pub header_zeros : HeaderZeros header.count b4
-  header_zeros = record {
-    slot = λ k low high. others k (inl (omega arith)) ∙ zero-before k low (inl high);
-    count = λ k low high. others k (inl high) ∙ zero-before k (omega arith) (inr low);
-    targets = λ k low. others k (inr low) ∙ zero-before k (omega arith) (inr (omega arith));
+  pub fields_written : HeaderFields magic byte header b4
+  fields_written = record {
+    mark = mark-there;
+    fifth = byte-there;
+    number = count-there;
+    targets = targets;
+    zeros = record {
+      mark = λ k low high. others k (inl (omega arith)) ∙ zero-before k low (inl high);
+      count = λ k low high. others k (inl high) ∙ zero-before k (omega arith) (inr low);
+      targets = λ k low. others k (inr low) ∙ zero-before k (omega arith) (inr (omega arith));
+    };
   }
 
-  pub header_written : IsProperHeader header → (lot : LotView) → lot.slot ≡ slot → list_all (is_address lot) (targets_said header) ≡ true → header_of lot b4 ≡ Some header
-  unfolding slot_targets
-  header_written proper lot of homes =
-      let number : between 1 240 header.count ≡ true = proper.number in
-      let few : header.count ≤ 240 = grind (arith, nat_tests) in
-      let room = room-said header proper few in
-      let us : targets_in b4 header.count ≡ targets_said header = taken-said b4 header.count header.targets (omega arith) targets in
-      let m : (word_at b4 0 == slot_magic && slice_index b4 4 == lot.slot) ≡ true = rw (magic, slot-there, of) (grind (arith, nat_tests)) in
-      let right : (list_all (is_address lot) (targets_in b4 header.count) && all_differ (targets_in b4 header.count)) ≡ true = rw (us, homes) proper.differ in
-      let all : slot_targets lot b4 ≡ Some (targets_in b4 (word_at b4 8)) = rw (m, count-there, number, right) refl in
-      rw (all, count-there, us) (ap (λ (h : Header). Some h) (sym proper.rest))
+-- the targets that were written are read back by each reader whose homes have them
+fields_read : (most magic byte : ℕ) (may home : ℕ → Bool) (header : Header) (bytes : List ℕ) → most ≤ 240
+    → IsProperHeader most may header → HeaderFields magic byte header bytes → list_all home (targets_said header) ≡ true
+    → header_in most home bytes ≡ Some header
+fields_read most magic byte may home header bytes small proper fields homes =
+    let number : between 1 most header.count ≡ true = proper.number in
+    let few : header.count ≤ 240 = counted-few most header.count small number in
+    let room = room-said most may header proper few in
+    let us : targets_in bytes header.count ≡ targets_said header = taken-said bytes header.count header.targets (omega arith) fields.targets in
+    let right : (list_all home (targets_in bytes header.count) && all_differ (targets_in bytes header.count)) ≡ true = rw (us, homes) proper.differ in
+    let count = fields.number in
+    rw (count, number, right, us) (ap (λ (h : Header). Some h) (sym proper.rest))
+
+pub slot_written : (slot : ℕ) (header : Header) (bytes : List ℕ) → IsProperHeader 240 may_be_address header → HeaderFields slot_magic slot header bytes
+    → (lot : LotView) → lot.slot ≡ slot → list_all (is_address lot) (targets_said header) ≡ true → header_of lot bytes ≡ Some header
+slot_written slot header bytes proper fields lot of homes =
+    let first = fields.mark in
+    let fifth = fields.fifth in
+    let mark : (word_at bytes 0 == slot_magic && slice_index bytes 4 == lot.slot) ≡ true = rw (first, fifth, of) (grind (arith, nat_tests)) in
+    let read = fields_read 240 slot_magic slot may_be_address (is_address lot) header bytes (omega arith) proper fields homes in
+    sym (slot-marked lot bytes (Some header) mark (sym read))
+
+pub system_written : (header : Header) (bytes : List ℕ) → IsProperHeader 8 is_table header
+    → HeaderFields system_magic 0 header bytes → system_header_of bytes ≡ Some header
+system_written header bytes proper fields =
+    let read = fields_read 8 system_magic 0 is_table is_table header bytes (omega arith) proper fields proper.homes in
+    sym (system-marked bytes (Some header) fields.mark (sym read))
+
+-- with a zero after the magic one more byte is zero
+pub system_zeros : (magic : ℕ) (header : Header) (bytes : List ℕ) → HeaderFields magic 0 header bytes → HeaderZeros 4 header.count bytes
+system_zeros magic header bytes fields = record { mark = λ k low high. by k (fourth k low) high; count = fields.zeros.count; targets = fields.zeros.targets }
+  where
+    fourth : (k : ℕ) → 4 ≤ k → (k ≡ 4) ⊎ (5 ≤ k)
+    fourth k low = grind arith
+
+    by : (k : ℕ) → (k ≡ 4) ⊎ (5 ≤ k) → k < 8 → slice_index bytes k ≡ 0
+    by k (inl e) high = ap (λ (j : ℕ). slice_index bytes j) e ∙ fields.fifth
+    by k (inr low) high = fields.zeros.mark k low high

@@ -5,7 +5,7 @@ use Rattle.std.specs.List.{range_with_len, flat_map}
 use Rattle.ice_base.specs.Fields.{word_at}
 use Rattle.ice_base.specs.Lots.{LotView, sub_address, is_address}
 use Rattle.ice_base.specs.Spare.{has}
-use Rattle.ice_layout.specs.Headers.{is_open, gate_block, slot_targets, system_targets, header_of, may_be_address}
+use Rattle.ice_layout.specs.Headers.{is_open, gate_block, slot_targets, system_targets, header_of, system_header_of, may_be_address}
 
 -- ---- gates
 
@@ -68,6 +68,10 @@ system_headers_refused = (refl, refl, refl, refl)
 said_of_a_lot : header_of lot (header 2 (word 9 ∷ sub_word ∷ word 7 ∷ [])) ≡ Some (record { count = 2; targets = 9 ∷ sub_address ∷ replicate 238 0 })
 unfolding slot_targets word_at is_address has
 said_of_a_lot = refl
+
+said_of_the_tables : system_header_of (system_header 2 (word 18 ∷ word 11 ∷ [])) ≡ Some (record { count = 2; targets = 18 ∷ 11 ∷ replicate 238 0 })
+unfolding system_targets word_at has
+said_of_the_tables = refl
 
 addresses_that_may_be : (may_be_address sub_address ≡ true) × (may_be_address 16383 ≡ true) × (may_be_address 16384 ≡ false) × (may_be_address 0 ≡ true)
 addresses_that_may_be = (refl, refl, refl, refl)

@@ -67,30 +67,46 @@ header_with ts = record { count = length ts; targets = filled ts }
 abbrev pub header_of : LotView → List ℕ → Option Header
 header_of lot bytes = option_map (λ ts. header_with ts) (slot_targets lot bytes)
 
+-- what the bytes say as the header of the tables, or None where they are refused
+abbrev pub system_header_of : List ℕ → Option Header
+system_header_of bytes = option_map (λ ts. header_with ts) (system_targets bytes)
+
+-- what the number and the targets in a block say as a header: 1 to `most` different homes, else None
+abbrev pub header_in : (most : ℕ) (home : ℕ → Bool) → List ℕ → Option Header
+header_in most home bytes = option_map (λ ts. header_with ts) (targets_of most home bytes (word_at bytes 8))
+
 -- the targets of a header
 abbrev pub targets_said : Header → List ℕ
 targets_said header = take header.count header.targets
 
--- 1 to 240 different addresses of a lot
-pub record AreTargets (lot : LotView) (ts : List ℕ) : Type 0 where
+-- 1 to `most` different homes
+pub record AreTargets (most : ℕ) (home : ℕ → Bool) (ts : List ℕ) : Type 0 where
   pub some : 1 ≤ length ts
-  pub few : length ts ≤ 240
-  pub homes : (i : ℕ) → i < length ts → is_address lot (slice_index ts i) ≡ true
+  pub few : length ts ≤ most
+  pub homes : (i : ℕ) → i < length ts → home (slice_index ts i) ≡ true
   pub differ : (i j : ℕ) → i < j → j < length ts → slice_index ts i ≢ slice_index ts j
 
 -- an address of a lot with as many groups as there may be
 abbrev pub may_be_address : ℕ → Bool
 may_be_address a = a == sub_address || nat_lt a 16384
 
--- what may be written: 1 to 240 different targets that a lot may have, and zeros after them
-pub record IsProperHeader (header : Header) : Type 0 where
-  pub number : between 1 240 header.count ≡ true
-  pub homes : list_all may_be_address (targets_said header) ≡ true
+-- what may be written: 1 to `most` different homes, and zeros after them
+pub record IsProperHeader (most : ℕ) (home : ℕ → Bool) (header : Header) : Type 0 where
+  pub number : between 1 most header.count ≡ true
+  pub homes : list_all home (targets_said header) ≡ true
   pub differ : all_differ (targets_said header) ≡ true
   pub rest : header ≡ header_with (targets_said header)
 
--- the bytes of a header of n targets in which no field stands are zero
-pub record HeaderZeros (n : ℕ) (bytes : List ℕ) : Type 0 where
-  pub slot : (k : ℕ) → 5 ≤ k → k < 8 → slice_index bytes k ≡ 0
+-- the bytes of a header of n targets in which no field stands are zero; those of its mark end at `from`
+pub record HeaderZeros (from n : ℕ) (bytes : List ℕ) : Type 0 where
+  pub mark : (k : ℕ) → from ≤ k → k < 8 → slice_index bytes k ≡ 0
   pub count : (k : ℕ) → 12 ≤ k → k < 16 → slice_index bytes k ≡ 0
   pub targets : (k : ℕ) → 16 + 4 * n ≤ k → slice_index bytes k ≡ 0
+
+-- the fields of a header: four bytes and one more that mark it, the number of targets and the targets; and zeros beside them
+pub record HeaderFields (magic byte : ℕ) (header : Header) (bytes : List ℕ) : Type 0 where
+  pub mark : word_at bytes 0 ≡ magic
+  pub fifth : slice_index bytes 4 ≡ byte
+  pub number : word_at bytes 8 ≡ header.count
+  pub targets : (i : ℕ) → i < header.count → word_at bytes (16 + 4 * i) ≡ slice_index header.targets i
+  pub zeros : HeaderZeros 5 header.count bytes

@@ -42,7 +42,6 @@ tokens_at text i h =
     let found = at (position_or_len is_blank text) (length text) i h in
     rw (sym found.0) (slice_split_first is_blank text 0 found.1)
 
-
 -- what is refused of every list of some tokens is refused of the tokens of a text, of which there is one at least
 module _ (ask : List (List ℕ) → Line) (refuses : (token : List ℕ) (more : List (List ℕ)) → ask (token ∷ more) ≡ Bad Args) where
   with_first : (ts : List (List ℕ)) (x : ℕ) → ask (onto_first x ts) ≡ Bad Args

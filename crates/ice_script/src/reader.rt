@@ -65,7 +65,7 @@ impl LineReader {
         !self.ended && !self.line.is_empty()
     }
 
-    /// The command of the line, or its refusal. The bytes of a command stay in the reader. What the reader holds afterwards is left open until `clear`.
+    /// The command of the line, or its refusal, the first that applies: Long, more than 40,000 bytes; Word, the first token is no command word; Args, another number of further tokens than the word has; Path, a token that should be a path isn't one. The bytes of a command stay in the reader. What the reader holds afterwards is left open until `clear`.
     pub fn command(&mut self) -> Result<Command<'_>, Refusal>
         ensures asks { IfOk result (λ c. line_of self.old.text ≡ Asks (asked c)) }
         ensures refuses { IfErr result (λ e. IsRefusedAs (line_of self.old.text) e) }

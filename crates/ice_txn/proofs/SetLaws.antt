@@ -1,9 +1,9 @@
 -- Looking into and putting into a list of entries.
-use Rattle.std.proofs.Common.{◌≡◌, ◌≢◌, ◌⊎◌, inl, inr, ℕ, zero, suc, ◌+◌, ◌<◌, ◌≤◌, ◌==◌, Bool, true, false, cond, List, [], ◌∷◌, ◌++◌, length, slice_set, slice_index_or, refl, sym, ap, ◌∙◌, subst, arith}
+use Rattle.std.proofs.Common.{◌≡◌, ◌≢◌, ◌⊎◌, inl, inr, ℕ, zero, suc, ◌+◌, ◌<◌, ◌≤◌, ◌==◌, Bool, true, false, cond, List, [], ◌∷◌, ◌++◌, length, slice_set, slice_index, slice_index_or, refl, sym, ap, ◌∙◌, subst, arith}
 use Rattle.std.proofs.lemmas.Bool.Decides.{nat_tests}
 use Rattle.std.specs.List.{remove}
 use Rattle.ice_txn.specs.declared.set.Entry.{Entry}
-use Rattle.ice_txn.specs.Sets.{address, holds, over, Differ}
+use Rattle.ice_txn.specs.Sets.{address, addresses, contents, holds, over, Differ}
 
 -- what is not held is not covered
 pub over_free : (entries : List Entry) (m : ℕ → List ℕ) (a : ℕ) → holds entries a ≡ false → over entries m a ≡ m a
@@ -22,7 +22,7 @@ not_held (e ∷ entries) at h =
     let f : e.at ≢ at = h zero (omega arith) in
     grind (arith, nat_tests)
 
-held_at : (entries : List Entry) (j : ℕ) → j < length entries → holds entries (address entries j) ≡ true
+pub held_at : (entries : List Entry) (j : ℕ) → j < length entries → holds entries (address entries j) ≡ true
 unfolding holds address
 held_at [] j less = absurd (omega arith)
 held_at (e ∷ entries) zero less = grind (arith, nat_tests)
@@ -206,3 +206,33 @@ over_none entries m at a h =
       | inl q ↦ let f : over entries m a ≡ m a = over_free entries m a (subst (λ x. holds entries x ≡ false) q h) in grind (arith, nat_tests)
       | inr n ↦ grind (arith, nat_tests)
     ]
+
+-- ---- entry by entry
+
+-- an address that is held is that of an entry
+pub held_entry : (entries : List Entry) (a : ℕ) → holds entries a ≡ true → (j : ℕ) × (j < length entries) × (address entries j ≡ a)
+unfolding holds address
+held_entry [] a h = absurd (cc h)
+held_entry (e ∷ entries) a h =
+    elim (e.at == a) as (λ b. (e.at == a) ≡ b → (j : ℕ) × (j < length (e ∷ entries)) × (address (e ∷ entries) j ≡ a)) [
+      | true ↦ λ q. let same : e.at ≡ a = grind (arith, nat_tests) in (zero, omega arith, same)
+      | false ↦ λ q.
+          let rest : holds entries a ≡ true = grind (arith, nat_tests) in
+          let r = held_entry entries a rest in
+          (suc r.0, omega (arith, r.1), r.2)
+    ] refl
+
+-- the block of an entry stands at its address
+pub over_here : (entries : List Entry) (m : ℕ → List ℕ) (j : ℕ) → Differ entries → j < length entries → over entries m (address entries j) ≡ contents entries j
+unfolding contents
+over_here entries m j differ less = over_at entries m j (record { at = 0; block = [] }) differ less
+
+pub count_addresses : (entries : List Entry) → length (addresses entries) ≡ length entries
+count_addresses [] = refl
+count_addresses (e ∷ entries) = ap suc (count_addresses entries)
+
+pub address_index : (entries : List Entry) (j : ℕ) → slice_index (addresses entries) j ≡ address entries j
+unfolding address
+address_index [] j = refl
+address_index (e ∷ entries) zero = refl
+address_index (e ∷ entries) (suc j) = address_index entries j

@@ -1,5 +1,5 @@
 -- Blocks by their addresses.
-use Rattle.std.specs.Prelude.{◌≢◌, ◌≤◌, ◌<◌, ◌^◌, ◌==◌, ℕ, Bool, true, false, cond, List, [], ◌∷◌, length, slice_index_or}
+use Rattle.std.specs.Prelude.{◌≢◌, ◌≤◌, ◌<◌, ◌^◌, ◌==◌, ℕ, Bool, true, false, cond, List, [], ◌∷◌, length, slice_index_or, map}
 use Rattle.ice_txn.specs.declared.set.Entry.{Entry}
 
 -- the entries of a set, and how many there may be
@@ -14,6 +14,10 @@ address entries j = (slice_index_or entries j (record { at = 0; block = [] })).a
 -- the block of entry j
 unfoldable pub contents : List Entry → ℕ → List ℕ
 contents entries j = (slice_index_or entries j (record { at = 0; block = [] })).block
+
+-- the addresses, in the order of the entries
+abbrev pub addresses : List Entry → List ℕ
+addresses entries = map (λ (e : Entry). e.at) entries
 
 -- whether an entry has the address
 unfoldable pub holds : List Entry → ℕ → Bool

@@ -1,6 +1,6 @@
 //! A finite map from addresses to blocks that takes no memory once it is made.
 ghost use Rattle.std.specs.Prelude.{◌≡◌, ◌<◌, ◌+◌, ◌-◌, ◌==◌, cond, true, false, [], List, ℕ, length, MatchOption, IfOk};
-ghost use Rattle.ice_txn.specs.Sets.{address, contents, holds, over};
+ghost use Rattle.ice_txn.specs.Sets.{address, contents, holds, over, Differ};
 
 use ice_base::Block;
 use std::alloc::{AllocError, Global};
@@ -53,9 +53,10 @@ impl WriteSet {
         Ok(WriteSet { entries, most })
     }
 
-    /// How many blocks it has.
+    /// How many blocks it has. No two of them have one address.
     pub fn len(&self) -> u32
-        ensures { result ≡ length self.now.entries }
+        ensures len { result ≡ length self.now.entries }
+        ensures differ { Differ self.now.entries }
     {
         self.entries.len() as u32
     }

@@ -12,7 +12,7 @@ use std::test::Fail;
 
 /// The lot of slot 1 with group 0, in an image of two slots and one group.
 #[tactic(auto, unfolding(ice_base::specs::Lots::is_sited, ice_base::specs::Lots::lies_below))]
-fn lot() -> Lot
+pub fn lot() -> Lot
     ensures sited { is_sited result 800 ≡ true }
     ensures groups { length result.groups ≡ 1 }
 {
@@ -22,7 +22,7 @@ fn lot() -> Lot
 }
 
 /// A block that begins with these bytes; the others are zeros.
-fn block(first: &[u8]) -> Block {
+pub fn block(first: &[u8]) -> Block {
     let mut block = [0; 1024];
     for (i, byte) in first.iter().enumerate() {
         if i < 1024 {
@@ -33,7 +33,7 @@ fn block(first: &[u8]) -> Block {
 }
 
 /// The header of slot 1 with the targets 0xFFFFFFFF and 9.
-const HEADER: [u8; 24] = [
+pub const HEADER: [u8; 24] = [
     0x49, 0x63, 0x65, 0x4a, 1, 0, 0, 0, 2, 0, 0, 0, 0, 0, 0, 0, 0xff, 0xff, 0xff, 0xff, 9, 0, 0, 0,
 ];
 
@@ -143,7 +143,7 @@ fn set(rt: &impl Abort, host: &mut MemHost, at: u32, block: &Block) {
 }
 
 /// A host of 800 such blocks.
-fn host(rt: &impl Abort, alloc: Global, gate: u8, header: &Block) -> Result<MemHost, Fail> {
+pub fn host(rt: &impl Abort, alloc: Global, gate: u8, header: &Block) -> Result<MemHost, Fail> {
     let mut host = MemHost::new(alloc, 800)?;
     for at in 0..800_u32 {
         set(rt, &mut host, at, &start(at, gate, header));
@@ -152,7 +152,7 @@ fn host(rt: &impl Abort, alloc: Global, gate: u8, header: &Block) -> Result<MemH
 }
 
 /// The number of the block that the view shows at an address.
-fn seen<D: Disk>(
+pub fn seen<D: Disk>(
     rt: &impl Abort,
     view: &mut Effective,
     disk: &mut D,
@@ -164,7 +164,7 @@ fn seen<D: Disk>(
     Ok(bytes[0] as u32 + 256 * bytes[1] as u32)
 }
 
-fn read<D: Disk>(rt: &impl Abort, disk: &mut D) -> Result<Effective, JournalFault> {
+pub fn read<D: Disk>(rt: &impl Abort, disk: &mut D) -> Result<Effective, JournalFault> {
     assert!(rt; disk.blocks() == 800);
     Effective::read(disk, &lot())
 }

@@ -21,14 +21,14 @@ pub returns-in_err-path-2 : goal.returns-in_err-path-2
 returns-in_err-path-2 c =
     let p = err_from_is_err_and c.from_residual-in_err-path-2.result c.from_residual-in_err-path-2.ensures.1 in
     let row = of_offline c.args.word.now (tokens_behind c.args.rest) (sym c.is_word.ensures ∙ c.if-is_word.false) (sym c.is_word-2.ensures ∙ c.if-is_word-2.false)
-        (sym c.is_word-3.ensures ∙ c.if-is_word-3.true) in
+    (sym c.is_word-3.ensures ∙ c.if-is_word-3.true) in
     rw (p.1, p.2) (refused-same _ _ _ row (c.in_err-path-2.ensures Offline))
 
 pub returns-in_err-path-3 : goal.returns-in_err-path-3
 returns-in_err-path-3 c =
     let p = err_from_is_err_and c.from_residual-in_err-path-3.result c.from_residual-in_err-path-3.ensures.1 in
     let row = of_online c.args.word.now (tokens_behind c.args.rest) (sym c.is_word.ensures ∙ c.if-is_word.false) (sym c.is_word-2.ensures ∙ c.if-is_word-2.false)
-        (sym c.is_word-3.ensures ∙ c.if-is_word-3.false) (sym c.is_word-4.ensures ∙ c.if-is_word-4.true) in
+    (sym c.is_word-3.ensures ∙ c.if-is_word-3.false) (sym c.is_word-4.ensures ∙ c.if-is_word-4.true) in
     rw (p.1, p.2) (refused-same _ _ _ row (c.in_err-path-3.ensures Online))
 
 pub returns : goal.returns

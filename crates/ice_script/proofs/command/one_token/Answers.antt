@@ -10,8 +10,7 @@ returns-in-None-clause-other c = λ request. (Args, ap (λ rest. of_path request
 
 pub returns-in_default-Some-clause-other : goal.returns-in_default-Some-clause-other
 returns-in_default-Some-clause-other c = λ request.
-    let first = c.split_token.result.0.now in
-    (
+    let first = c.split_token.result.0.now in (
       Args,
       ap (λ rest. of_path request (tokens_behind rest)) c.in-Some.is ∙ ap (of_path request) c.split_token.ensures
           ∙ ap (λ rest. of_path request (first ∷ tokens_behind rest)) c.in_default-Some.is-1 ∙ of_path-more request first c.in_default-Some.field-0-1.now,

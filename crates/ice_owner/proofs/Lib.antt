@@ -1,0 +1,8 @@
+mod Held
+mod Kept
+mod MarkLaws
+mod Gathering
+mod Filters
+mod Entries
+mod Reading
+pub mod Laws

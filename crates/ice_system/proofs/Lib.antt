@@ -1,0 +1,11 @@
+mod Mixing
+mod Crashes
+mod Moving
+mod Committing
+mod Views
+mod Gathering
+mod Planning
+mod Changing
+mod Reserving
+mod Opening
+mod Finishing

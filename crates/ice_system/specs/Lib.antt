@@ -1,0 +1,5 @@
+pub mod Says
+pub mod Systems
+pub mod Plans
+pub mod Changes
+pub mod Attaching
