@@ -15,6 +15,7 @@ use Rattle.ice_tables.specs.Journals.{table_blocks}
 use Rattle.ice_tables.specs.Tables.{Tables, HasTables, AreNames, AreOwners, FirstFault, tables_in}
 use Rattle.ice_tables.specs.Lots.{total, lot_of}
 use Rattle.ice_tables.proofs.TableLaws.{tables_one, tables_rest}
+use Rattle.ice_tables.proofs.FaultLaws.{with_tables}
 use Rattle.ice_tables.proofs.LotSites.{lot_high}
 use Rattle.ice_images.specs.Fitting.{ShowCubes, Has, Fits}
 use Rattle.ice_images.specs.Opening.{OpensCube}
@@ -24,28 +25,6 @@ use Rattle.ice_system.specs.Attaching.{IsReplayed, Attaches, TooSmall}
 use Rattle.ice_system.specs.Systems.{SystemView, tables_of}
 use Rattle.ice_run.specs.Clauses.{Starts}
 use Rattle.ice_run.specs.Volumes.{IsClosed, StandsFor}
-
--- ---- an image with tables is no refused one
-
-same_blocks : (image : Image) (m k : ℕ → List ℕ) → table_blocks image ≡ Some m → table_blocks image ≡ Some k → m ≡ k
-same_blocks image m k a b = ap (λ o. unwrap_or o m) (sym a ∙ b)
-
-no_fault : (image : Image) (t : Tables) (f : LayoutFault) → HasTables image t → ¬ FirstFault image f
-no_fault image t Magic h is = cc (h.superblock, is)
-no_fault image t Version h is = cc (h.superblock, is)
-no_fault image t Slots h is = cc (h.superblock, is)
-no_fault image t Groups h is = cc (h.superblock, is)
-no_fault image t Total h is = cc (h.superblock, is)
-no_fault image t Zero h is = cc (h.superblock, is)
-no_fault image t Header h is = cc (h.effective, is.1)
-no_fault image t Names h is =
-    let names = subst (λ (u : Tables). AreNames u.slots h.blocks) h.says h.names in
-    let same = same_blocks image h.blocks (is.1).blocks h.effective (is.1).effective in
-    (is.1).names (subst (λ (m : ℕ → List ℕ). AreNames (super_of (block image 0)).slots m) same names)
-no_fault image t Owners h is =
-    let owners = subst (λ (u : Tables). AreOwners u h.blocks) h.says h.owners in
-    let same = same_blocks image h.blocks (is.1).blocks h.effective (is.1).effective in
-    (is.1).owners (subst (λ (m : ℕ → List ℕ). AreOwners (tables_in (super_of (block image 0)) m) m) same owners)
 
 high_settled : (t : Tables) (x k : ℕ) → extent (lot_of t x) k → ¬ IsReplayed k
 high_settled t x k own low = let high = lot_high t x k own in ⊎_elim (λ gate. absurd (omega (arith, high, gate))) (λ table. omega (arith, high, table.1)) low
@@ -82,16 +61,15 @@ module _ (s : DiskState) (w : World) (whole : s.tells ≡ true → length s.now 
   not_short short = ⊎_elim
       (λ none. omega (arith, room_there, none))
       (λ small.
-      let q = small told_at_start in
-      let slots : found.tables.slots ≡ (q.0).slots = ap (λ (t : Tables). t.slots) found.has.says ∙ ap (λ (u : Super). u.slots) q.1.value in
-      let groups : found.tables.groups ≡ (q.0).groups = ap (λ (t : Tables). t.groups) found.has.says ∙ ap (λ (u : Super). u.groups) q.1.value in
-      let all : total found.tables ≡ total_blocks (q.0).slots (q.0).groups = ap (λ (n : ℕ). total_blocks n found.tables.groups) slots ∙ ap (λ (n : ℕ). total_blocks (q.0).slots n) groups in
-      omega (arith, room_there, q.2, all))
+        let q = small told_at_start in
+        let slots : found.tables.slots ≡ (super_of (block s.now 0)).slots = ap (λ (t : Tables). t.slots) found.has.says in
+        let groups : found.tables.groups ≡ (super_of (block s.now 0)).groups = ap (λ (t : Tables). t.groups) found.has.says in
+        omega (arith, room_there, q.1, slots, groups))
       short
 
   -- its tables are not refused
   pub not_refused : (f : LayoutFault) → (s.tells ≡ true → FirstFault s.now f × (TooSmall s.size s.now → ⊥)) → ⊥
-  not_refused f refused = no_fault s.now found.tables f found.has (refused told_at_start).0
+  not_refused f refused = with_tables s.now found.tables f found.has (refused told_at_start).0
 
 module _ {D : Type 0} (state : D → DiskState) (left : D → ℕ → Image → List ℕ → Type 0) (w : World) (a b : D) (whole : (state a).tells ≡ true → length (state a).now ≡ (state a).size) (starts : Starts (state a) w)
     (within : Within state left IsReplayed a b) where

@@ -22,9 +22,10 @@ use Rattle.ice_tables.proofs.LotSites.{lot_high}
 use Rattle.ice_images.specs.Fitting.{Entry, entry_at, cube_entry, ShowCubes, Has, Fits}
 use Rattle.ice_images.proofs.FittingLaws.{fits_every}
 use Rattle.ice_system.specs.Systems.{SystemView, tables_of}
-use Rattle.ice_system.specs.Changes.{IsChange, SlotBecomes, EitherTables, Changes}
-use Rattle.ice_system.specs.declared.stand.SystemFault.{SystemFault}
-use Rattle.ice_system.specs.declared.stand.SystemFault.TheVariants.{Before, After}
+use Rattle.ice_system.specs.Says.{IsChange, EitherTables}
+use Rattle.ice_system.specs.Changes.{SlotBecomes, Changes}
+use Rattle.ice_system.specs.declared.fault.SystemFault.{SystemFault}
+use Rattle.ice_system.specs.declared.fault.SystemFault.TheVariants.{Before, After}
 use Rattle.ice_run.specs.Clauses.{IsTableOrder}
 use Rattle.ice_run.specs.Crashes.{MayFit}
 use Rattle.ice_run.specs.Runs.{fault_in}

@@ -22,9 +22,9 @@ use Rattle.ice_images.specs.Fitting.{ShowCubes, Has}
 use Rattle.ice_images.specs.Opening.{closed_state}
 use Rattle.ice_names.specs.Names.{row_at}
 use Rattle.ice_system.specs.Systems.{SystemView, tables_of}
-use Rattle.ice_system.specs.Changes.{IsChange}
-use Rattle.ice_system.specs.declared.stand.SystemFault.{SystemFault}
-use Rattle.ice_system.specs.declared.stand.SystemFault.TheVariants.{Before, After}
+use Rattle.ice_system.specs.Says.{IsChange}
+use Rattle.ice_system.specs.declared.fault.SystemFault.{SystemFault}
+use Rattle.ice_system.specs.declared.fault.SystemFault.TheVariants.{Before, After}
 use Rattle.ice_run.specs.Clauses.{IsTableOrder}
 use Rattle.ice_run.specs.Crashes.{MayFit}
 use Rattle.ice_run.specs.Runs.{fault_in}

@@ -1,8 +1,8 @@
 use Rattle.std.proofs.Common.{◌≡◌, inl, refl, subst, arith}
 use Rattle.ice_base.specs.Disk.{DiskState, Rose}
 use Rattle.ice_system.specs.Attaching.{RefusesDisk}
-use Rattle.ice_system.specs.declared.stand.TablesFault.{TablesFault}
-use Rattle.ice_system.specs.declared.stand.TablesFault.TheVariants as faults
+use Rattle.ice_system.specs.declared.fault.TablesFault.{TablesFault}
+use Rattle.ice_system.specs.declared.fault.TablesFault.TheVariants as faults
 use Rattle.ice_base.specs.declared.status.Status.TheVariants.{Disk, Memory}
 use Rattle.ice_run.proofs.Attaching.{attach_leaves, attach_stands, not_short, not_refused}
 use Rattle.ice_run.proofs.Whole.{ends_silent, ends_served, crash_opened, crash_served}
