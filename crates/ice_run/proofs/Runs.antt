@@ -1,22 +1,12 @@
 -- Runs that grow by a line.
-use Rattle.std.proofs.Common.{◌≡◌, ◌∙◌, ◌<◌, ℕ, suc, List, [], ◌∷◌, ◌++◌, length, take, drop, refl, sym, ap, subst, append_assoc, length-drop, arith, None, Ok, Err}
-use Rattle.std.specs.List.{range_with_len, flat_map, find}
+use Rattle.std.proofs.Common.{◌≡◌, ◌∙◌, ◌<◌, ◌+◌, ℕ, suc, List, [], ◌∷◌, ◌++◌, length, take, drop, refl, sym, ap, append_assoc, length-drop, arith}
 use Rattle.std.proofs.lemmas.List.{take-append-drop}
-use Rattle.tree_spec.specs.declared.command.Command.{Command}
-use Rattle.tree_spec.specs.declared.command.Command.TheVariants.{Cubes}
-use Rattle.tree_spec.specs.declared.command.Command.TheVariants as code
-use Rattle.tree_spec.specs.Why as why
-use Rattle.tree_spec.specs.declared.reply.Entry.{Entry}
-use Rattle.tree_spec.specs.declared.reply.CubeRow.{CubeRow}
-use Rattle.tree_spec.specs.Lines.{Line, Asks, asked}
-use Rattle.tree_spec.specs.Lines as request
-use Rattle.tree_spec.specs.Replies.{Response, Because, Listed, HasNames}
-use Rattle.tree_spec.specs.World.{World, Step, Goes, aim_of, cube_rows, cube_row_at, has_path, slot_with_path}
-use Rattle.ice_script.specs.Grammar.{line_of}
-use Rattle.ice_script.proofs.Only.{IsRead, asks_read}
+use Rattle.tree_spec.specs.Lines.{Line}
+use Rattle.tree_spec.specs.Replies.{Response, HasNames}
+use Rattle.tree_spec.specs.World.{World, Step}
 use Rattle.ice_text.specs.Text.{text, closings, lines_in}
 use Rattle.ice_text.proofs.Closings.{closings-text-append}
-use Rattle.ice_run.specs.Runs.{Answered, AllNamed, Runs, end, lines_of, reply_texts, IsProperPrefix}
+use Rattle.ice_run.specs.Runs.{Answered, AllNamed, Runs, RunsFirst, end, lines_of, reply_texts, fault_in, faults_of, IsProperPrefix}
 
 -- one more line
 pub push : List Answered → Line → Response → World → List Answered
@@ -56,6 +46,20 @@ unfolding push
 length-push [] line r v = refl
 length-push (a ∷ rest) line r v = ap suc (length-push rest line r v)
 
+pub faults-push : (steps : List Answered) (line : Line) (r : Response) (v : World) → faults_of (push steps line r v) ≡ faults_of steps + fault_in r
+unfolding push
+faults-push [] line r v = omega arith
+faults-push (a ∷ rest) line r v = omega (arith, faults-push rest line r v)
+
+-- a run of the first lines of a script, with the next one
+pub first-push : (w : World) (script : List Line) (steps : List Answered) (line : Line) (ahead : List Line) (r : Response) (v : World) → RunsFirst w script steps → script ≡ lines_of steps ++ line ∷ ahead → Step (end w steps) line r v
+    → RunsFirst w script (push steps line r v)
+first-push w script steps line ahead r v first is step = record {
+  runs = runs-push w steps line r v first.runs step;
+  ahead = ahead;
+  lines = is ∙ sym (append_assoc (lines_of steps) (line ∷ []) ahead) ∙ ap (λ (x : List Line). x ++ ahead) (sym (lines_of-push steps line r v));
+}
+
 -- no byte has no closing line
 pub closings-none : closings [] ≡ 0
 unfolding lines_in
@@ -70,40 +74,3 @@ closings-texts (a ∷ rest) tail named none =
 -- a front of a text that is shorter than it
 pub front : (xs : List ℕ) (m : ℕ) → m < length xs → IsProperPrefix (take m xs) xs
 front xs m less = (drop m xs, omega (arith, length-drop m xs), sym (take-append-drop m xs))
-
--- a volume without cubes lists none
-none_listed : (w : World) (slots : List ℕ) → ((slot : ℕ) → w.cube slot ≡ None) → flat_map (λ slot. cube_row_at slot (w.cube slot)) slots ≡ []
-none_listed w [] free = refl
-none_listed w (slot ∷ slots) free = rw (free slot) (none_listed w slots free)
-
-pub rows_of-none : (w : World) → ((slot : ℕ) → w.cube slot ≡ None) → cube_rows w ≡ []
-unfolding cube_rows
-rows_of-none w free = none_listed w (range_with_len 0 w.slots) free
-
--- the listing of a volume without cubes
-pub listed : (w : World) (line : Line) (command : Command) (entries : List Entry) (rows : List CubeRow) → ((slot : ℕ) → w.cube slot ≡ None) → line ≡ Asks (asked command) → command ≡ Cubes
-    → entries ≡ [] → rows ≡ [] → Step w line (Ok (Listed entries rows)) w
-listed w line command entries rows free is cubes no_entries no_rows =
-    let here : line ≡ Asks request.Cubes = is ∙ ap (λ (x : Command). Asks (asked x)) cubes in
-    subst (λ x. Step w x (Ok (Listed entries rows)) w) (sym here) (rw (no_entries, no_rows, rows_of-none w free) (refl, refl))
-
--- a volume without cubes has none of a path
-no_slot : (w : World) (p : List (List ℕ)) (slots : List ℕ) → ((slot : ℕ) → w.cube slot ≡ None) → find (λ slot. has_path p (w.cube slot)) slots ≡ None
-no_slot w p [] free = refl
-no_slot w p (slot ∷ slots) free = rw (free slot) (no_slot w p slots free)
-
-no_slot_with : (w : World) (p : List (List ℕ)) → ((slot : ℕ) → w.cube slot ≡ None) → slot_with_path w p ≡ None
-unfolding slot_with_path
-no_slot_with w p free = no_slot w p (range_with_len 0 w.slots) free
-
-goes_nowhere : (w : World) (command : Command) → ((slot : ℕ) → w.cube slot ≡ None) → (command ≡ code.Cubes → ⊥) → IsRead (asked command) → Goes w (aim_of w (asked command)) (Err (Because why.NoCube)) w
-goes_nowhere w code.Cubes free other read = absurd (other refl)
-goes_nowhere w (code.Delete p) free other read = rw (no_slot_with w p free) (refl, refl)
-goes_nowhere w (code.Offline p) free other read = rw (no_slot_with w p free) (refl, refl)
-goes_nowhere w (code.Online p) free other read = rw (no_slot_with w p free) (refl, refl)
-goes_nowhere w _ free other read = absurd read
-
--- each line but `cubes` asks for a cube of its path
-pub no_cube : (w : World) (line : List ℕ) (command : Command) → ((slot : ℕ) → w.cube slot ≡ None) → line_of line ≡ Asks (asked command) → (command ≡ code.Cubes → ⊥)
-    → Step w (line_of line) (Err (Because why.NoCube)) w
-no_cube w line command free is other = subst (λ x. Step w x (Err (Because why.NoCube)) w) (sym is) (goes_nowhere w command free other (asks_read line (asked command) is))

@@ -107,3 +107,25 @@ lines_ahead input taken ahead is =
       ap (λ (x : List ℕ). map line_of (closed (cut_of x))) is ∙ ap (λ (x : LinesAndRest). map line_of (closed x)) (fold-append add_byte _ taken ahead)
           ∙ ap (λ (x : List (List ℕ)). map line_of x) grown.1 ∙ map-append line_of (cut_of taken).lines grown.0,
     )
+
+-- lines that were ended stay so, whatever bytes come behind
+lines_grow : (c : LinesAndRest) (bytes : List ℕ) → (more : List (List ℕ)) × ((fold add_byte c bytes).lines ≡ c.lines ++ more)
+lines_grow c [] = ([], sym (nil_append c.lines))
+lines_grow c (b ∷ bytes) =
+    let ended : LinesAndRest = record { lines = c.lines ++ c.rest ∷ []; rest = [] } in
+    let longer : LinesAndRest = record { lines = c.lines; rest = c.rest ++ b ∷ [] } in
+    let then_ = lines_grow ended bytes in
+    byte_cases
+    (λ t. (more : List (List ℕ)) × ((fold add_byte (if t then ended else longer) bytes).lines ≡ c.lines ++ more))
+    (nat_eq b 10)
+    (c.rest ∷ then_.0, then_.1 ∙ append_assoc c.lines (c.rest ∷ []) then_.0)
+    (lines_grow longer bytes)
+
+-- the lines that are ended in some bytes are the first of those that are ended in more
+pub ended_ahead : (taken ahead : List ℕ) → (more : List Line) × (ended_lines (taken ++ ahead) ≡ ended_lines taken ++ more)
+unfolding cut_of
+ended_ahead taken ahead =
+    let grown = lines_grow (cut_of taken) ahead in (
+      map line_of grown.0,
+      ap (λ (x : LinesAndRest). map line_of x.lines) (fold-append add_byte _ taken ahead) ∙ ap (λ (x : List (List ℕ)). map line_of x) grown.1 ∙ map-append line_of (cut_of taken).lines grown.0,
+    )

@@ -1,27 +1,24 @@
--- One more line of a session, answered whole or in part.
-use Rattle.std.proofs.Common.{Result, Ok, Err, OnOk, OnErr, true, ◌≡◌, ◌∙◌, ◌⊎◌, inl, inr, ⊎_elim, ◌<◌, ◌≤◌, ℕ, List, [], ◌∷◌, ◌++◌, length, take, refl, sym, ap, subst, append_assoc, arith}
+-- One more line of a session, answered whole or in part, or not at all.
+use Rattle.std.proofs.Common.{Ok, Err, IsOk, ◌≡◌, ◌∙◌, ◌⊎◌, inl, inr, ⊎_elim, ◌<◌, ◌≤◌, ◌+◌, ℕ, List, [], ◌∷◌, ◌++◌, length, take, refl, sym, ap, subst, append_assoc, arith}
 use Rattle.std.proofs.lemmas.List.{take_all}
-use Rattle.ice_base.specs.Disk.{Image, DiskState, Everywhere}
-use Rattle.ice_base.specs.Frames.{Kept, LeavesOnly}
+use Rattle.ice_base.specs.Disk.{Image, DiskState, Streams, Rose, RoseBy}
+use Rattle.ice_base.specs.Frames.{LeavesOnly, With}
 use Rattle.ice_base.specs.Host.{SameDisk, Leaves, FirstOf, CutOf}
-use Rattle.ice_base.proofs.Kept.{kept_then, kept_same, every_kept}
 use Rattle.tree_spec.specs.Lines.{Line}
 use Rattle.tree_spec.specs.Replies.{Response, HasNames}
-use Rattle.tree_spec.specs.World.{World, Step}
-use Rattle.ice_text.specs.Text.{text, closings}
+use Rattle.tree_spec.specs.World.{World, Step, aim}
+use Rattle.ice_text.specs.Text.{text, closings, ended, data_lines, closing_line}
 use Rattle.ice_text.proofs.Closings.{closings-part}
-use Rattle.ice_run.specs.Images.{IsVolumeOf, Stands}
-use Rattle.ice_run.specs.Runs.{Answered, end, lines_of, reply_texts, LeftByRun}
-use Rattle.ice_run.specs.Sessions.{GaveReplies, SoFar, CutShort}
-use Rattle.ice_run.proofs.Runs.{push, named-push, closings-texts, closings-none, runs-push, end-push, lines_of-push, texts-push, front}
-
-pub on_ok : {T E P Q : Type 0} (r : Result T E) → (P → Q) → OnOk r P → OnOk r Q
-on_ok (Ok x) f p = f p
-on_ok (Err e) f p = p
-
-pub on_err : {T E P Q : Type 0} (r : Result T E) → (P → Q) → OnErr r P → OnErr r Q
-on_err (Ok x) f p = p
-on_err (Err e) f p = f p
+use Rattle.ice_images.specs.Fitting.{Fits}
+use Rattle.ice_system.specs.Systems.{SystemView}
+use Rattle.ice_run.specs.Clauses.{IsTableOrder}
+use Rattle.ice_run.specs.Crashes.{MayFit, Reached, CrashLeaves}
+use Rattle.ice_run.specs.Runs.{Answered, Next, end, lines_of, reply_texts, fault_in, faults_of, IsProperPrefix}
+use Rattle.ice_run.specs.Sessions.{GaveReplies, SoFar, CutShort, FailedLate, CrashesSo}
+use Rattle.ice_run.specs.Volumes.{StandsFor}
+use Rattle.ice_run.proofs.Refusals.{fits_refused}
+use Rattle.ice_run.proofs.Runs.{push, named-push, closings-texts, closings-none, first-push, end-push, lines_of-push, texts-push, faults-push, front}
+use Rattle.ice_run.proofs.Standing.{stands_fits}
 
 append_nil : (xs : List ℕ) → xs ++ [] ≡ xs
 append_nil [] = refl
@@ -30,6 +27,17 @@ append_nil (x ∷ xs) = ap (λ (y : List ℕ). x ∷ y) (append_nil xs)
 -- what was given, with some further bytes
 shifted : (aside given mid more out : List ℕ) → mid ≡ aside ++ given ++ [] → out ≡ mid ++ more → out ≡ aside ++ (given ++ more)
 shifted aside given mid more out is was = was ∙ ap (λ (x : List ℕ). x ++ more) (is ∙ append_nil (aside ++ given)) ∙ append_assoc aside given more
+
+-- no text of a reply is empty
+some_line : (xs : List (List ℕ)) (line : List ℕ) → 0 < length (ended (xs ++ line ∷ []))
+some_line [] [] = omega arith
+some_line [] (b ∷ line) = omega arith
+some_line ([] ∷ xs) line = omega arith
+some_line ((b ∷ x) ∷ xs) line = omega arith
+
+pub part_empty : (r : Response) → IsProperPrefix [] (text r)
+unfolding text
+part_empty r = (text r, some_line (data_lines r) (closing_line r), refl)
 
 -- the front of a reply has no closing line
 part_none : (r : Response) (m : ℕ) → m < length (text r) → HasNames r → closings (take m (text r)) ≡ 0
@@ -41,135 +49,189 @@ take_same xs n is = grind (arith, take_all)
 same_or_less : (m n : ℕ) → m ≤ n → (m < n) ⊎ (m ≡ n)
 same_or_less m n le = grind arith
 
-module _ (w : World) (script lines ahead : List Line) (line : Line) (r : Response) (old mid : DiskState) (gave : GaveReplies w lines [] old mid) (is : script ≡ lines ++ line ∷ ahead) (step : Step w line r w) (names : HasNames r) where
-  more_steps : List Answered
-  more_steps = push gave.steps line r w
+pub rose_more : (n m a b c : ℕ) → RoseBy n a b → RoseBy m b c → RoseBy (n + m) a c
+rose_more n m a b c p q = omega (arith, p, q)
 
+pub rose_later : (n a b c : ℕ) → RoseBy n a b → b ≤ c → RoseBy n a c
+rose_later n a b c p q = omega (arith, p, q)
+
+-- whole replies were given, and the image fits a world that is reached
+pub between_lines : (w : World) (script lines : List Line) (old mid : DiskState) (image : Image) (out : List ℕ) (gave : GaveReplies w script lines [] old mid) (v : World) → Reached w script gave.steps [] v → Fits v image → out ≡ mid.streams.aside
+    → CrashLeaves old.streams.aside w script image out
+between_lines w script lines old mid image out gave v reached fits same = (
+  reply_texts gave.steps,
+  same ∙ gave.gives ∙ append_nil (old.streams.aside ++ reply_texts gave.steps),
+  record {
+    steps = gave.steps;
+    runs = gave.first;
+    tail = [];
+    gives = sym (append_nil (reply_texts gave.steps));
+    count = ap closings (sym (append_nil (reply_texts gave.steps))) ∙ closings-texts gave.steps [] gave.named closings-none;
+    front = inl refl;
+    world = v;
+    reached = reached;
+    holds = fits;
+  },
+)
+
+module _ (w : World) (script lines ahead : List Line) (line : Line) (old mid : DiskState) (gave : GaveReplies w script lines [] old mid) (is : script ≡ lines ++ line ∷ ahead) where
   first_lines : script ≡ lines_of gave.steps ++ line ∷ ahead
   first_lines = is ∙ ap (λ (x : List Line). x ++ line ∷ ahead) (sym gave.asked)
 
-  step_on : Step (end w gave.steps) line r w
-  step_on = subst (λ v. Step v line r w) (sym gave.stays) step
+  next_to : (r : Response) (v : World) → Step (end w gave.steps) line r v → Next w script gave.steps r v
+  next_to r v step = record { line = line; ahead = ahead; lines = first_lines; step = step }
 
-  -- all of the reply was given
-  pub gave_more : (new : DiskState) → new.streams.aside ≡ mid.streams.aside ++ text r → GaveReplies w (lines ++ line ∷ []) [] old new
-  unfolding more_steps
-  gave_more new all = record {
-    steps = more_steps;
-    runs = runs-push w gave.steps line r w gave.runs step_on;
-    named = named-push gave.steps line r w gave.named names;
-    asked = lines_of-push gave.steps line r w ∙ ap (λ (x : List Line). x ++ line ∷ []) gave.asked;
-    gives = shifted old.streams.aside (reply_texts gave.steps) mid.streams.aside (text r) new.streams.aside gave.gives all
-        ∙ ap (λ (x : List ℕ). old.streams.aside ++ x) (sym (texts-push gave.steps line r w)) ∙ sym (append_nil (old.streams.aside ++ reply_texts more_steps));
-    stays = end-push w gave.steps line r w;
-  }
+  -- a crash while the line is in work
+  left_in_work : (image : Image) (out : List ℕ) → MayFit (end w gave.steps) line image → out ≡ mid.streams.aside → CrashLeaves old.streams.aside w script image out
+  left_in_work image out may same = ⊎_elim
+      (λ fits. between_lines w script lines old mid image out gave (end w gave.steps) (inl refl) fits same)
+      (λ next. between_lines w script lines old mid image out gave next.1 (inr (next.0, next_to next.0 next.1 next.2, next.3, part_empty next.0)) next.4 same)
+      may
 
-  -- a front of the reply was given
-  pub gave_part : (new : DiskState) (m : ℕ) → new.streams.aside ≡ mid.streams.aside ++ take m (text r) → GaveReplies w lines (take m (text r)) old new
-  gave_part new m part = record {
-    steps = gave.steps;
-    runs = gave.runs;
-    asked = gave.asked;
-    named = gave.named;
-    gives = shifted old.streams.aside (reply_texts gave.steps) mid.streams.aside (take m (text r)) new.streams.aside gave.gives part ∙ sym (append_assoc old.streams.aside (reply_texts gave.steps) (take m (text r)));
-    stays = gave.stays;
-  }
+  module _ (r : Response) (v : World) (step : Step (end w gave.steps) line r v) (names : HasNames r) where
+    more_steps : List Answered
+    more_steps = push gave.steps line r v
 
-  left_part : (image : Image) (out : List ℕ) (m : ℕ) → IsVolumeOf w image → m < length (text r) → out ≡ mid.streams.aside ++ take m (text r) → LeftByRun old.streams.aside w script image out
-  left_part image out m fits less part = (
-    reply_texts gave.steps ++ take m (text r),
-    shifted old.streams.aside (reply_texts gave.steps) mid.streams.aside (take m (text r)) out gave.gives part,
-    record {
-      steps = gave.steps;
-      runs = record { runs = gave.runs; ahead = line ∷ ahead; lines = first_lines };
-      tail = take m (text r);
-      gives = refl;
-      count = closings-texts gave.steps (take m (text r)) gave.named (part_none r m less names);
-      front = inr (r, w, record { line = line; ahead = ahead; lines = first_lines; step = step_on }, front (text r) m less);
-      world = end w gave.steps;
-      reached = inl refl;
-      holds = subst (λ v. IsVolumeOf v image) (sym gave.stays) fits;
-    },
-  )
-
-  left_whole : (image : Image) (out : List ℕ) → IsVolumeOf w image → out ≡ mid.streams.aside ++ text r → LeftByRun old.streams.aside w script image out
-  unfolding more_steps
-  left_whole image out fits all = (
-    reply_texts more_steps,
-    shifted old.streams.aside (reply_texts gave.steps) mid.streams.aside (text r) out gave.gives all ∙ ap (λ (x : List ℕ). old.streams.aside ++ x) (sym (texts-push gave.steps line r w)),
-    record {
+    -- all of the reply was given
+    gave_more : (at new : DiskState) → at.streams.aside ≡ mid.streams.aside → RoseBy (fault_in r) mid.faults new.faults → new.streams.aside ≡ at.streams.aside ++ text r → GaveReplies w script (lines ++ line ∷ []) [] old new
+    unfolding more_steps
+    gave_more at new still faults all = record {
       steps = more_steps;
-      runs = record {
-        runs = runs-push w gave.steps line r w gave.runs step_on;
-        ahead = ahead;
-        lines = first_lines ∙ sym (append_assoc (lines_of gave.steps) (line ∷ []) ahead) ∙ ap (λ (x : List Line). x ++ ahead) (sym (lines_of-push gave.steps line r w));
-      };
-      tail = [];
-      gives = sym (append_nil (reply_texts more_steps));
-      count = ap closings (sym (append_nil (reply_texts more_steps))) ∙ closings-texts more_steps [] (named-push gave.steps line r w gave.named names) closings-none;
-      front = inl refl;
-      world = end w more_steps;
-      reached = inl refl;
-      holds = subst (λ v. IsVolumeOf v image) (sym (end-push w gave.steps line r w)) fits;
-    },
-  )
+      first = first-push w script gave.steps line ahead r v gave.first first_lines step;
+      asked = lines_of-push gave.steps line r v ∙ ap (λ (x : List Line). x ++ line ∷ []) gave.asked;
+      named = named-push gave.steps line r v gave.named names;
+      gives = shifted old.streams.aside (reply_texts gave.steps) mid.streams.aside (text r) new.streams.aside gave.gives (all ∙ ap (λ (x : List ℕ). x ++ text r) still)
+          ∙ ap (λ (x : List ℕ). old.streams.aside ++ x) (sym (texts-push gave.steps line r v)) ∙ sym (append_nil (old.streams.aside ++ reply_texts more_steps));
+      faults = subst (λ n. RoseBy n old.faults new.faults) (sym (faults-push gave.steps line r v)) (rose_more (faults_of gave.steps) (fault_in r) old.faults mid.faults new.faults gave.faults faults);
+    }
 
-  -- each crash while the reply is given leaves what a run may leave
-  pub left_in_reply : (image : Image) (out : List ℕ) → IsVolumeOf w image → FirstOf mid.streams.aside (text r) (length (text r)) out → LeftByRun old.streams.aside w script image out
-  left_in_reply image out fits first = ⊎_elim
-      (λ less. left_part image out first.0 fits less first.2)
-      (λ same. left_whole image out fits (first.2 ∙ ap (λ (x : List ℕ). mid.streams.aside ++ x) (take_same (text r) first.0 same)))
-      (same_or_less first.0 (length (text r)) first.1)
+    more_end : (at new : DiskState) (still : at.streams.aside ≡ mid.streams.aside) (faults : RoseBy (fault_in r) mid.faults new.faults) (all : new.streams.aside ≡ at.streams.aside ++ text r) → end w (gave_more at new still faults all).steps ≡ v
+    unfolding more_steps gave_more
+    more_end at new still faults all = end-push w gave.steps line r v
 
-module _ {D : Type 0} (state : D → DiskState) (left : D → ℕ → Image → List ℕ → Type 0) (w : World) (script lines ahead : List Line) (line : Line) (r : Response) (start mid new : D)
-    (stands : Stands w (state start)) (so_far : SoFar state left w script lines start mid) (is : script ≡ lines ++ line ∷ ahead) (step : Step w line r w) (names : HasNames r)
-    (same : SameDisk (state mid) (state new)) (leaves : Leaves state left (FirstOf (state mid).streams.aside (text r) (length (text r))) mid new) where
-  crash_more : LeavesOnly left start new (LeftByRun (state start).streams.aside w script)
-  crash_more = record {
-    each = λ t image out l. ⊎_elim
-        (λ before. so_far.crash.each t image out before)
-        (λ here. inr (left_in_reply w script lines ahead line r (state start) (state mid) so_far.gave is step names image out
-        (every_kept Everywhere (IsVolumeOf w) (state start) (state mid) so_far.kept stands.fits image here.0) here.1))
-        (leaves.left_new t image out l);
+    -- a front of the reply was given
+    gave_part : (new : DiskState) (m : ℕ) → mid.faults ≤ new.faults → new.streams.aside ≡ mid.streams.aside ++ take m (text r) → GaveReplies w script lines (take m (text r)) old new
+    gave_part new m more part = record {
+      steps = gave.steps;
+      first = gave.first;
+      asked = gave.asked;
+      named = gave.named;
+      gives = shifted old.streams.aside (reply_texts gave.steps) mid.streams.aside (take m (text r)) new.streams.aside gave.gives part ∙ sym (append_assoc old.streams.aside (reply_texts gave.steps) (take m (text r)));
+      faults = rose_later (faults_of gave.steps) old.faults mid.faults new.faults gave.faults more;
+    }
+
+    -- the world that an image fits where a front of the reply was given: after a refusal it is the one before as well
+    reached_by : (q : Response) → q ≡ r → (image : Image) (tail : List ℕ) → Fits v image → IsProperPrefix tail (text r) → (u : World) × Reached w script gave.steps tail u × Fits u image
+    reached_by (Ok x) same image tail fits part = (v, inr (r, next_to r v step, subst IsOk same refl, part), fits)
+    reached_by (Err e) same image tail fits part = (end w gave.steps, inl refl, fits_refused (λ s. Unit {0}) (end w gave.steps) v line e image (subst (λ q. Step (end w gave.steps) line q v) (sym same) step) fits)
+
+    left_part : (image : Image) (out : List ℕ) (m : ℕ) → Fits v image → m < length (text r) → out ≡ mid.streams.aside ++ take m (text r) → CrashLeaves old.streams.aside w script image out
+    left_part image out m fits less part =
+        let at = reached_by r refl image (take m (text r)) fits (front (text r) m less) in (
+          reply_texts gave.steps ++ take m (text r),
+          shifted old.streams.aside (reply_texts gave.steps) mid.streams.aside (take m (text r)) out gave.gives part,
+          record {
+            steps = gave.steps;
+            runs = gave.first;
+            tail = take m (text r);
+            gives = refl;
+            count = closings-texts gave.steps (take m (text r)) gave.named (part_none r m less names);
+            front = inr (r, v, next_to r v step, front (text r) m less);
+            world = at.0;
+            reached = at.1;
+            holds = at.2;
+          },
+        )
+
+    left_whole : (image : Image) (out : List ℕ) → Fits v image → out ≡ mid.streams.aside ++ text r → CrashLeaves old.streams.aside w script image out
+    unfolding more_steps
+    left_whole image out fits all = (
+      reply_texts more_steps,
+      shifted old.streams.aside (reply_texts gave.steps) mid.streams.aside (text r) out gave.gives all ∙ ap (λ (x : List ℕ). old.streams.aside ++ x) (sym (texts-push gave.steps line r v)),
+      record {
+        steps = more_steps;
+        runs = first-push w script gave.steps line ahead r v gave.first first_lines step;
+        tail = [];
+        gives = sym (append_nil (reply_texts more_steps));
+        count = ap closings (sym (append_nil (reply_texts more_steps))) ∙ closings-texts more_steps [] (named-push gave.steps line r v gave.named names) closings-none;
+        front = inl refl;
+        world = v;
+        reached = inl (sym (end-push w gave.steps line r v));
+        holds = fits;
+      },
+    )
+
+    -- each crash while the reply is given leaves what a run may leave
+    left_in_reply : (image : Image) (out : List ℕ) → Fits v image → FirstOf mid.streams.aside (text r) (length (text r)) out → CrashLeaves old.streams.aside w script image out
+    left_in_reply image out fits first = ⊎_elim
+        (λ less. left_part image out first.0 fits less first.2)
+        (λ same. left_whole image out fits (first.2 ∙ ap (λ (x : List ℕ). mid.streams.aside ++ x) (take_same (text r) first.0 same)))
+        (same_or_less first.0 (length (text r)) first.1)
+
+module _ {D : Type 0} (state : D → DiskState) (left : D → ℕ → Image → List ℕ → Type 0) (w : World) (script lines ahead : List Line) (line : Line) (start a b : D) (v : SystemView)
+    (so_far : SoFar state left w script v lines start a) (is : script ≡ lines ++ line ∷ ahead) (streams : (state b).streams ≡ (state a).streams)
+    (leaves : LeavesOnly left a b (With (state a).streams.aside (MayFit (end w so_far.gave.steps) line))) where
+  -- each crash up to the reply
+  crash_worked : CrashesSo state left w script start b
+  crash_worked = record {
+    each = λ t image out l. ⊎_elim (λ before. so_far.crash.each t image out before)
+        (λ here. inr (left_in_work w script lines ahead line (state start) (state a) so_far.gave is image out here.0 here.1))
+        (leaves.each t image out l);
   }
 
-  kept_more : Kept Everywhere (state start) (state new)
-  kept_more = kept_then Everywhere (state start) (state mid) (state new) so_far.kept (kept_same Everywhere (state mid) (state new) same)
-
-  pub answered_more : (state new).streams.aside ≡ (state mid).streams.aside ++ text r → SoFar state left w script (lines ++ line ∷ []) start new
-  answered_more all = record { gave = gave_more w script lines ahead line r (state start) (state mid) so_far.gave is step names (state new) all; kept = kept_more; crash = crash_more }
-
-  pub cut_short : CutOf (state mid).streams.aside (text r) (state new).streams.aside → CutShort state left w script start new
-  unfolding gave_part
-  cut_short cut = record {
+  -- a change of the tables failed late
+  pub failed_late : Rose (state a).faults (state b).faults → IsTableOrder (aim (end w so_far.gave.steps) line) → FailedLate state left w script (lines ++ line ∷ []) start b
+  failed_late rose order = record {
     lines = lines;
-    tail = take cut.0 (text r);
-    gave = gave_part w script lines ahead line r (state start) (state mid) so_far.gave is step names (state new) cut.0 cut.2;
-    reply = r;
-    then = w;
-    next = record { line = line; ahead = ahead; lines = first_lines w script lines ahead line r (state start) (state mid) so_far.gave is step names; step = step_on w script lines ahead line r (state start) (state mid) so_far.gave is step names };
-    part = front (text r) cut.0 cut.1;
-    kept = kept_more;
-    crash = crash_more;
+    gave = record {
+      steps = so_far.gave.steps;
+      first = so_far.gave.first;
+      asked = so_far.gave.asked;
+      named = so_far.gave.named;
+      gives = ap (λ (x : Streams). x.aside) streams ∙ so_far.gave.gives;
+      faults = omega (arith, so_far.gave.faults, rose);
+    };
+    line = line;
+    ahead = [];
+    next = ap (λ (x : List Line). x ++ line ∷ []) (sym so_far.gave.asked);
+    order = order;
+    faults = rose_more (faults_of so_far.gave.steps) 1 (state start).faults (state a).faults (state b).faults so_far.gave.faults rose;
+    crash = crash_worked;
   }
 
-module _ {D T E : Type 0} (state : D → DiskState) (left : D → ℕ → Image → List ℕ → Type 0) (w : World) (script lines ahead : List Line) (line : Line) (r : Response) (start mid new : D)
-    (stands : Stands w (state start)) (so_far : SoFar state left w script lines start mid) (is : script ≡ lines ++ line ∷ ahead) (step : Step w line r w) (names : HasNames r)
-    (same : SameDisk (state mid) (state new)) (bytes : List ℕ) (whole : bytes ≡ text r)
-    (leaves : (state mid).tells ≡ true → Leaves state left (FirstOf (state mid).streams.aside bytes (length bytes)) mid new) (result : Result T E) where
-  tells_on : (state mid).tells ≡ true
-  tells_on = so_far.kept.tells ∙ stands.told
+  module _ (z : SystemView) (r : Response) (u : World) (step : Step (end w so_far.gave.steps) line r u) (stands : StandsFor z (state b) u) (names : HasNames r) (faults : RoseBy (fault_in r) (state a).faults (state b).faults) (c : D)
+      (same : SameDisk (state b) (state c)) (gives : Leaves state left (FirstOf (state b).streams.aside (text r) (length (text r))) b c) (on : StandsFor z (state c) u) where
+    aside_same : (state b).streams.aside ≡ (state a).streams.aside
+    aside_same = ap (λ (x : Streams). x.aside) streams
 
-  leaves_on : Leaves state left (FirstOf (state mid).streams.aside (text r) (length (text r))) mid new
-  leaves_on = subst (λ (x : List ℕ). Leaves state left (FirstOf (state mid).streams.aside x (length x)) mid new) whole (leaves tells_on)
+    crash_given : CrashesSo state left w script start c
+    crash_given = record {
+      each = λ t image out l. ⊎_elim (λ before. crash_worked.each t image out before)
+          (λ here. inr (left_in_reply w script lines ahead line (state start) (state a) so_far.gave is r u step names image out (stands_fits z (state b) u stands image here.0)
+          (subst (λ (x : List ℕ). FirstOf x (text r) (length (text r)) out) aside_same here.1)))
+          (gives.left_new t image out l);
+    }
 
-  -- the reply's bytes were given, all of them or a front
-  pub answered_ok : ((state mid).tells ≡ true → OnOk result ((state new).streams.aside ≡ (state mid).streams.aside ++ bytes)) → OnOk result (SoFar state left w script (lines ++ line ∷ []) start new)
-  answered_ok all = on_ok result
-      (λ given. answered_more state left w script lines ahead line r start mid new stands so_far is step names same leaves_on (given ∙ ap (λ (x : List ℕ). (state mid).streams.aside ++ x) whole))
-      (all tells_on)
+    faults_on : RoseBy (fault_in r) (state a).faults (state c).faults
+    faults_on = subst (λ n. RoseBy (fault_in r) (state a).faults n) (sym same.faults) faults
 
-  pub answered_err : ((state mid).tells ≡ true → OnErr result (CutOf (state mid).streams.aside bytes (state new).streams.aside)) → OnErr result (CutShort state left w script start new)
-  answered_err cut = on_err result
-      (λ given. cut_short state left w script lines ahead line r start mid new stands so_far is step names same leaves_on (subst (λ (x : List ℕ). CutOf (state mid).streams.aside x (state new).streams.aside) whole given))
-      (cut tells_on)
+    pub answered_more : (state c).streams.aside ≡ (state b).streams.aside ++ text r → SoFar state left w script z (lines ++ line ∷ []) start c
+    answered_more all = record {
+      gave = gave_more w script lines ahead line (state start) (state a) so_far.gave is r u step names (state b) (state c) aside_same faults_on all;
+      stands = subst (λ (x : World). StandsFor z (state c) x) (sym (more_end w script lines ahead line (state start) (state a) so_far.gave is r u step names (state b) (state c) aside_same faults_on all)) on;
+      crash = crash_given;
+    }
+
+    pub cut_short : (state a).faults ≤ (state b).faults → CutOf (state b).streams.aside (text r) (state c).streams.aside → CutShort state left w script (lines ++ line ∷ []) start c
+    unfolding gave_part
+    cut_short more cut = record {
+      lines = lines;
+      tail = take cut.0 (text r);
+      gave = gave_part w script lines ahead line (state start) (state a) so_far.gave is r u step names (state c) cut.0 (omega (arith, more, same.faults)) (cut.2 ∙ ap (λ (x : List ℕ). x ++ take cut.0 (text r)) aside_same);
+      reply = r;
+      then = u;
+      next = record { line = line; ahead = []; lines = ap (λ (x : List Line). x ++ line ∷ []) (sym so_far.gave.asked); step = step };
+      part = front (text r) cut.0 cut.1;
+      names = names;
+      crash = crash_given;
+    }

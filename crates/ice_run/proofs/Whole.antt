@@ -1,129 +1,195 @@
 -- A whole session, from the opening of its volume to its end.
-use Rattle.std.proofs.Common.{◌≡◌, ◌∙◌, ◌⊎◌, ⊎_elim, ◌≤◌, ℕ, List, [], ◌++◌, length, refl, sym, subst, arith, true}
-use Rattle.ice_base.specs.Disk.{Image, DiskState, Streams, AgreesOn, Everywhere, Nowhere, block}
-use Rattle.ice_base.specs.Frames.{Within, LeavesOnly}
+use Rattle.std.proofs.Common.{◌≡◌, ◌∙◌, ◌⊎◌, inl, inr, ⊎_elim, ◌<◌, ◌≤◌, ◌+◌, ℕ, zero, suc, Bool, true, false, List, [], ◌∷◌, ◌++◌, length, Option, Some, None, refl, sym, ap, subst, length-append, arith}
+use Rattle.std.specs.Option.{option_map}
+use Rattle.ice_base.specs.Disk.{Image, DiskState, Streams, AgreesOn, Everywhere, Rose, RoseBy}
+use Rattle.ice_base.specs.Frames.{LeavesOnly, With, Every}
 use Rattle.ice_base.specs.declared.status.Status.{Status}
 use Rattle.ice_base.specs.declared.status.Status.TheVariants.{Done, Usage, Memory, Source, Sink, Disk, Volume, Script, Small}
-use Rattle.ice_base.proofs.Kept.{kept_within, every_kept}
+use Rattle.ice_base.proofs.Frame.{since_start}
 use Rattle.tree_spec.specs.Lines.{Line}
+use Rattle.tree_spec.specs.Records.{Cube, Content, is_offline}
 use Rattle.tree_spec.specs.World.{World}
-use Rattle.ice_layout.specs.Supers.{IsSuper}
-use Rattle.ice_run.specs.Causes.{StreamCause}
-use Rattle.ice_run.specs.Endings.{EndsBy, EndsAs, PartOf}
-use Rattle.ice_run.specs.Images.{IsVolumeOf, Starts, Stands}
-use Rattle.ice_run.specs.Runs.{LeftByRun, Next, reply_texts}
-use Rattle.ice_run.specs.Scripts.{script_lines}
-use Rattle.ice_run.specs.Sessions.{GaveReplies, SoFar, CutShort}
+use Rattle.ice_text.specs.Text.{closings}
+use Rattle.ice_text.proofs.Closings.{closings-part}
+use Rattle.ice_images.specs.Fitting.{Fits, Has, cube_entry}
+use Rattle.ice_images.specs.Opening.{closed_state}
+use Rattle.ice_system.specs.Systems.{SystemView}
+use Rattle.ice_tables.specs.Lots.{lot_of}
+use Rattle.ice_run.specs.Causes.{GoesOn, LoopCause}
+use Rattle.ice_run.specs.Clauses.{Starts, Ends, EndsAt, EndsWell, NoneRose, fault_at, finished, put_away}
+use Rattle.ice_run.specs.Crashes.{CrashLeaves}
+use Rattle.ice_run.specs.Runs.{RunsFirst, end, reply_texts, faults_of}
+use Rattle.ice_run.specs.Scripts.{script_lines, longest_script}
 use Rattle.ice_run.specs.Servings.{Served}
-use Rattle.ice_run.proofs.Servings.{so_far_none, between_lines}
+use Rattle.ice_run.specs.Sessions.{GaveReplies}
+use Rattle.ice_run.specs.Volumes.{StandsFor, IsClosed}
+use Rattle.ice_run.proofs.Answering.{answers_well}
+use Rattle.ice_run.proofs.ClauseLaws.{all_alone}
+use Rattle.ice_run.proofs.Runs.{closings-texts, closings-none}
+use Rattle.ice_run.proofs.Standing.{stands_fits}
 
--- an image with the same blocks is a volume of the same world
-fits_same : (w : World) (image other : Image) → length image ≤ length other → ((k : ℕ) → block other k ≡ block image k) → IsVolumeOf w image → IsVolumeOf w other
-fits_same w image other long same fits = record {
-  sup = fits.sup;
-  volume = record {
-    superblock = subst (λ (x : List ℕ). IsSuper fits.sup x) (sym (same 0)) fits.volume.superblock;
-    room = omega (arith, fits.volume.room, long);
-    tables = λ k table. same k ∙ fits.volume.tables k table;
-  };
-  slots = fits.slots;
-  groups = fits.groups;
-  free = fits.free;
-}
+append_nil : (xs : List ℕ) → xs ++ [] ≡ xs
+append_nil [] = refl
+append_nil (x ∷ xs) = ap (λ (y : List ℕ). x ∷ y) (append_nil xs)
 
--- at the start every image that a crash leaves is the volume
-pub stands_at_start : (w : World) (s : DiskState) → (s.tells ≡ true → length s.now ≡ s.size) → Starts s w → Stands w s
-stands_at_start w s whole starts = record {
-  told = starts.settled.told;
-  free = starts.opens.free;
-  fits = λ image agrees. fits_same w s.now image (omega (arith, whole starts.settled.told, agrees.count)) (λ k. agrees.same k tt (starts.settled.settled k tt)) starts.opens;
-}
+-- ---- the end of a session in which no cube was mounted
 
-left_at_start : (w : World) (s : DiskState) (script : List Line) (image : Image) (out : List ℕ) → Stands w s → AgreesOn Everywhere s image → out ≡ s.streams.aside → LeftByRun s.streams.aside w script image out
-left_at_start w s script image out stands agrees same = between_lines w script [] script s s image out (so_far_none {D = DiskState} (λ x. x) (λ x t i o. ⊥) w script s).gave refl (stands.fits image agrees) same
+put_closed : (off : Bool) (x : Content) (c : Cube) → put_away (closed_state off) x c ≡ c
+put_closed true x c = refl
+put_closed false x c = refl
 
--- what ends a session is one thing or another: each of both is mapped
-ends_map : (P R : List Line → Type 0) (Q U : Type 0) (status : Status) (old new : Streams) → ((lines : List Line) → P lines → R lines) → (Q → U) → EndsBy P Q status old new → EndsBy R U status old new
-ends_map P R Q U Done old new f h e = (e.0, e.1, e.2, e.3, f _ e.4)
-ends_map P R Q U Source old new f h e = (e.0, e.1, e.2, f _ e.3)
-ends_map P R Q U Sink old new f h e = (e.0, e.1, e.2, h e.3)
-ends_map P R Q U Script old new f h e = (e.0, e.1, e.2, f _ e.3)
-ends_map P R Q U Disk old new f h e = e
-ends_map P R Q U Memory old new f h e = e
-ends_map P R Q U Usage old new f h e = e
-ends_map P R Q U Volume old new f h e = e
-ends_map P R Q U Small old new f h e = e
+finished_closed : (o : Option Cube) → IsClosed o → option_map (λ (c : Cube). put_away c.state c.content c) o ≡ o
+finished_closed None closed = refl
+finished_closed (Some c) closed = ap (λ e. Some e) (ap (λ s. put_away s c.content c) closed ∙ put_closed (is_offline c.state) c.content c)
 
-gave_from : (w : World) (lines : List Line) (tail : List ℕ) (old mid new : DiskState) → mid.streams ≡ old.streams → GaveReplies w lines tail mid new → GaveReplies w lines tail old new
-gave_from w lines tail old mid new same gave = record { steps = gave.steps; runs = gave.runs; asked = gave.asked; named = gave.named; gives = subst (λ (x : Streams). new.streams.aside ≡ x.aside ++ reply_texts gave.steps ++ tail) same gave.gives; stays = gave.stays }
-
-part_from : {D : Type 0} (state : D → DiskState) (left : D → ℕ → Image → List ℕ → Type 0) (w : World) (old mid new : D) → (state mid).streams ≡ (state old).streams
-    → CutShort state left w (script_lines (state mid).streams.intake) mid new → PartOf w (script_lines (state old).streams.intake) (state old) (state new)
-unfolding gave_from
-part_from state left w old mid new same cut = record {
-  lines = cut.lines;
-  tail = cut.tail;
-  gave = gave_from w cut.lines cut.tail (state old) (state mid) (state new) same cut.gave;
-  reply = cut.reply;
-  then = cut.then;
-  next = subst (λ (x : Streams). Next w (script_lines x.intake) cut.gave.steps cut.reply cut.then) same cut.next;
-  part = cut.part;
-}
-
-module _ {D : Type 0} (state : D → DiskState) (left : D → ℕ → Image → List ℕ → Type 0) (w : World) (old : D)
-    (agrees_now : (image : Image) (out : List ℕ) → left old (state old).clock image out → AgreesOn Everywhere (state old) image × (out ≡ (state old).streams.aside)) (stands : Stands w (state old)) where
-  here_lines : List Line
-  here_lines = script_lines (state old).streams.intake
-
-  -- nothing was done
-  pub crash_none : (image : Image) (out : List ℕ) → left old (state old).clock image out → LeftByRun (state old).streams.aside w (script_lines (state old).streams.intake) image out
-  crash_none image out l = let now = agrees_now image out l in left_at_start w (state old) (script_lines (state old).streams.intake) image out stands now.0 now.1
-
-  module _ (mid : D) (within : Within state left Nowhere old mid) where
-    -- nothing was written
-    pub crash_attached : (image : Image) (out : List ℕ) → left mid (state old).clock image out → LeftByRun (state old).streams.aside w (script_lines (state old).streams.intake) image out
-    crash_attached image out l = ⊎_elim (λ before. crash_none image out before)
-        (λ here. left_at_start w (state old) (script_lines (state old).streams.intake) image out stands (record { count = here.0.count; same = λ k k_in. here.0.same k (λ n. n) }) here.1)
-        (within.left_new (state old).clock image out l)
-
-    pub stands_attached : Stands w (state mid)
-    stands_attached = record {
-      told = within.tells ∙ stands.told;
-      free = stands.free;
-      fits = every_kept Everywhere (IsVolumeOf w) (state old) (state mid) (kept_within state left Everywhere Nowhere old mid (λ k here nowhere. nowhere) within) stands.fits;
+pub fits_finished : (v : SystemView) (s : DiskState) (w : World) → StandsFor v s w → Every Everywhere s (Fits (finished w))
+fits_finished v s w stands i agrees =
+    let f = stands_fits v s w stands i agrees in record {
+      tables = f.tables;
+      has = f.has;
+      room = f.room;
+      shows = record { slots = f.shows.slots; groups = f.shows.groups; entries = λ x. f.shows.entries x ∙ ap (option_map cube_entry) (sym (finished_closed (w.cube x) (stands.closed x))) };
+      cubes = λ x here. subst (λ o. Has (lot_of f.tables x) i o) (sym (finished_closed (w.cube x) (stands.closed x))) (f.cubes x here);
     }
 
-    module _ (new : D) (status : Status) (cause : (status ≡ Done) ⊎ StreamCause status (state mid).streams (state new).streams) (served : Served state left w mid status new) where
-      served_leaves : LeavesOnly left mid new (LeftByRun (state mid).streams.aside w (script_lines (state mid).streams.intake))
-      served_leaves = go status cause served
-        where
-          go : (status : Status) → (status ≡ Done) ⊎ StreamCause status (state mid).streams (state new).streams → Served state left w mid status new → LeavesOnly left mid new (LeftByRun (state mid).streams.aside w (script_lines (state mid).streams.intake))
-          go Done c s = s.4.crash
-          go Source c s = s.3.crash
-          go Sink c s = s.3.crash
-          go Script c s = s.3.crash
-          go Disk c s = absurd (⊎_elim (λ is. cc) (λ no_. no_) c)
-          go Memory c s = absurd (⊎_elim (λ is. cc) (λ no_. no_) c)
-          go Usage c s = absurd s
-          go Volume c s = absurd s
-          go Small c s = absurd s
+-- ---- faults
 
-      -- each crash since the start
-      pub crash_served : (image : Image) (out : List ℕ) → left new (state old).clock image out → LeftByRun (state old).streams.aside w (script_lines (state old).streams.intake) image out
-      crash_served image out l = ⊎_elim (λ before. crash_attached image out before)
-          (λ here. subst (λ (x : Streams). LeftByRun x.aside w (script_lines x.intake) image out) within.streams here)
-          (served_leaves.each (state old).clock image out l)
+none_of : (n a b : ℕ) → RoseBy n a b → ¬ Rose a b → n ≡ 0
+none_of zero a b rose never = refl
+none_of (suc n) a b rose never = absurd (never (omega (arith, rose)))
 
-      pub output_served : EndsAs status w (state old) (state new)
-      output_served = ends_map (λ lines. SoFar state left w (script_lines (state mid).streams.intake) lines mid new) (λ lines. GaveReplies w lines [] (state old) (state new)) (CutShort state left w (script_lines (state mid).streams.intake) mid new) (PartOf w (script_lines (state old).streams.intake) (state old) (state new)) status (state old).streams (state new).streams
-          (λ lines so_far. gave_from w lines [] (state old) (state mid) (state new) within.streams so_far.gave)
-          (λ cut. part_from state left w old mid new within.streams cut)
-          (subst (λ (x : Streams). EndsBy (λ lines. SoFar state left w (script_lines (state mid).streams.intake) lines mid new) (CutShort state left w (script_lines (state mid).streams.intake) mid new) status x (state new).streams) within.streams served)
+-- ---- a session that took and gave nothing
 
-      -- at Done every image that a crash then leaves is the volume
-      pub exit_served : status ≡ Done → Stands w (state new)
-      exit_served is = let done = subst (λ (x : Status). Served state left w mid x new) is served in record {
-        told = done.4.kept.tells ∙ stands_attached.told;
-        free = stands.free;
-        fits = every_kept Everywhere (IsVolumeOf w) (state mid) (state new) done.4.kept stands_attached.fits;
-      }
+module _ (w : World) (old new : DiskState) (starts : Starts old w) (same : new.streams ≡ old.streams) where
+  pub ends_silent : (status : Status) → EndsAt status w [] [] [] new.streams.intake → (status ≡ Done → ⊥) → RoseBy (fault_at status) old.faults new.faults → (NoneRose old new → EndsWell status old) → Ends status w old new
+  ends_silent status at undone rose well = record {
+    steps = [];
+    runs = record { runs = tt; ahead = script_lines old.streams.intake; lines = refl };
+    tail = [];
+    gives = ap (λ (x : Streams). x.aside) same ∙ sym (append_nil (old.streams.aside ++ []) ∙ append_nil old.streams.aside);
+    count = closings-none;
+    taken = [];
+    took = sym (ap (λ (x : Streams). x.intake) same);
+    by_status = at;
+    exit = λ is. absurd (undone is);
+    faults = omega (arith, rose);
+    complete = λ quiet. (well quiet, refl);
+    answers = tt;
+    alone = all_alone old.now w [] starts.opens tt;
+  }
+
+-- before the first line
+pub at_start : (w : World) (script : List Line) (aside : List ℕ) (image : Image) (out : List ℕ) → Fits w image → out ≡ aside → CrashLeaves aside w script image out
+at_start w script aside image out fits same = (
+  [],
+  same ∙ sym (append_nil aside),
+  record {
+    steps = [];
+    runs = record { runs = tt; ahead = script; lines = refl };
+    tail = [];
+    gives = refl;
+    count = closings-none;
+    front = inl refl;
+    world = w;
+    reached = inl refl;
+    holds = fits;
+  },
+)
+
+-- each crash since the start of a session
+pub crash_since : {D : Type 0} (state : D → DiskState) (left : D → ℕ → Image → List ℕ → Type 0) (w : World) (old new : D)
+    → ((image : Image) (out : List ℕ) → left old (state old).clock image out → AgreesOn Everywhere (state old) image × (out ≡ (state old).streams.aside))
+    → Every Everywhere (state old) (Fits w) → LeavesOnly left old new (CrashLeaves (state old).streams.aside w (script_lines (state old).streams.intake))
+    → (image : Image) (out : List ℕ) → left new (state old).clock image out → CrashLeaves (state old).streams.aside w (script_lines (state old).streams.intake) image out
+crash_since state left w old new agrees fits leaves = since_start state left old new (CrashLeaves (state old).streams.aside w (script_lines (state old).streams.intake)) agrees
+    (λ i at. at_start w (script_lines (state old).streams.intake) (state old).streams.aside i (state old).streams.aside (fits i at) refl) leaves
+
+-- what each crash leaves while the volume is opened
+pub crash_opened : {D : Type 0} (state : D → DiskState) (left : D → ℕ → Image → List ℕ → Type 0) (w : World) (old d : D) → LeavesOnly left old d (With (state old).streams.aside (Fits w))
+    → LeavesOnly left old d (CrashLeaves (state old).streams.aside w (script_lines (state old).streams.intake))
+crash_opened state left w old d leaves = record {
+  each = λ t image out l. ⊎_elim (λ before. inl before) (λ here. inr (at_start w (script_lines (state old).streams.intake) (state old).streams.aside image out here.0 here.1)) (leaves.each t image out l);
+}
+
+-- ---- a session that was served
+
+module _ {D : Type 0} (state : D → DiskState) (left : D → ℕ → Image → List ℕ → Type 0) (w : World) (old mid new : D) (v z : SystemView) (starts : Starts (state old) w) (streams : (state mid).streams ≡ (state old).streams)
+    (faults : (state old).faults ≤ (state mid).faults) where
+  asked : List Line
+  asked = script_lines (state mid).streams.intake
+
+  script_is : script_lines (state mid).streams.intake ≡ script_lines (state old).streams.intake
+  script_is = ap (λ (x : Streams). script_lines x.intake) streams
+
+  -- what was given since the volume was open was given since the start
+  module _ (status : Status) (lines : List Line) (tail : List ℕ) (gave : GaveReplies w (script_lines (state mid).streams.intake) lines tail (state mid) (state new)) (none : closings tail ≡ 0) (taken : List ℕ) (took : (state mid).streams.intake ≡ taken ++ (state new).streams.intake)
+      (at : EndsAt status w gave.steps tail taken (state new).streams.intake) (exit : status ≡ Done → Every Everywhere (state new) (Fits (finished (end w gave.steps))))
+      (rose : RoseBy (faults_of gave.steps + fault_at status) (state mid).faults (state new).faults) (well : NoneRose (state old) (state new) → EndsWell status (state old)) where
+    ends_so : Ends status w (state old) (state new)
+    ends_so = record {
+      steps = gave.steps;
+      runs = subst (λ (x : List Line). RunsFirst w x gave.steps) script_is gave.first;
+      tail = tail;
+      gives = gave.gives ∙ ap (λ (x : Streams). x.aside ++ reply_texts gave.steps ++ tail) streams;
+      count = closings-texts gave.steps tail gave.named none;
+      taken = taken;
+      took = ap (λ (x : Streams). x.intake) (sym streams) ∙ took;
+      by_status = at;
+      exit = exit;
+      faults = omega (arith, rose, faults);
+      complete = λ quiet. (well quiet, none_of (faults_of gave.steps) (state old).faults (state new).faults (omega (arith, rose, faults)) quiet.disk);
+      answers = answers_well w gave.steps gave.first.runs;
+      alone = all_alone (state old).now w gave.steps starts.opens gave.first.runs;
+    }
+
+  -- how the session ended, by its status
+  module _ (on : GoesOn (state mid) (state new)) where
+    disk_rose : Rose (state mid).faults (state new).faults → NoneRose (state old) (state new) → ⊥
+    disk_rose rose quiet = quiet.disk (omega (arith, rose, faults))
+
+    pub ends_served : (status : Status) → (status ≡ Done) ⊎ LoopCause status (state mid) (state new) → Served state left w mid status z new → Ends status w (state old) (state new)
+    ends_served Done cause served =
+        let r = served.reaches in let gave = r.2.gave in
+        ends_so Done _ [] gave closings-none served.taken served.took (refl, r.0, r.1, gave.asked) (λ is. fits_finished z (state new) (end w gave.steps) r.2.stands) (omega (arith, gave.faults)) (λ quiet. tt)
+    ends_served Source cause served =
+        let r = served.reaches in let gave = r.1.gave in
+        ends_so Source _ [] gave closings-none served.taken served.took (refl, r.0, gave.asked) (λ is. absurd (cc is)) (omega (arith, gave.faults))
+        (λ quiet. ⊎_elim (λ is. absurd (cc is)) (λ rose. quiet.source (subst (λ (x : Streams). Rose x.source_faults (state new).streams.source_faults) streams rose)) cause)
+    ends_served Script cause served =
+        let r = served.reaches in let gave = r.1.gave in
+        ends_so Script _ [] gave closings-none served.taken served.took (refl, r.0, gave.asked) (λ is. absurd (cc is)) (omega (arith, gave.faults)) (λ quiet. longer served.taken r.0 served.took)
+      where
+        longer : (taken : List ℕ) → length taken ≡ longest_script + 1 → (state mid).streams.intake ≡ taken ++ (state new).streams.intake → longest_script < length (state old).streams.intake
+        longer taken is took = omega (arith, is, ap length (ap (λ (x : Streams). x.intake) (sym streams) ∙ took), length-append taken (state new).streams.intake)
+    ends_served Sink cause served =
+        let r = served.reaches in let cut = r.1.breaks in
+        ends_so Sink cut.lines cut.tail cut.gave (closings-part cut.reply cut.tail cut.part.0 cut.names cut.part.2 cut.part.1) served.taken served.took
+        (r.0, record { lines = r.1.heard; heard = r.1.all; reply = cut.reply; then = cut.then; next = cut.next; part = cut.part }) (λ is. absurd (cc is)) (omega (arith, cut.gave.faults))
+        (λ quiet. ⊎_elim (λ is. absurd (cc is)) (λ rose. quiet.sink (subst (λ (x : Streams). Rose x.sink_faults (state new).streams.sink_faults) streams rose)) cause)
+    ends_served Disk cause served =
+        let r = served.reaches in let cut = r.1.breaks in
+        ends_so Disk cut.lines [] cut.gave closings-none served.taken served.took
+        (refl, r.0, inr (inl (record { lines = r.1.heard; heard = r.1.all; line = cut.line; ahead = cut.ahead; next = cut.next; order = cut.order }))) (λ is. absurd (cc is)) cut.faults
+        (λ quiet. ⊎_elim (λ is. absurd (cc is)) (λ rose. disk_rose rose quiet) cause)
+    ends_served Usage cause served = absurd served.reaches
+    ends_served Memory cause served = absurd served.reaches
+    ends_served Volume cause served = absurd served.reaches
+    ends_served Small cause served = absurd served.reaches
+
+  -- what each crash leaves afterwards
+  crash_in : (status : Status) → Served state left w mid status z new → LeavesOnly left mid new (CrashLeaves (state mid).streams.aside w (script_lines (state mid).streams.intake))
+  crash_in Done served = served.reaches.2.crash
+  crash_in Source served = served.reaches.1.crash
+  crash_in Script served = served.reaches.1.crash
+  crash_in Sink served = served.reaches.1.breaks.crash
+  crash_in Disk served = served.reaches.1.breaks.crash
+  crash_in Usage served = absurd served.reaches
+  crash_in Memory served = absurd served.reaches
+  crash_in Volume served = absurd served.reaches
+  crash_in Small served = absurd served.reaches
+
+  pub crash_served : (status : Status) → Served state left w mid status z new → LeavesOnly left old mid (With (state old).streams.aside (Fits w)) → LeavesOnly left old new (CrashLeaves (state old).streams.aside w (script_lines (state old).streams.intake))
+  crash_served status served leaves = record {
+    each = λ t image out l. ⊎_elim (λ before. (crash_opened state left w old mid leaves).each t image out before)
+        (λ here. inr (subst (λ (x : Streams). CrashLeaves x.aside w (script_lines x.intake) image out) streams here)) ((crash_in status served).each t image out l);
+  }

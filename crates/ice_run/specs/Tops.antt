@@ -1,15 +1,15 @@
--- What a run does, whatever the host tells.
-use Rattle.std.specs.Prelude.{◌≡◌, ◌⊎◌, ◌<◌, ℕ, true, List}
-use Rattle.ice_base.specs.Disk.{Image, DiskState, Below, Everywhere, Nowhere}
-use Rattle.ice_base.specs.Frames.{Within, Kept, Settled}
+-- What the making of an image does, whatever the host tells.
+use Rattle.std.specs.Prelude.{◌≡◌, ◌<◌, ℕ, true, List}
+use Rattle.ice_base.specs.Disk.{Image, DiskState, Below, Everywhere}
+use Rattle.ice_base.specs.Frames.{Within, Settled}
 use Rattle.ice_base.specs.declared.status.Status.{Status}
-use Rattle.ice_base.specs.declared.status.Status.TheVariants.{Done, Memory, Small}
+use Rattle.ice_base.specs.declared.status.Status.TheVariants.{Done, Small}
 use Rattle.ice_layout.specs.Geometry.{total_blocks}
 use Rattle.ice_layout.specs.Supers.{IsFreshImage}
 use Rattle.ice_layout.specs.declared.superblock.Super.{Super}
-use Rattle.ice_run.specs.Causes.{FormatCause, SessionCause, HasAttached}
 use Rattle.ice_images.specs.Opening.{Opens, empty_world}
-use Rattle.ice_run.specs.Images.{IsEmptyVolume, Starts}
+use Rattle.ice_run.specs.Causes.{FormatCause}
+use Rattle.ice_run.specs.Clauses.{Starts}
 
 -- The making of an image. It changes blocks 0 to 31 alone, takes and gives nothing, and at Done they are the fresh image and nothing is loose.
 -- So a session may start from it, in the world without cubes. Small comes exactly where there are too few blocks, and then nothing was done.
@@ -20,13 +20,3 @@ pub record FormatsImage {D : Type 0} (state : D → DiskState) (left : D → ℕ
   pub fresh : (state old).tells ≡ true → status ≡ Done → IsFreshImage sup (state new).now × Settled Everywhere (state new)
   pub starts : (state old).tells ≡ true → status ≡ Done → Starts (state new) (empty_world sup)
   pub opens : (state old).tells ≡ true → status ≡ Done → Opens (state new).now (empty_world sup)
-
--- A session. No line changes the disk yet. A disk without a block is Small before any call on it.
--- Where the volume did not attach, nothing was taken or given and no block changed; where it attached, all is settled.
-pub record RunsSession {D : Type 0} (state : D → DiskState) (left : D → ℕ → Image → List ℕ → Type 0) (status : Status) (old new : D) : Type 0 where
-  pub cause : SessionCause status (state old) (state new)
-  pub kept : Kept Everywhere (state old) (state new)
-  pub no_block : (state old).size ≡ 0 → ((status ≡ Small) ⊎ (status ≡ Memory)) × (new ≡ old)
-  pub attached : (state old).tells ≡ true → HasAttached status → (sup : Super) × IsEmptyVolume sup (state old).now
-  pub silent : (HasAttached status → ⊥) → Within state left Nowhere old new
-  pub settled : (state old).tells ≡ true → HasAttached status → Settled Everywhere (state new)

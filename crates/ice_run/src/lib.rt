@@ -1,12 +1,12 @@
 //! The top call: what the words ask for, done on a host.
 #![tactic(auto)]
 
-mod attach;
 mod format;
 mod intake;
 mod serve;
 mod session;
 mod top;
+mod volume;
 mod words;
 
 pub use top::run;

@@ -1,20 +1,19 @@
 //! A session: lines are taken, answered, and their replies given.
-ghost use Rattle.std.specs.Prelude.{◌≡◌, ◌+◌, ◌++◌, ◌∷◌, [], ℕ, List, true, false, OnOk, OnErr, IfOk, None, length};
-ghost use Rattle.ice_base.specs.Disk.{Rose};
-ghost use Rattle.ice_base.specs.Host.{SameDisk, GaveOnly};
+ghost use Rattle.std.specs.Prelude.{◌≡◌, ◌+◌, ◌++◌, ◌∷◌, [], ℕ, List, true, false, OnOk, IfOk, IfErr};
 ghost use Rattle.tree_spec.specs.Lines.{Line};
-ghost use Rattle.tree_spec.specs.Replies.{meant};
-ghost use Rattle.tree_spec.specs.World.{World, Step};
+ghost use Rattle.tree_spec.specs.World.{World};
 ghost use Rattle.ice_script.specs.Grammar.{line_of};
-ghost use Rattle.ice_run.specs.Images.{Stands};
-ghost use Rattle.ice_run.specs.Sessions.{SoFar, CutShort, Serving};
-ghost use Rattle.ice_run.specs.Scripts.{script_lines};
+ghost use Rattle.ice_run.specs.Causes.{GoesOn, LoopCause};
+ghost use Rattle.ice_run.specs.Scripts.{script_lines, ended_lines};
+ghost use Rattle.ice_run.specs.Sessions.{IsLive, IsReady, SoFar, BreaksOff, Serving};
+ghost use Rattle.ice_run.specs.Volumes.{AnswersLine, HasRoom};
 
-use ice_base::{Host, SinkFault, give_all};
+use crate::volume::{LateFault, Volume};
+use ice_base::{Disk, Host, Status, give_all};
 use ice_script::LineReader;
 use ice_text::{Out, write_reply};
 use std::alloc::{AllocError, Global};
-use tree_spec::{Command, Refusal, Reply, Room, Value};
+use tree_spec::{Reply, Room};
 
 /// What a session works in. No line takes memory.
 #[derive(Drop)]
@@ -36,57 +35,79 @@ impl Session {
     }
 }
 
-/// The reply to the line that stands ready, in a volume without cubes.
-fn reply_to(reader: &mut LineReader, room: &mut Room) -> Reply
-    ensures { (w : World) → ((slot : ℕ) → w.cube slot ≡ None) → Step w (line_of reader.old.text) (meant result room.new) w }
+/// The reply to the line that stands ready.
+fn reply_to<D: Disk>(
+    disk: &mut D,
+    volume: &mut Volume,
+    reader: &mut LineReader,
+    room: &mut Room,
+) -> Result<Reply, LateFault>
+    requires { HasRoom volume.old.system (D.state disk.old) }
+    ensures { AnswersLine D.state D.left (line_of reader.old.text) volume.old.system volume.new.system room.new result disk.old disk.new }
 {
     room.clear();
     match reader.command() {
-        Ok(command) => match command {
-            Command::Cubes => Ok(Value::Listed(0)),
-            _ => Err(Refusal::NoCube),
-        },
-        Err(refusal) => Err(refusal),
+        Ok(command) => volume.line(disk, &command, room),
+        Err(refusal) => Ok(Err(refusal)),
     }
 }
 
 /// Answers the line that stands ready, and gives the whole text of the reply.
-pub(crate) fn answer<H: Host>(host: &mut H, session: &mut Session) -> Result<(), SinkFault>
-    ensures disk { SameDisk (H.state host.old) (H.state host.new) }
-    ensures only { GaveOnly (H.state host.old).streams (H.state host.new).streams }
-    ensures cause { OnErr result (Rose (H.state host.old).streams.sink_faults (H.state host.new).streams.sink_faults) }
-    ensures ready { session.new.reader.ended ≡ false }
-    ensures text { session.new.reader.text ≡ [] }
-    ensures answered { (w : World) (script lines ahead : List Line) (start : H) → Stands w (H.state start)
-        → script ≡ lines ++ line_of session.old.reader.text ∷ ahead → SoFar H.state H.left w script lines start host.old
-        → OnOk result (SoFar H.state H.left w script (lines ++ line_of session.old.reader.text ∷ []) start host.new) }
-    ensures cut { (w : World) (script lines ahead : List Line) (start : H) → Stands w (H.state start)
-        → script ≡ lines ++ line_of session.old.reader.text ∷ ahead → SoFar H.state H.left w script lines start host.old
-        → OnErr result (CutShort H.state H.left w script start host.new) }
+/// An `Err` is how the session ends: Sink, or Disk where a change of the tables failed late, which has no reply.
+pub(crate) fn answer<H: Host>(
+    host: &mut H,
+    volume: &mut Volume,
+    session: &mut Session,
+) -> Result<(), Status>
+    requires { IsLive volume.old.system (H.state host.old) }
+    ensures on { GoesOn (H.state host.old) (H.state host.new) }
+    ensures intake { (H.state host.new).streams.intake ≡ (H.state host.old).streams.intake }
+    ensures cause { IfErr result (λ status. LoopCause status (H.state host.old) (H.state host.new)) }
+    ensures ready { OnOk result (IsReady volume.new.system (H.state host.new) session.new.reader) }
+    ensures text { OnOk result (session.new.reader.text ≡ []) }
+    ensures answered { (w : World) (script lines ahead : List Line) (start : H)
+        → script ≡ lines ++ line_of session.old.reader.text ∷ ahead
+        → SoFar H.state H.left w script volume.old.system lines start host.old
+        → OnOk result (SoFar H.state H.left w script volume.new.system (lines ++ line_of session.old.reader.text ∷ []) start host.new) }
+    ensures broken { (w : World) (script lines ahead : List Line) (start : H)
+        → script ≡ lines ++ line_of session.old.reader.text ∷ ahead
+        → SoFar H.state H.left w script volume.old.system lines start host.old
+        → IfErr result (λ status. BreaksOff H.state H.left w script status (lines ++ line_of session.old.reader.text ∷ []) start host.new) }
 {
     session.out.clear();
-    let reply = reply_to(&mut session.reader, &mut session.room);
+    let reply = match reply_to(host, volume, &mut session.reader, &mut session.room) {
+        Ok(reply) => reply,
+        Err(_) => return Err(Status::Disk),
+    };
     write_reply(&reply, &session.room, &mut session.out);
     session.reader.clear();
-    give_all(host, session.out.bytes())
+    match give_all(host, session.out.bytes()) {
+        Ok(()) => Ok(()),
+        Err(_) => Err(Status::Sink),
+    }
 }
 
 /// Reads a byte, and answers the line that it ends.
-fn feed<H: Host>(host: &mut H, session: &mut Session, byte: u8) -> Result<(), SinkFault>
-    requires { session.old.reader.ended ≡ false }
-    ensures disk { SameDisk (H.state host.old) (H.state host.new) }
-    ensures only { GaveOnly (H.state host.old).streams (H.state host.new).streams }
-    ensures cause { OnErr result (Rose (H.state host.old).streams.sink_faults (H.state host.new).streams.sink_faults) }
-    ensures ready { session.new.reader.ended ≡ false }
-    ensures served { (w : World) (input taken ahead : List ℕ) (start : H) → Stands w (H.state start) → input ≡ taken ++ byte ∷ ahead
-        → Serving H.state H.left w input taken start host.old session.old.reader
-        → OnOk result (Serving H.state H.left w input (taken ++ byte ∷ []) start host.new session.new.reader) }
-    ensures cut { (w : World) (input taken ahead : List ℕ) (start : H) → Stands w (H.state start) → input ≡ taken ++ byte ∷ ahead
-        → Serving H.state H.left w input taken start host.old session.old.reader
-        → OnErr result (CutShort H.state H.left w (script_lines input) start host.new) }
+fn feed<H: Host>(
+    host: &mut H,
+    volume: &mut Volume,
+    session: &mut Session,
+    byte: u8,
+) -> Result<(), Status>
+    requires { IsReady volume.old.system (H.state host.old) session.old.reader }
+    ensures on { GoesOn (H.state host.old) (H.state host.new) }
+    ensures intake { (H.state host.new).streams.intake ≡ (H.state host.old).streams.intake }
+    ensures cause { IfErr result (λ status. LoopCause status (H.state host.old) (H.state host.new)) }
+    ensures ready { OnOk result (IsReady volume.new.system (H.state host.new) session.new.reader) }
+    ensures served { (w : World) (input taken ahead : List ℕ) (start : H) → input ≡ taken ++ byte ∷ ahead
+        → Serving H.state H.left w volume.old.system input taken start host.old session.old.reader
+        → OnOk result (Serving H.state H.left w volume.new.system input (taken ++ byte ∷ []) start host.new session.new.reader) }
+    ensures broken { (w : World) (input taken ahead : List ℕ) (start : H) → input ≡ taken ++ byte ∷ ahead
+        → Serving H.state H.left w volume.old.system input taken start host.old session.old.reader
+        → IfErr result (λ status. BreaksOff H.state H.left w (script_lines input) status (ended_lines (taken ++ byte ∷ [])) start host.new) }
 {
     if session.reader.push(byte) {
-        answer(host, session)
+        answer(host, volume, session)
     } else {
         Ok(())
     }
@@ -95,42 +116,50 @@ fn feed<H: Host>(host: &mut H, session: &mut Session, byte: u8) -> Result<(), Si
 /// Reads the bytes of a piece, one after another.
 pub(crate) fn feed_all<H: Host>(
     host: &mut H,
+    volume: &mut Volume,
     session: &mut Session,
     piece: &[u8],
-) -> Result<(), SinkFault>
-    requires { session.old.reader.ended ≡ false }
-    ensures disk { SameDisk (H.state host.old) (H.state host.new) }
-    ensures only { GaveOnly (H.state host.old).streams (H.state host.new).streams }
-    ensures cause { OnErr result (Rose (H.state host.old).streams.sink_faults (H.state host.new).streams.sink_faults) }
-    ensures ready { session.new.reader.ended ≡ false }
-    ensures served { (w : World) (input taken ahead : List ℕ) (start : H) → Stands w (H.state start) → input ≡ taken ++ piece.now ++ ahead
-        → Serving H.state H.left w input taken start host.old session.old.reader
-        → OnOk result (Serving H.state H.left w input (taken ++ piece.now) start host.new session.new.reader) }
-    ensures cut { (w : World) (input taken ahead : List ℕ) (start : H) → Stands w (H.state start) → input ≡ taken ++ piece.now ++ ahead
-        → Serving H.state H.left w input taken start host.old session.old.reader
-        → OnErr result (CutShort H.state H.left w (script_lines input) start host.new) }
+) -> Result<(), Status>
+    requires { IsReady volume.old.system (H.state host.old) session.old.reader }
+    ensures on { GoesOn (H.state host.old) (H.state host.new) }
+    ensures intake { (H.state host.new).streams.intake ≡ (H.state host.old).streams.intake }
+    ensures cause { IfErr result (λ status. LoopCause status (H.state host.old) (H.state host.new)) }
+    ensures ready { OnOk result (IsReady volume.new.system (H.state host.new) session.new.reader) }
+    ensures served { (w : World) (input taken ahead : List ℕ) (start : H) → input ≡ taken ++ piece.now ++ ahead
+        → Serving H.state H.left w volume.old.system input taken start host.old session.old.reader
+        → OnOk result (Serving H.state H.left w volume.new.system input (taken ++ piece.now) start host.new session.new.reader) }
+    ensures broken { (w : World) (input taken ahead : List ℕ) (start : H) → input ≡ taken ++ piece.now ++ ahead
+        → Serving H.state H.left w volume.old.system input taken start host.old session.old.reader
+        → IfErr result (λ status. BreaksOff H.state H.left w (script_lines input) status (ended_lines (taken ++ piece.now)) start host.new) }
 {
     for byte in piece {
-        feed(host, session, *byte)?;
+        match feed(host, volume, session, *byte) {
+            Ok(()) => {}
+            Err(status) => return Err(status),
+        }
     }
     Ok(())
 }
 
 /// Answers a last line that no LF ended, where there is one.
-pub(crate) fn close<H: Host>(host: &mut H, session: &mut Session) -> Result<(), SinkFault>
-    requires { session.old.reader.ended ≡ false }
-    ensures disk { SameDisk (H.state host.old) (H.state host.new) }
-    ensures only { GaveOnly (H.state host.old).streams (H.state host.new).streams }
-    ensures cause { OnErr result (Rose (H.state host.old).streams.sink_faults (H.state host.new).streams.sink_faults) }
-    ensures served { (w : World) (input : List ℕ) (start : H) → Stands w (H.state start)
-        → Serving H.state H.left w input input start host.old session.old.reader
-        → OnOk result (SoFar H.state H.left w (script_lines input) (script_lines input) start host.new) }
-    ensures cut { (w : World) (input : List ℕ) (start : H) → Stands w (H.state start)
-        → Serving H.state H.left w input input start host.old session.old.reader
-        → OnErr result (CutShort H.state H.left w (script_lines input) start host.new) }
+pub(crate) fn close<H: Host>(
+    host: &mut H,
+    volume: &mut Volume,
+    session: &mut Session,
+) -> Result<(), Status>
+    requires { IsReady volume.old.system (H.state host.old) session.old.reader }
+    ensures on { GoesOn (H.state host.old) (H.state host.new) }
+    ensures intake { (H.state host.new).streams.intake ≡ (H.state host.old).streams.intake }
+    ensures cause { IfErr result (λ status. LoopCause status (H.state host.old) (H.state host.new)) }
+    ensures served { (w : World) (input : List ℕ) (start : H)
+        → Serving H.state H.left w volume.old.system input input start host.old session.old.reader
+        → OnOk result (SoFar H.state H.left w (script_lines input) volume.new.system (script_lines input) start host.new) }
+    ensures broken { (w : World) (input : List ℕ) (start : H)
+        → Serving H.state H.left w volume.old.system input input start host.old session.old.reader
+        → IfErr result (λ status. BreaksOff H.state H.left w (script_lines input) status (script_lines input) start host.new) }
 {
     if session.reader.finish() {
-        answer(host, session)
+        answer(host, volume, session)
     } else {
         Ok(())
     }

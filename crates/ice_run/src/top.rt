@@ -1,27 +1,28 @@
 //! The top call.
-ghost use Rattle.std.specs.Prelude.{◌≡◌, ◌⊎◌, ◌<◌, ◌↔◌, ℕ, List, true, None, Some};
-ghost use Rattle.ice_base.specs.Disk.{Image, Below, Everywhere, Nowhere};
-ghost use Rattle.ice_base.specs.Frames.{Within, Kept, Settled};
+ghost use Rattle.std.specs.Prelude.{◌≡◌, ◌⊎◌, ◌<◌, ◌↔◌, ℕ, List, [], true, false, None, Some};
+ghost use Rattle.ice_base.specs.Disk.{Image, Below, Everywhere};
+ghost use Rattle.ice_base.specs.Frames.{Within, LeavesOnly, Settled};
 ghost use Rattle.ice_layout.specs.Geometry.{total_blocks};
 ghost use Rattle.ice_layout.specs.Supers.{is_geometry, IsFreshImage};
 ghost use Rattle.ice_layout.specs.declared.superblock.Super.{Super as Geometry};
 ghost use Rattle.tree_spec.specs.World.{World};
-ghost use Rattle.ice_run.specs.Causes.{SessionCause, FormatCause, HasAttached};
-ghost use Rattle.ice_run.specs.Endings.{EndsAs};
-ghost use Rattle.ice_run.specs.Forms.{request_of, Formats, Runs};
 ghost use Rattle.ice_images.specs.Opening.{Opens, empty_world};
-ghost use Rattle.ice_run.specs.Images.{Starts, Stands, IsEmptyVolume};
-ghost use Rattle.ice_run.specs.Runs.{LeftByRun};
+ghost use Rattle.ice_run.specs.Behaving.{Behaves};
+ghost use Rattle.ice_run.specs.Causes.{FormatCause};
+ghost use Rattle.ice_run.specs.Clauses.{Starts, Ends};
+ghost use Rattle.ice_run.specs.Crashes.{CrashLeaves, DamageLeaves};
+ghost use Rattle.ice_run.specs.Forms.{request_of, Formats, Runs};
 ghost use Rattle.ice_run.specs.Scripts.{script_lines};
-ghost use Rattle.ice_run.specs.Tops.{FormatsImage, RunsSession};
+ghost use Rattle.ice_run.specs.Tops.{FormatsImage};
 
-use crate::attach::{AttachFault, attach};
 use crate::format::format;
 use crate::serve::serve;
 use crate::session::Session;
+use crate::volume::Volume;
 use crate::words::{Form, read_form};
 use ice_base::{Disk, Host, Status, Words};
 use ice_layout::{Super, total};
+use ice_system::{System, TablesFault};
 use std::alloc::Global;
 
 /// Makes the fresh image where the disk is large enough.
@@ -45,29 +46,41 @@ fn format_image<D: Disk>(disk: &mut D, sup: &Super) -> Status
 }
 
 /// Opens the volume and answers the script.
-fn run_session<H: Host>(alloc: Global, host: &mut H) -> Status
-    ensures cause { SessionCause result (H.state host.old) (H.state host.new) }
+fn open_and_serve<H: Host>(alloc: Global, host: &mut H, session: &mut Session) -> Status
+    requires text { session.old.reader.text ≡ [] }
+    requires open_line { session.old.reader.ended ≡ false }
+    ensures behaves { Behaves result (H.state host.old) (H.state host.new) }
     ensures memory { result ≡ Status.Memory → host.new ≡ host.old }
-    ensures no_block { (H.state host.old).size ≡ 0 → ((result ≡ Status.Small) ⊎ (result ≡ Status.Memory)) × (host.new ≡ host.old) }
-    ensures kept { Kept Everywhere (H.state host.old) (H.state host.new) }
-    ensures attached { (H.state host.old).tells ≡ true → HasAttached result → (sup : Geometry) × IsEmptyVolume sup (H.state host.old).now }
-    ensures silent { (HasAttached result → ⊥) → Within H.state H.left Nowhere host.old host.new }
-    ensures settled { (H.state host.old).tells ≡ true → HasAttached result → Settled Everywhere (H.state host.new) }
-    ensures output { (w : World) → Starts (H.state host.old) w → EndsAs result w (H.state host.old) (H.state host.new) }
-    ensures exit { (w : World) → Starts (H.state host.old) w → result ≡ Status.Done → Stands w (H.state host.new) }
-    ensures crash { (w : World) → Starts (H.state host.old) w → (image : Image) (out : List ℕ)
-        → H.left host.new (H.state host.old).clock image out
-        → LeftByRun (H.state host.old).streams.aside w (script_lines (H.state host.old).streams.intake) image out }
+    ensures ends { (w : World) → Starts (H.state host.old) w → Ends result w (H.state host.old) (H.state host.new) }
+    ensures crash { (w : World) → Starts (H.state host.old) w
+        → LeavesOnly H.left host.old host.new (CrashLeaves (H.state host.old).streams.aside w (script_lines (H.state host.old).streams.intake)) }
 {
-    let mut session = match Session::new(alloc) {
-        Ok(session) => session,
-        Err(_) => return Status::Memory,
+    let system = match System::attach(alloc, host) {
+        Ok(system) => system,
+        Err(TablesFault::Small) => return Status::Small,
+        Err(TablesFault::Layout(_)) => return Status::Volume,
+        Err(TablesFault::Disk) => return Status::Disk,
+        Err(TablesFault::Memory) => return Status::Memory,
     };
-    match attach(host) {
-        Ok(_) => serve(host, &mut session),
-        Err(AttachFault::Small) => Status::Small,
-        Err(AttachFault::Layout) => Status::Volume,
-        Err(AttachFault::Disk) => Status::Disk,
+    let mut volume = Volume { system };
+    serve(host, &mut volume, session)
+}
+
+/// Makes room for a session, and runs it.
+fn run_session<H: Host>(alloc: Global, host: &mut H) -> Status
+    ensures behaves { Behaves result (H.state host.old) (H.state host.new) }
+    ensures memory { result ≡ Status.Memory → host.new ≡ host.old }
+    ensures ends { (w : World) → Starts (H.state host.old) w → Ends result w (H.state host.old) (H.state host.new) }
+    ensures crash { (w : World) → Starts (H.state host.old) w → (crashed : Image) (out : List ℕ)
+        → H.left host.new (H.state host.old).clock crashed out
+        → CrashLeaves (H.state host.old).streams.aside w (script_lines (H.state host.old).streams.intake) crashed out }
+{
+    match Session::new(alloc) {
+        Ok(session) => {
+            let mut session = session;
+            open_and_serve(alloc, host, &mut session)
+        }
+        Err(_) => Status::Memory,
     }
 }
 
@@ -75,21 +88,22 @@ fn run_session<H: Host>(alloc: Global, host: &mut H) -> Status
 ///
 /// `format IMAGE --slots S --groups N`, S of 1 to 16 and N of 1 to 1,024, writes blocks 0 to 31 of a fresh image and settles them.
 /// `run IMAGE` opens the volume and answers the script. The reply to a line is given whole before the next line is looked at.
+/// A change of the tables that failed from the first write of its gate on has no reply, and ends the session with `Disk`.
 /// Other words are `Usage`. `Usage` and `Memory` come before any call on the host.
 pub fn run<H: Host>(alloc: Global, words: &Words, host: &mut H) -> Status
     ensures usage { (result ≡ Status.Usage) ↔ (request_of words.now ≡ None) }
     ensures untouched { (result ≡ Status.Usage) ⊎ (result ≡ Status.Memory) → host.new ≡ host.old }
     ensures format { (image : List ℕ) (sup : Geometry) → request_of words.now ≡ Some (Formats image sup)
         → FormatsImage H.state H.left sup result host.old host.new }
-    ensures session { (image : List ℕ) → request_of words.now ≡ Some (Runs image) → RunsSession H.state H.left result host.old host.new }
-    ensures output { (image : List ℕ) (w : World) → request_of words.now ≡ Some (Runs image)
-        → Starts (H.state host.old) w → EndsAs result w (H.state host.old) (H.state host.new) }
+    ensures behaves { (image : List ℕ) → request_of words.now ≡ Some (Runs image) → Behaves result (H.state host.old) (H.state host.new) }
+    ensures ends { (image : List ℕ) (w : World) → request_of words.now ≡ Some (Runs image)
+        → Starts (H.state host.old) w → Ends result w (H.state host.old) (H.state host.new) }
     ensures crash { (image : List ℕ) (w : World) → request_of words.now ≡ Some (Runs image)
-        → Starts (H.state host.old) w → (crashed : Image) (out : List ℕ)
-        → H.left host.new (H.state host.old).clock crashed out
-        → LeftByRun (H.state host.old).streams.aside w (script_lines (H.state host.old).streams.intake) crashed out }
-    ensures exit { (image : List ℕ) (w : World) → request_of words.now ≡ Some (Runs image)
-        → Starts (H.state host.old) w → result ≡ Status.Done → Stands w (H.state host.new) }
+        → Starts (H.state host.old) w → (crashed : Image) (out : List ℕ) → H.left host.new (H.state host.old).clock crashed out
+        → CrashLeaves (H.state host.old).streams.aside w (script_lines (H.state host.old).streams.intake) crashed out }
+    ensures damage { (image : List ℕ) (w : World) → request_of words.now ≡ Some (Runs image)
+        → Starts (H.state host.old) w → (crashed : Image) (out : List ℕ) → H.left host.new (H.state host.old).clock crashed out
+        → DamageLeaves (H.state host.old).streams.aside w (script_lines (H.state host.old).streams.intake) crashed out }
 {
     match read_form(words) {
         Some(Form::Format { image: _, sup }) => format_image(host, &sup),

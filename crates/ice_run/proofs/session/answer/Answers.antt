@@ -1,15 +1,38 @@
-use Rattle.std.proofs.Common.{◌∙◌}
+use Rattle.std.proofs.Common.{◌∙◌, ◌++◌, ℕ, List, length, ap, subst}
+use Rattle.ice_base.specs.Disk.{Everywhere}
+use Rattle.ice_base.specs.Host.{Leaves, FirstOf, CutOf}
+use Rattle.ice_base.proofs.Kept.{kept_same}
 use Rattle.tree_spec.specs.Replies.{meant}
 use Rattle.ice_script.specs.Grammar.{line_of}
-use Rattle.ice_run.proofs.SessionLaws.{answered_ok, answered_err}
+use Rattle.ice_run.specs.Runs.{end}
+use Rattle.ice_run.proofs.SessionLaws.{failed_late, answered_more, cut_short}
+use Rattle.ice_run.proofs.Standing.{stands_kept}
 use Rattle.ice_run.proofs.session.answer.Goals as goal
 
-pub returns-clause-answered : goal.returns-clause-answered
-returns-clause-answered g c = λ w script lines ahead start stands is so_far.
-    answered_ok g.H.Disk.state g.H.Disk.left w script lines ahead (line_of c.args.session.now.reader.text) (meant c.reply_to-reply.result c.reply_to-reply.new.room) start c.args.host.now c.give_all.new.host stands so_far is
-    (c.reply_to-reply.ensures w stands.free) c.write_reply.ensures.names c.give_all.ensures.disk c.bytes.result.now (c.bytes.ensures ∙ c.write_reply.ensures.text) c.give_all.ensures.leaves c.give_all.result c.give_all.ensures.all
+pub returns-in-Err-clause-broken : goal.returns-in-Err-clause-broken
+returns-in-Err-clause-broken g c = λ w script lines ahead start is so_far.
+    let now = end w so_far.gave.steps in let al = c.in-Err.ensures in
+    failed_late g.H.Disk.state g.H.Disk.left w script lines ahead (line_of c.args.session.now.reader.text) start c.args.host.now c.reply_to.new.disk c.args.volume.now.system so_far is al.within.streams (al.leaves now so_far.stands)
+    (al.cause c.requires.live) (al.stops now so_far.stands)
 
-pub returns-clause-cut : goal.returns-clause-cut
-returns-clause-cut g c = λ w script lines ahead start stands is so_far.
-    answered_err g.H.Disk.state g.H.Disk.left w script lines ahead (line_of c.args.session.now.reader.text) (meant c.reply_to-reply.result c.reply_to-reply.new.room) start c.args.host.now c.give_all.new.host stands so_far is
-    (c.reply_to-reply.ensures w stands.free) c.write_reply.ensures.names c.give_all.ensures.disk c.bytes.result.now (c.bytes.ensures ∙ c.write_reply.ensures.text) c.give_all.ensures.leaves c.give_all.result c.give_all.ensures.cut
+pub returns-in-Ok-give_all-clause-answered : goal.returns-in-Ok-give_all-clause-answered
+returns-in-Ok-give_all-clause-answered g c = λ w script lines ahead start is so_far.
+    let state = g.H.Disk.state in let left = g.H.Disk.left in let b = c.reply_to.new.disk in let new = c.give_all.new.host in let z = c.reply_to.new.volume.system in
+    let now = end w so_far.gave.steps in let al = c.in-Ok.ensures in let r = meant c.in-Ok.reply c.reply_to.new.room in
+    let go = al.goes now so_far.stands in let told = go.2.tables.settled.told in let whole = c.bytes.ensures ∙ c.write_reply.ensures.text in
+    answered_more state left w script lines ahead (line_of c.args.session.now.reader.text) start c.args.host.now b c.args.volume.now.system so_far is al.within.streams (al.leaves now so_far.stands)
+    z r go.0 go.1 go.2 c.write_reply.ensures.names al.faults new c.give_all.ensures.disk
+    (subst (λ (x : List ℕ). Leaves state left (FirstOf (state b).streams.aside x (length x)) b new) whole (c.give_all.ensures.leaves told))
+    (stands_kept z (state b) (state new) go.0 (kept_same Everywhere (state b) (state new) c.give_all.ensures.disk) go.2)
+    (c.in-Ok-give_all.ensures.all told ∙ ap (λ (x : List ℕ). (state b).streams.aside ++ x) whole)
+
+pub returns-in-Err-give_all-clause-broken : goal.returns-in-Err-give_all-clause-broken
+returns-in-Err-give_all-clause-broken g c = λ w script lines ahead start is so_far.
+    let state = g.H.Disk.state in let left = g.H.Disk.left in let b = c.reply_to.new.disk in let new = c.give_all.new.host in let z = c.reply_to.new.volume.system in
+    let now = end w so_far.gave.steps in let al = c.in-Ok.ensures in let r = meant c.in-Ok.reply c.reply_to.new.room in
+    let go = al.goes now so_far.stands in let told = go.2.tables.settled.told in let whole = c.bytes.ensures ∙ c.write_reply.ensures.text in
+    cut_short state left w script lines ahead (line_of c.args.session.now.reader.text) start c.args.host.now b c.args.volume.now.system so_far is al.within.streams (al.leaves now so_far.stands)
+    z r go.0 go.1 go.2 c.write_reply.ensures.names al.faults new c.give_all.ensures.disk
+    (subst (λ (x : List ℕ). Leaves state left (FirstOf (state b).streams.aside x (length x)) b new) whole (c.give_all.ensures.leaves told))
+    (stands_kept z (state b) (state new) go.0 (kept_same Everywhere (state b) (state new) c.give_all.ensures.disk) go.2)
+    al.within.faults (subst (λ (x : List ℕ). CutOf (state b).streams.aside x (state new).streams.aside) whole (c.in-Err-give_all.ensures.cut told))
