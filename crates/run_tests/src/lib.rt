@@ -9,3 +9,5 @@ mod format;
 mod hosts;
 #[cfg(test)]
 mod sessions;
+#[cfg(test)]
+mod tables;
