@@ -1,4 +1,5 @@
 pub mod Areas
 pub mod Blocks
 pub mod Phases
+pub mod Rests
 pub mod Shown

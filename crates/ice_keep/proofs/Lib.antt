@@ -1,2 +1,3 @@
-mod ThroughLaws
+pub mod JournaledLaws
 mod ListLaws
+mod ThroughLaws

@@ -1,21 +1,19 @@
 -- What the images that a crash leaves have, once their table blocks are known.
-use Rattle.std.proofs.Common.{◌≡◌, ◌∙◌, ◌≤◌, ◌<◌, inl, inr, ⊎_elim, ℕ, Bool, true, false, List, [], Option, Some, None, refl, sym, ap, subst, arith}
-use Rattle.std.specs.Prelude.{IsSomeAnd, if◌then◌else◌, unwrap_or}
-use Rattle.std.specs.Option.{option_map}
+use Rattle.std.proofs.Common.{◌≡◌, ◌∙◌, ◌≤◌, ◌<◌, inl, inr, ⊎_elim, ℕ, true, List, Option, Some, refl, sym, ap, subst, arith}
+use Rattle.std.specs.Prelude.{unwrap_or}
 use Rattle.std.proofs.Math.Path.{fun_ext}
 use Rattle.std.proofs.lemmas.Bool.Decides.{nat_tests}
 use Rattle.ice_base.specs.Disk.{Image, block}
-use Rattle.ice_layout.specs.Headers.{is_table, system_targets}
+use Rattle.ice_layout.specs.Headers.{is_table}
 use Rattle.ice_layout.specs.Supers.{super_fault, super_of}
 use Rattle.ice_layout.specs.declared.superblock.Super.{Super}
-use Rattle.ice_tables.specs.Journals.{system_places, effective, in_tables, table_blocks}
+use Rattle.ice_tables.specs.Journals.{in_tables, table_blocks}
 use Rattle.ice_tables.specs.Tables.{Tables, Row, HasTables, tables_in, row_in, holder_in, ordinal_in}
 use Rattle.ice_tables.specs.Lots.{AtRest}
 use Rattle.ice_tables.proofs.Groups.{super_few}
 use Rattle.ice_tables.proofs.JournalLaws.{table_blocks_homes}
 use Rattle.ice_txn.specs.declared.set.Entry.{Entry}
 use Rattle.ice_txn.specs.Sets.{over}
-use Rattle.ice_journal.specs.Phases.{StandsFor, Idle}
 use Rattle.ice_system.specs.Says.{SayTables}
 use Rattle.ice_system.specs.Changes.{HasChanges}
 use Rattle.ice_system.proofs.Mixing.{Mixed, mixed_says}
@@ -28,26 +26,6 @@ table-here k low high = grind (arith, nat_tests)
 -- a map, where only the table blocks count
 pub in-tables-here : (m : ℕ → List ℕ) (k : ℕ) → 11 ≤ k → k < 19 → in_tables m k ≡ m k
 in-tables-here m k low high = rw (table-here k low high) refl
-
-pub same-tables : (m n : ℕ → List ℕ) → ((k : ℕ) → is_table k ≡ true → m k ≡ n k) → in_tables m ≡ in_tables n
-same-tables m n same = fun_ext (λ k. by k (is_table k) refl)
-  where
-    by : (k : ℕ) (b : Bool) → is_table k ≡ b → (if b then m k else []) ≡ (if b then n k else [])
-    by k true is = same k is
-    by k false is = refl
-
--- what the journal of the tables stands for are their effective blocks
-pub stands_blocks : (map : ℕ → List ℕ) (image : Image) → StandsFor system_targets system_places map image → table_blocks image ≡ Some (in_tables map)
-unfolding table_blocks
-stands_blocks map image stands = by (effective system_targets system_places image) stands
-  where
-    by : (o : Option (ℕ → List ℕ)) → IsSomeAnd o (λ m. (a : ℕ) → is_table a ≡ true → m a ≡ map a) → option_map (λ m. in_tables m) o ≡ Some (in_tables map)
-    by None is = absurd is
-    by (Some m) is = ap (λ (x : ℕ → List ℕ). Some x) (same-tables m map is)
-
--- at rest they are the homes
-pub idle_blocks : (map : ℕ → List ℕ) (image : Image) → Idle system_places map image → table_blocks image ≡ Some (in_tables map)
-idle_blocks map image idle = table_blocks_homes image idle.gate ∙ ap (λ (x : ℕ → List ℕ). Some x) (same-tables (block image) map idle.homes)
 
 -- ---- tables, and blocks that say them
 
@@ -78,19 +56,24 @@ said_tables t image m is h =
 pub few_of : (t : Tables) (image : Image) → HasTables image t → (t.slots ≤ 16) × (t.groups ≤ 1024)
 few_of t image h = subst (λ (u : Tables). (u.slots ≤ 16) × (u.groups ≤ 1024)) (sym h.says) (super_few (block image 0) h.superblock)
 
+-- tables with the same parts are the same
 abbrev with_parts : (slots groups : ℕ) (row : ℕ → Option Row) (holder : ℕ → Option ℕ) (ordinal : ℕ → ℕ) → Tables
 with_parts slots groups row holder ordinal = record { slots = slots; groups = groups; row = row; holder = holder; ordinal = ordinal }
 
-next_says : (u : Tables) (sup : Super) (m : ℕ → List ℕ) → u.slots ≡ sup.slots → u.groups ≡ sup.groups → SayTables u m → u ≡ tables_in sup m
-next_says u sup m slots groups say =
-    let row : u.row ≡ (λ s. row_in sup.slots m s) = fun_ext (λ s. sym (subst (λ n. row_in n m s ≡ u.row s) slots (say.rows s))) in
-    let holder : u.holder ≡ (λ g. holder_in sup.groups m g) = fun_ext (λ g. sym (subst (λ n. holder_in n m g ≡ u.holder g) groups (say.holders g))) in
-    let ordinal : u.ordinal ≡ (λ g. ordinal_in sup.groups m g) = fun_ext (λ g. sym (subst (λ n. ordinal_in n m g ≡ u.ordinal g) groups (say.ordinals g))) in
-    made u.slots sup.slots u.groups sup.groups u.row (λ s. row_in sup.slots m s) u.holder (λ g. holder_in sup.groups m g) u.ordinal (λ g. ordinal_in sup.groups m g) slots groups row holder ordinal
+pub tables_same : (a b : Tables) → a.slots ≡ b.slots → a.groups ≡ b.groups → ((s : ℕ) → a.row s ≡ b.row s) → ((g : ℕ) → a.holder g ≡ b.holder g)
+    → ((g : ℕ) → a.ordinal g ≡ b.ordinal g) → a ≡ b
+tables_same a b slots groups row holder ordinal =
+    made a.slots b.slots a.groups b.groups a.row b.row a.holder b.holder a.ordinal b.ordinal slots groups (fun_ext row) (fun_ext holder) (fun_ext ordinal)
   where
     made : (a b c d : ℕ) (e f : ℕ → Option Row) (h i : ℕ → Option ℕ) (j k : ℕ → ℕ) → a ≡ b → c ≡ d → e ≡ f → h ≡ i → j ≡ k
         → with_parts a c e h j ≡ with_parts b d f i k
     made a b c d e f h i j k p q r s t = rw (p, q, r, s, t) refl
+
+next_says : (u : Tables) (sup : Super) (m : ℕ → List ℕ) → u.slots ≡ sup.slots → u.groups ≡ sup.groups → SayTables u m → u ≡ tables_in sup m
+next_says u sup m slots groups say = tables_same u (tables_in sup m) slots groups
+    (λ s. sym (subst (λ n. row_in n m s ≡ u.row s) slots (say.rows s)))
+    (λ g. sym (subst (λ n. holder_in n m g ≡ u.holder g) groups (say.holders g)))
+    (λ g. sym (subst (λ n. ordinal_in n m g ≡ u.ordinal g) groups (say.ordinals g)))
 
 -- an image whose blocks say the tables has them
 pub has_said : (t u : Tables) (i j : Image) (m : ℕ → List ℕ) → HasTables i t → block j 0 ≡ block i 0 → u.slots ≡ t.slots → u.groups ≡ t.groups → table_blocks j ≡ Some m → SayTables u m → HasTables j u

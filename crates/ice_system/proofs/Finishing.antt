@@ -12,9 +12,9 @@ use Rattle.ice_tables.proofs.JournalLaws.{table-range, table_blocks_rest}
 use Rattle.ice_tables.proofs.TableLaws.{tables_rest}
 use Rattle.ice_journal.specs.Blocks.{JournalExtent, ReplayBlocks}
 use Rattle.ice_journal.specs.Phases.{Idle, IsPending, RestsIdle, StandsFor}
-use Rattle.ice_journal.proofs.StandLaws.{pending_rests}
+use Rattle.ice_journal.proofs.StandLaws.{pending_rests, tables_effective, tables_idle_blocks}
 use Rattle.ice_system.specs.Attaching.{Finishes, IsReplayed}
-use Rattle.ice_system.proofs.Crashes.{stands_blocks, idle_blocks, still_has}
+use Rattle.ice_system.proofs.Crashes.{still_has}
 use Rattle.ice_system.proofs.Moving.{extent_some}
 
 -- an open journal whose header is refused leaves no tables
@@ -26,13 +26,15 @@ no_blocks image on refused = rw (on, refused) refl
 abbrev with_bodies : List ℕ → Image → ℕ → List ℕ
 with_bodies ts image = replayed (λ k. k) ts 3 image
 
-pending_stands : (ts : List ℕ) (image : Image) → IsPending system_targets system_places ts image → StandsFor system_targets system_places (with_bodies ts image) image
+pending_stands : (ts : List ℕ) (image : Image) → IsPending system_targets system_places ts image
+    → StandsFor system_targets system_places (with_bodies ts image) image
 pending_stands ts image pending = let gate = pending.gate in let header = pending.header in rw (gate, header) (λ a is. refl)
 
 -- a replay writes the gate and tables,
 replay_blocks : (ts : List ℕ) → AreTargets 8 is_table ts → (k : ℕ) → ReplayBlocks system_places ts k → IsReplayed k
 replay_blocks ts targets k (inl gate) = inl gate
-replay_blocks ts targets k (inr home) = let r = table-range (slice_index ts home.0) (targets.homes home.0 home.1) in inr (omega (arith, r.0, home.2), omega (arith, r.1, home.2))
+replay_blocks ts targets k (inr home) = let r = table-range (slice_index ts home.0) (targets.homes home.0 home.1) in
+    inr (omega (arith, r.0, home.2), omega (arith, r.1, home.2))
 
 -- and not the superblock
 pub no-replay-0 : ¬ IsReplayed 0
@@ -73,12 +75,11 @@ module _ {D : Type 0} (state : D → DiskState) (left : D → ℕ → Image → 
   pub still_finishes : is_open (block (state a).now 1) ≡ false → Settled Everywhere (state a) → Finishes (state a) (state b)
   still_finishes closed settled = record { closed = ap is_open (still_block 1) ∙ closed; same = still_blocks; settled = still_settled settled }
 
-module _ {D : Type 0} (state : D → DiskState) (left : D → ℕ → Image → List ℕ → Type 0) (a b c : D) (w : Within state left Nowhere a b) (ts : List ℕ) (targets : AreTargets 8 is_table ts)
-    (v : Within state left (ReplayBlocks system_places ts) b c) (settled : Settled Everywhere (state a)) (pending : IsPending system_targets system_places ts (state a).now) where
+module _ {D : Type 0} (state : D → DiskState) (left : D → ℕ → Image → List ℕ → Type 0)
+    (a b c : D) (w : Within state left Nowhere a b) (ts : List ℕ) (targets : AreTargets 8 is_table ts)
+    (v : Within state left (ReplayBlocks system_places ts) b c) (settled : Settled Everywhere (state a))
+    (pending : IsPending system_targets system_places ts (state a).now) where
   -- the journal after it was looked at
-  abbrev map : ℕ → List ℕ
-  map = with_bodies ts (state b).now
-
   now_pending : IsPending system_targets system_places ts (state b).now
   now_pending = still_pending state left a b w ts pending
 
@@ -90,17 +91,21 @@ module _ {D : Type 0} (state : D → DiskState) (left : D → ℕ → Image → 
 
   -- A replay that went well finishes it,
   pub replay_finishes : ((m : ℕ → List ℕ) → Settled (JournalExtent system_places 8) (state b) → IsPending system_targets system_places ts (state b).now
-      → StandsFor system_targets system_places m (state b).now → Sure (RestsIdle system_places) (Idle system_places m) (state c)) → Settled Everywhere (state c) → Finishes (state a) (state c)
+      → StandsFor system_targets system_places m (state b).now → Sure (RestsIdle system_places) (Idle system_places m) (state c))
+      → Settled Everywhere (state c) → Finishes (state a) (state c)
   replay_finishes done calm =
       let idle = done (with_bodies ts (state b).now) now_settled now_pending now_stands in record {
         closed = idle.now.gate;
-        same = idle_blocks (with_bodies ts (state b).now) (state c).now idle.now ∙ sym (stands_blocks (with_bodies ts (state b).now) (state b).now now_stands) ∙ still_blocks state left a b w;
+        same = tables_idle_blocks (with_bodies ts (state b).now) (state c).now idle.now
+            ∙ sym (tables_effective (with_bodies ts (state b).now) (state b).now now_stands) ∙ still_blocks state left a b w;
         settled = calm;
       }
 
   -- and each crash of one leaves the tables.
-  pub replay_crash : (t : Tables) → HasTables (state a).now t → ((m : ℕ → List ℕ) → Settled (JournalExtent system_places 8) (state b) → IsPending system_targets system_places ts (state b).now
-      → StandsFor system_targets system_places m (state b).now → CrashStep state left (JournalExtent system_places 8) (StandsFor system_targets system_places m) b c)
+  pub replay_crash : (t : Tables) → HasTables (state a).now t → ((m : ℕ → List ℕ) → Settled (JournalExtent system_places 8) (state b)
+      → IsPending system_targets system_places ts (state b).now
+      → StandsFor system_targets system_places m (state b).now
+      → CrashStep state left (JournalExtent system_places 8) (StandsFor system_targets system_places m) b c)
       → CrashStep state left (Below 19) (λ i. HasTables i t) a c
   replay_crash t has crash = step_then state left (Below 19) (λ i. HasTables i t) a b c w.streams (still_crash state left a b w t settled has) (record {
     leaves = record {
@@ -125,4 +130,5 @@ module _ {D : Type 0} (state : D → DiskState) (left : D → ℕ → Image → 
 
       leaves : (i : Image) → block i 0 ≡ block (state b).now 0 → StandsFor system_targets system_places (with_bodies ts (state b).now) i → HasTables i t
       leaves i first stands = still_has t (state b).now i first
-          (stands_blocks (with_bodies ts (state b).now) i stands ∙ sym (stands_blocks (with_bodies ts (state b).now) (state b).now now_stands)) (still_tables state left a b w t has)
+          (tables_effective (with_bodies ts (state b).now) i stands ∙ sym (tables_effective (with_bodies ts (state b).now) (state b).now now_stands))
+          (still_tables state left a b w t has)

@@ -71,14 +71,62 @@ module _ (slots : ℕ) (m n : ℕ → List ℕ) (s : ℕ) (low : s < slots) (sam
   in_image : nat_lt s slots ≡ true
   in_image = grind (arith, nat_tests)
 
-  rows_same : row_of (mark_at n s) (text_at n s) ≡ row_of (mark_at m s) (text_at m s)
-  rows_same = subst (λ b. (if b then row_of (mark_at n s) (text_at n s) else None) ≡ (if b then row_of (mark_at m s) (text_at m s) else None)) in_image same
+  row_texts_same : row_of (mark_at n s) (text_at n s) ≡ row_of (mark_at m s) (text_at m s)
+  row_texts_same = subst (λ b. (if b then row_of (mark_at n s) (text_at n s) else None) ≡ (if b then row_of (mark_at m s) (text_at m s) else None)) in_image same
 
   live_too : mark_at n s ≢ 0 → mark_at m s ≢ 0
-  live_too live = row_live (mark_at m s) (text_at m s) (subst (λ (o : Option Row). IsSome o) rows_same (row_marked (mark_at n s) (text_at n s) live))
+  live_too live = row_live (mark_at m s) (text_at m s) (subst (λ (o : Option Row). IsSome o) row_texts_same (row_marked (mark_at n s) (text_at n s) live))
 
   path_too : mark_at n s ≢ 0 → path_names (text_at n s) ≡ path_names (text_at m s)
-  path_too live = row_path (mark_at n s) (mark_at m s) (text_at n s) (text_at m s) live rows_same
+  path_too live = row_path (mark_at n s) (mark_at m s) (text_at n s) (text_at m s) live row_texts_same
+
+-- ---- maps with the same table blocks
+
+-- rows are what their four blocks say
+module _ (slots : ℕ) (few : slots ≤ 16) (m n : ℕ → List ℕ) (same : (k : ℕ) → 11 ≤ k → k < 15 → n k ≡ m k) where
+  row_here : (s : ℕ) → s < 16 → n (row_block s) ≡ m (row_block s)
+  row_here s low = same (row_block s) (omega arith) (row_block_high s low)
+
+  pub rows_same : (s : ℕ) → row_in slots n s ≡ row_in slots m s
+  rows_same s = by (nat_lt s slots) refl
+    where
+      by : (b : Bool) → nat_lt s slots ≡ b → row_in slots n s ≡ row_in slots m s
+      by false is = rw is refl
+      by true is = let low : s < slots = grind (arith, nat_tests) in same_row m n s (row_here s (omega (arith, low, few))) slots
+
+  pub names_same : AreNames slots m → AreNames slots n
+  names_same is =
+      let mark : (s : ℕ) → s < 16 → _ = λ s low. same_mark m n s (row_here s low) in
+      record {
+        marks = λ s low. rw (mark s (omega (arith, low, few))) (is.marks s low);
+        texts = λ s low live. same_cube_text m n s (row_here s (omega (arith, low, few)))
+            (is.texts s low (λ none. live (mark s (omega (arith, low, few)) ∙ none)));
+        differ = λ s r less low live other. rw (row_here s (omega (arith, less, low, few)), row_here r (omega (arith, low, few)))
+            (is.differ s r less low (λ none. live (mark s (omega (arith, less, low, few)) ∙ none)) (λ none. other (mark r (omega (arith, low, few)) ∙ none)));
+        no_more = λ s high low. mark s low ∙ is.no_more s high low;
+      }
+
+-- and so are owners
+module _ (m n : ℕ → List ℕ) (same : (k : ℕ) → 15 ≤ k → k < 19 → n k ≡ m k) where
+  owner_here : (g : ℕ) → g < 1024 → n (owner_block g) ≡ m (owner_block g)
+  owner_here g low = same (owner_block g) (omega arith) (owner_block_high g low)
+
+  pub holders_same : (groups g : ℕ) → groups ≤ 1024 → holder_in groups n g ≡ holder_in groups m g
+  holders_same groups g few = by (nat_lt g groups) refl
+    where
+      by : (b : Bool) → nat_lt g groups ≡ b → holder_in groups n g ≡ holder_in groups m g
+      by false is = rw is refl
+      by true is = let low : g < groups = grind (arith, nat_tests) in same_holder m n g (owner_here g (omega (arith, low, few))) groups
+
+  pub ordinals_same : (groups g : ℕ) → groups ≤ 1024 → ordinal_in groups n g ≡ ordinal_in groups m g
+  ordinals_same groups g few = by (nat_lt g groups) refl
+    where
+      by : (b : Bool) → nat_lt g groups ≡ b → ordinal_in groups n g ≡ ordinal_in groups m g
+      by false is = rw is refl
+      by true is = let low : g < groups = grind (arith, nat_tests) in same_ordinal m n g (owner_here g (omega (arith, low, few))) groups
+
+  pub owners_same : (t : Tables) → AreOwners t m → AreOwners t n
+  owners_same t is = record { live = is.live; groups = is.groups; no_more = λ g high low. same_owner m n g (owner_here g low) ∙ is.no_more g high low }
 
 -- ---- the mixture
 

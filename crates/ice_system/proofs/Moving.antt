@@ -14,7 +14,8 @@ use Rattle.ice_journal.specs.Blocks.{CommitBlocks, JournalExtent}
 use Rattle.ice_journal.specs.Phases.{BeforeOrAfter, Idle, RestsIdle}
 use Rattle.ice_system.specs.Says.{IsChange, EitherTables}
 use Rattle.ice_system.specs.Changes.{HasChanges}
-use Rattle.ice_system.proofs.Crashes.{stands_blocks, idle_blocks, still_has, now_has, table-here}
+use Rattle.ice_journal.proofs.StandLaws.{tables_effective, tables_idle_blocks}
+use Rattle.ice_system.proofs.Crashes.{still_has, now_has, table-here}
 
 -- ---- the blocks
 
@@ -75,8 +76,8 @@ module _ {D : Type 0} (state : D → DiskState) (left : D → ℕ → Image → 
 
   either : (i : Image) → block i 0 ≡ block (state old).now 0 → BeforeOrAfter system_targets system_places entries map i → EitherTables t u i
   either i first here = ⊎_elim
-      (λ before. inl (still_has t (state old).now i first (stands_blocks map i before ∙ sym (table_blocks_homes (state old).now sure.now.closed)) sure.now.has))
-      (λ after. inr (now_has t u entries (state old).now i slots groups change sure.now first (stands_blocks (over entries map) i after)))
+      (λ before. inl (still_has t (state old).now i first (tables_effective map i before ∙ sym (table_blocks_homes (state old).now sure.now.closed)) sure.now.has))
+      (λ after. inr (now_has t u entries (state old).now i slots groups change sure.now first (tables_effective (over entries map) i after)))
       here
 
   -- each crash leaves the old tables or the new ones
@@ -108,7 +109,7 @@ module _ {D : Type 0} (state : D → DiskState) (left : D → ℕ → Image → 
     settled = record { told = idle.settled.told; settled = settled-table idle };
     now = record {
       closed = idle.now.gate;
-      has = now_has t u entries (state old).now (state new).now slots groups change sure.now first-now (idle_blocks (over entries map) (state new).now idle.now);
+      has = now_has t u entries (state old).now (state new).now slots groups change sure.now first-now (tables_idle_blocks (over entries map) (state new).now idle.now);
     };
   }
 
@@ -118,6 +119,6 @@ module _ {D : Type 0} (state : D → DiskState) (left : D → ℕ → Image → 
     settled = record { told = idle.settled.told; settled = settled-table idle };
     now = record {
       closed = idle.now.gate;
-      has = still_has t (state old).now (state new).now first-now (idle_blocks map (state new).now idle.now ∙ sym (table_blocks_homes (state old).now sure.now.closed)) sure.now.has;
+      has = still_has t (state old).now (state new).now first-now (tables_idle_blocks map (state new).now idle.now ∙ sym (table_blocks_homes (state old).now sure.now.closed)) sure.now.has;
     };
   }

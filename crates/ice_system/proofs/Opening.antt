@@ -1,7 +1,6 @@
 -- What opening the tables of a disk answers, from the superblock to the tables.
 use Rattle.std.proofs.Common.{◌≡◌, ◌≢◌, ◌∙◌, ◌≤◌, ◌<◌, ◌+◌, ◌==◌, inl, inr, ⊎_elim, ℕ, Bool, true, false, List, length, slice_set, Option, Some, None, Result, Ok, Err, IfOk, IfErr, IsErr, refl, sym, ap, subst, arith, get_or-set_other, get_or-set_same}
 use Rattle.std.specs.Prelude.{◌⊎◌, not, IsErrAnd, nat_lt, if◌then◌else◌, IsSome}
-use Rattle.std.proofs.Math.Path.{fun_ext}
 use Rattle.std.proofs.lemmas.List.{length-set}
 use Rattle.std.proofs.lemmas.Bool.Decides.{nat_tests}
 use Rattle.ice_base.specs.Disk.{Image, DiskState, Below, Everywhere, Nowhere, block}
@@ -24,17 +23,18 @@ use Rattle.ice_system.specs.Systems.{SystemView, AreTables, tables_of, tables_wi
 use Rattle.ice_system.specs.Attaching.{Accepts, AreFour, Attaches, Finishes, IsReplayed, RefusesBlocks, RefusesDisk, RefusesJournal, RefusesTables, TooSmall}
 use Rattle.ice_system.specs.declared.fault.TablesFault.{TablesFault}
 use Rattle.ice_system.specs.declared.fault.TablesFault.TheVariants.{Small, Layout, Disk, Memory}
-use Rattle.ice_system.proofs.Mixing.{row_block, owner_block, row_block_high, owner_block_high, same_row, same_mark, same_cube_text, same_owner, same_holder, same_ordinal}
-use Rattle.ice_system.proofs.Crashes.{still_has}
+use Rattle.ice_system.proofs.Mixing.{rows_same, names_same, holders_same, ordinals_same, owners_same}
+use Rattle.ice_system.proofs.Crashes.{tables_same, still_has}
 use Rattle.ice_system.proofs.Views.{has_owners}
 use Rattle.ice_system.proofs.Finishing.{no-replay-0, still_settled, still_block, still_blocks, still_tables, still_crash}
 
 -- ---- the superblock
 
 -- the tests of a superblock, in their order
-by_tests : (P : Option LayoutFault → Type 0) (a b c d e f : Bool) → P (Some Magic) → P (Some Version) → P (Some Slots) → P (Some Groups) → P (Some Total) → P (Some Zero)
-    → (c ≡ true → d ≡ true → P None)
-    → P (if not a then Some Magic else if not b then Some Version else if not c then Some Slots else if not d then Some Groups else if not e then Some Total else if not f then Some Zero else None)
+by_tests : (P : Option LayoutFault → Type 0) (a b c d e f : Bool) → P (Some Magic) → P (Some Version) → P (Some Slots) → P (Some Groups)
+    → P (Some Total) → P (Some Zero) → (c ≡ true → d ≡ true → P None)
+    → P (if not a then Some Magic else if not b then Some Version else if not c then Some Slots
+    else if not d then Some Groups else if not e then Some Total else if not f then Some Zero else None)
 by_tests P true true true true true true m v s g t z none = none refl refl
 by_tests P true true true true true false m v s g t z none = z
 by_tests P true true true true false f m v s g t z none = t
@@ -43,7 +43,8 @@ by_tests P true true false d e f m v s g t z none = s
 by_tests P true false c d e f m v s g t z none = v
 by_tests P false b c d e f m v s g t z none = m
 
-by_fault : (P : Option LayoutFault → Type 0) (bytes : List ℕ) → P (Some Magic) → P (Some Version) → P (Some Slots) → P (Some Groups) → P (Some Total) → P (Some Zero)
+by_fault : (P : Option LayoutFault → Type 0) (bytes : List ℕ) → P (Some Magic) → P (Some Version) → P (Some Slots) → P (Some Groups)
+    → P (Some Total) → P (Some Zero)
     → (between 1 16 (word_at bytes 8) ≡ true → between 1 1024 (word_at bytes 12) ≡ true → P None) → P (super_fault bytes)
 unfolding super_fault
 by_fault P bytes = by_tests P (word_at bytes 0 == super_magic) (word_at bytes 4 == 1) (between 1 16 (word_at bytes 8)) (between 1 1024 (word_at bytes 12))
@@ -52,7 +53,8 @@ by_fault P bytes = by_tests P (word_at bytes 0 == super_magic) (word_at bytes 4 
 -- a superblock that is accepted names a geometry
 pub geometry_of : (sup : Super) (bytes : List ℕ) → IsSuper sup bytes → is_geometry sup ≡ true
 geometry_of sup bytes is = subst (λ (s : Super). is_geometry s ≡ true) is.value
-    (by_fault (λ o. o ≡ None → is_geometry (super_of bytes) ≡ true) bytes (λ e. absurd (cc e)) (λ e. absurd (cc e)) (λ e. absurd (cc e)) (λ e. absurd (cc e)) (λ e. absurd (cc e)) (λ e. absurd (cc e))
+    (by_fault (λ o. o ≡ None → is_geometry (super_of bytes) ≡ true) bytes (λ e. absurd (cc e)) (λ e. absurd (cc e)) (λ e. absurd (cc e))
+    (λ e. absurd (cc e)) (λ e. absurd (cc e)) (λ e. absurd (cc e))
     (λ slots groups e. rw (slots, groups) refl) is.accepted)
 
 same_fault : (f g : LayoutFault) → Some f ≡ Some g → f ≡ g
@@ -61,7 +63,8 @@ same_fault f g e = cc e
 -- its fault is the first of the image
 pub super_first : (image : Image) (f : LayoutFault) → super_fault (block image 0) ≡ Some f → FirstFault image f
 super_first image f is = by_fault (λ o. o ≡ Some f → FirstFault image f) (block image 0)
-    (one Magic (λ x. x)) (one Version (λ x. x)) (one Slots (λ x. x)) (one Groups (λ x. x)) (one Total (λ x. x)) (one Zero (λ x. x)) (λ slots groups e. absurd (cc e)) is
+    (one Magic (λ x. x)) (one Version (λ x. x)) (one Slots (λ x. x)) (one Groups (λ x. x)) (one Total (λ x. x)) (one Zero (λ x. x))
+    (λ slots groups e. absurd (cc e)) is
   where
     one : (g : LayoutFault) → (super_fault (block image 0) ≡ Some g → FirstFault image g) → Some g ≡ Some f → FirstFault image f
     one g first e = let same = same_fault g f e in subst (λ (h : LayoutFault). FirstFault image h) same (first (is ∙ sym e))
@@ -73,7 +76,8 @@ super_refused size image f is = (super_first image f is, λ small. let never : N
 pub geometry_size : (sup : Super) → is_geometry sup ≡ true → (1 ≤ sup.slots) × (sup.slots ≤ 16) × (1 ≤ sup.groups) × (sup.groups ≤ 1024)
 geometry_size sup is = by (between 1 16 sup.slots) refl is
   where
-    by : (b : Bool) → between 1 16 sup.slots ≡ b → (if b then between 1 1024 sup.groups else false) ≡ true → (1 ≤ sup.slots) × (sup.slots ≤ 16) × (1 ≤ sup.groups) × (sup.groups ≤ 1024)
+    by : (b : Bool) → between 1 16 sup.slots ≡ b → (if b then between 1 1024 sup.groups else false) ≡ true
+        → (1 ≤ sup.slots) × (sup.slots ≤ 16) × (1 ≤ sup.groups) × (sup.groups ≤ 1024)
     by true slots groups = (grind (arith, nat_tests), grind (arith, nat_tests), grind (arith, nat_tests), grind (arith, nat_tests))
     by false slots groups = absurd (cc groups)
 
@@ -93,7 +97,8 @@ same_or_less r s less = by (nat_lt r s) refl
     by true is = inr (grind (arith, nat_tests))
     by false is = inl (let high : s ≤ r = grind (arith, nat_tests) in omega (arith, high, less))
 
-pub live_more : (names : NamesView) (live : List Bool) (s : ℕ) (b : Bool) → IsLiveTo names live s → s < 16 → (b ≡ true → IsSome (row_at names s)) → (IsSome (row_at names s) → b ≡ true)
+pub live_more : (names : NamesView) (live : List Bool) (s : ℕ) (b : Bool) → IsLiveTo names live s → s < 16 → (b ≡ true → IsSome (row_at names s))
+    → (IsSome (row_at names s) → b ≡ true)
     → IsLiveTo names (slice_set live s b) (s + 1)
 live_more names live s b is low some true_here =
     let here : is_live (slice_set live s b) s ≡ b = get_or-set_same live s b false (omega (arith, low, is.room)) in
@@ -126,61 +131,8 @@ live_all names live table is = (
 
 -- ---- the blocks of the tables
 
--- rows are what their four blocks say
-module _ (slots : ℕ) (few : slots ≤ 16) (m n : ℕ → List ℕ) (same : (k : ℕ) → 11 ≤ k → k < 15 → n k ≡ m k) where
-  row_here : (s : ℕ) → s < 16 → n (row_block s) ≡ m (row_block s)
-  row_here s low = same (row_block s) (omega arith) (row_block_high s low)
-
-  rows_same : (s : ℕ) → row_in slots n s ≡ row_in slots m s
-  rows_same s = by (nat_lt s slots) refl
-    where
-      by : (b : Bool) → nat_lt s slots ≡ b → row_in slots n s ≡ row_in slots m s
-      by false is = rw is refl
-      by true is = let low : s < slots = grind (arith, nat_tests) in same_row m n s (row_here s (omega (arith, low, few))) slots
-
-  names_same : AreNames slots m → AreNames slots n
-  names_same is =
-      let mark : (s : ℕ) → s < 16 → _ = λ s low. same_mark m n s (row_here s low) in
-      record {
-        marks = λ s low. rw (mark s (omega (arith, low, few))) (is.marks s low);
-        texts = λ s low live. same_cube_text m n s (row_here s (omega (arith, low, few))) (is.texts s low (λ none. live (mark s (omega (arith, low, few)) ∙ none)));
-        differ = λ s r less low live other. rw (row_here s (omega (arith, less, low, few)), row_here r (omega (arith, low, few)))
-            (is.differ s r less low (λ none. live (mark s (omega (arith, less, low, few)) ∙ none)) (λ none. other (mark r (omega (arith, low, few)) ∙ none)));
-        no_more = λ s high low. mark s low ∙ is.no_more s high low;
-      }
-
--- and so are owners
-module _ (m n : ℕ → List ℕ) (same : (k : ℕ) → 15 ≤ k → k < 19 → n k ≡ m k) where
-  owner_here : (g : ℕ) → g < 1024 → n (owner_block g) ≡ m (owner_block g)
-  owner_here g low = same (owner_block g) (omega arith) (owner_block_high g low)
-
-  holders_same : (groups g : ℕ) → groups ≤ 1024 → holder_in groups n g ≡ holder_in groups m g
-  holders_same groups g few = by (nat_lt g groups) refl
-    where
-      by : (b : Bool) → nat_lt g groups ≡ b → holder_in groups n g ≡ holder_in groups m g
-      by false is = rw is refl
-      by true is = let low : g < groups = grind (arith, nat_tests) in same_holder m n g (owner_here g (omega (arith, low, few))) groups
-
-  ordinals_same : (groups g : ℕ) → groups ≤ 1024 → ordinal_in groups n g ≡ ordinal_in groups m g
-  ordinals_same groups g few = by (nat_lt g groups) refl
-    where
-      by : (b : Bool) → nat_lt g groups ≡ b → ordinal_in groups n g ≡ ordinal_in groups m g
-      by false is = rw is refl
-      by true is = let low : g < groups = grind (arith, nat_tests) in same_ordinal m n g (owner_here g (omega (arith, low, few))) groups
-
-  owners_same : (t : Tables) → AreOwners t m → AreOwners t n
-  owners_same t is = record { live = is.live; groups = is.groups; no_more = λ g high low. same_owner m n g (owner_here g low) ∙ is.no_more g high low }
-
-abbrev with_parts : (slots groups : ℕ) (row : ℕ → Option Row) (holder : ℕ → Option ℕ) (ordinal : ℕ → ℕ) → Tables
-with_parts slots groups row holder ordinal = record { slots = slots; groups = groups; row = row; holder = holder; ordinal = ordinal }
-
-tables_same : (a b : Tables) → a.slots ≡ b.slots → a.groups ≡ b.groups → ((s : ℕ) → a.row s ≡ b.row s) → ((g : ℕ) → a.holder g ≡ b.holder g) → ((g : ℕ) → a.ordinal g ≡ b.ordinal g) → a ≡ b
-tables_same a b slots groups row holder ordinal = made a.slots b.slots a.groups b.groups a.row b.row a.holder b.holder a.ordinal b.ordinal slots groups (fun_ext row) (fun_ext holder) (fun_ext ordinal)
-  where
-    made : (a b c d : ℕ) (e f : ℕ → Option Row) (h i : ℕ → Option ℕ) (j k : ℕ → ℕ) → a ≡ b → c ≡ d → e ≡ f → h ≡ i → j ≡ k → with_parts a c e h j ≡ with_parts b d f i k
-    made a b c d e f h i j k p q r s t = rw (p, q, r, s, t) refl
-
-module _ (sup : Super) (geometry : is_geometry sup ≡ true) (rows owners : List (List ℕ)) (names : NamesView) (accepted : AreNames sup.slots (blocks_from 11 rows))
+module _ (sup : Super) (geometry : is_geometry sup ≡ true) (rows owners : List (List ℕ)) (names : NamesView)
+    (accepted : AreNames sup.slots (blocks_from 11 rows))
     (reads : (s : ℕ) → row_at names s ≡ row_in sup.slots (blocks_from 11 rows) s) (live : List Bool)
     (has : (s : ℕ) → is_live live s ≡ true → IsSome (row_at names s)) (all : (s : ℕ) → IsSome (row_at names s) → is_live live s ≡ true) where
   few_slots : sup.slots ≤ 16
@@ -207,11 +159,18 @@ module _ (sup : Super) (geometry : is_geometry sup ≡ true) (rows owners : List
         }) (owners_same m (blocks_from 15 owners) (λ k low high. sym (five k low high)) (tables_in sup m) are),
   )
 
-  module _ (lots : OwnersView) (are : AreLots lots) (groups : lots.groups ≡ sup.groups) (holders : (g : ℕ) → holder_in sup.groups (blocks_from 15 owners) g ≡ holder lots g)
+  module _ (lots : OwnersView) (are : AreLots lots) (groups : lots.groups ≡ sup.groups)
+      (holders : (g : ℕ) → holder_in sup.groups (blocks_from 15 owners) g ≡ holder lots g)
       (ordinals : (g : ℕ) → ordinal_in sup.groups (blocks_from 15 owners) g ≡ ordinal lots g)
       (takes : (t : Tables) → OwnerTables sup.groups live (blocks_from 15 owners) t → AreOwners t (blocks_from 15 owners)) where
     taken_owners : AreOwners (tables_with names lots) (blocks_from 15 owners)
-    taken_owners = takes (tables_with names lots) (record { groups = groups; holder = λ g. sym (holders g); ordinal = λ g. sym (ordinals g); has_row = has; row_live = all })
+    taken_owners = takes (tables_with names lots) (record {
+      groups = groups;
+      holder = λ g. sym (holders g);
+      ordinal = λ g. sym (ordinals g);
+      has_row = has;
+      row_live = all;
+    })
 
     -- rows and groups that were read are tables,
     pub are_tables : AreTables names lots
@@ -231,8 +190,10 @@ module _ (sup : Super) (geometry : is_geometry sup ≡ true) (rows owners : List
     }
 
 -- blocks whose rows are refused are refused
-pub names_refused : (sup : Super) (rows : List (List ℕ)) (m : ℕ → List ℕ) → is_geometry sup ≡ true → AreFour 11 rows m → ¬ AreNames sup.slots (blocks_from 11 rows) → RefusesBlocks Names sup m
-names_refused sup rows m geometry four refused = λ is. refused (names_same sup.slots (geometry_size sup geometry).1 m (blocks_from 11 rows) (λ k low high. sym (four k low high)) is)
+pub names_refused : (sup : Super) (rows : List (List ℕ)) (m : ℕ → List ℕ) → is_geometry sup ≡ true → AreFour 11 rows m
+    → ¬ AreNames sup.slots (blocks_from 11 rows) → RefusesBlocks Names sup m
+names_refused sup rows m geometry four refused = λ is. refused (names_same sup.slots (geometry_size sup geometry).1 m (blocks_from 11 rows)
+    (λ k low high. sym (four k low high)) is)
 
 -- ---- between two moments
 
@@ -274,8 +235,16 @@ not_small size image sup is room small =
     let less = subst (λ (s : Super). size < total_blocks s.slots s.groups) is.value small.1 in omega (arith, less, room)
 
 -- blocks that are refused are the first fault
-blocks_first : (sup : Super) (image : Image) (m : ℕ → List ℕ) → IsSuper sup (block image 0) → table_blocks image ≡ Some m → (f : LayoutFault) → RefusesBlocks f sup m → FirstFault image f
-blocks_first sup image m is shown Names bad = (is.accepted, record { blocks = m; effective = shown; names = subst (λ (s : Super). ¬ AreNames s.slots m) (sym is.value) bad })
+blocks_first : (sup : Super) (image : Image) (m : ℕ → List ℕ) → IsSuper sup (block image 0) → table_blocks image ≡ Some m → (f : LayoutFault)
+    → RefusesBlocks f sup m → FirstFault image f
+blocks_first sup image m is shown Names bad = (
+  is.accepted,
+  record {
+    blocks = m;
+    effective = shown;
+    names = subst (λ (s : Super). ¬ AreNames s.slots m) (sym is.value) bad;
+  },
+)
 blocks_first sup image m is shown Owners bad = (
   is.accepted,
   record {
@@ -298,7 +267,8 @@ module _ {D : Type 0} (state : D → DiskState) (left : D → ℕ → Image → 
   pub refuses_back : (f : TablesFault) (s : DiskState) → (state b).faults ≡ (state a).faults → RefusesDisk f (state b) s → RefusesDisk f (state a) s
   refuses_back Small s calm refused = ⊎_elim
       (λ none. inl (sym w.size ∙ none))
-      (λ small. inr (λ told. small_moved (state b).size (state a).size (state b).now (state a).now (sym (still_block state left a b w 0)) (sym w.size) (small (w.tells ∙ told))))
+      (λ small. inr (λ told. small_moved (state b).size (state a).size (state b).now (state a).now (sym (still_block state left a b w 0))
+      (sym w.size) (small (w.tells ∙ told))))
       refused
   refuses_back (Layout f) s calm refused = λ told.
       let why = refused (w.tells ∙ told) in (
@@ -313,7 +283,10 @@ module _ {D : Type 0} (state : D → DiskState) (left : D → ℕ → Image → 
       → (f : TablesFault) (s : DiskState) → (state b).faults ≡ (state a).faults → RefusesJournal f (state b) s → RefusesDisk f (state a) s
   refuses_journal sup is room Small s calm refused = absurd refused
   refuses_journal sup is room (Layout f) s calm refused = λ told. (
-    subst (λ (h : LayoutFault). FirstFault (state a).now h) (sym refused.0) ((is told).accepted, sym (still_blocks state left a b w) ∙ refused.1 (w.tells ∙ told)),
+    subst (λ (h : LayoutFault). FirstFault (state a).now h) (sym refused.0) (
+      (is told).accepted,
+      sym (still_blocks state left a b w) ∙ refused.1 (w.tells ∙ told),
+    ),
     not_small (state a).size (state a).now sup (is told) room,
   )
   refuses_journal sup is room Disk s calm refused = omega (arith, refused, calm)
@@ -335,20 +308,24 @@ module _ {D : Type 0} (state : D → DiskState) (left : D → ℕ → Image → 
       → (HasTables (state b).now t → CrashStep state left (Below 19) (λ i. HasTables i t) b c) → CrashStep state left (Below 19) (λ i. HasTables i t) a c
   then_crash t c every whole next =
       let first = barrier_crash t every in
-      step_then state left (Below 19) (λ i. HasTables i t) a b c w.streams first (next (first.after (state b).now (record { count = whole; same = λ k here settled. refl })))
+      step_then state left (Below 19) (λ i. HasTables i t) a b c w.streams first (next (first.after (state b).now
+      (record { count = whole; same = λ k here settled. refl })))
 
-module _ {D : Type 0} (state : D → DiskState) (left : D → ℕ → Image → List ℕ → Type 0) (a b c : D) (w : Within state left Nowhere a b) (t : Tables) (settled : Settled Everywhere (state a))
+module _ {D : Type 0} (state : D → DiskState) (left : D → ℕ → Image → List ℕ → Type 0)
+    (a b c : D) (w : Within state left Nowhere a b) (t : Tables) (settled : Settled Everywhere (state a))
     (has : HasTables (state a).now t) (crash : HasTables (state b).now t → CrashStep state left (Below 19) (λ i. HasTables i t) b c) where
   -- Once the superblock was read and the journal finished, each crash leaves the tables,
   pub finish_crash : CrashStep state left (Below 19) (λ i. HasTables i t) a c
-  finish_crash = step_then state left (Below 19) (λ i. HasTables i t) a b c w.streams (still_crash state left a b w t settled has) (crash (still_tables state left a b w t has))
+  finish_crash = step_then state left (Below 19) (λ i. HasTables i t) a b c w.streams (still_crash state left a b w t settled has)
+      (crash (still_tables state left a b w t has))
 
   -- and so does a read of the tables.
   pub read_crash : (d : D) → (state c).streams ≡ (state a).streams → Within state left Nowhere c d → CrashStep state left (Below 19) (λ i. HasTables i t) a d
   read_crash d streams v = step_then state left (Below 19) (λ i. HasTables i t) a c d streams finish_crash
       (step_apart state left (Below 19) Nowhere (λ i. HasTables i t) c d (λ k here n. n) v finish_crash.after)
 
-module _ {D : Type 0} (state : D → DiskState) (left : D → ℕ → Image → List ℕ → Type 0) (a b c : D) (w : Within state left Nowhere a b) (r : Within state left IsReplayed b c)
+module _ {D : Type 0} (state : D → DiskState) (left : D → ℕ → Image → List ℕ → Type 0)
+    (a b c : D) (w : Within state left Nowhere a b) (r : Within state left IsReplayed b c)
     (sup : Super) (is : (state a).tells ≡ true → IsSuper sup (block (state a).now 0)) (finish : (state b).tells ≡ true → Finishes (state b) (state c)) where
   shown : (state a).tells ≡ true → table_blocks (state a).now ≡ Some (in_tables (block (state c).now))
   shown told = let f = finish (w.tells ∙ told) in sym (still_blocks state left a b w) ∙ sym f.same ∙ table_blocks_homes (state c).now f.closed
@@ -357,13 +334,16 @@ module _ {D : Type 0} (state : D → DiskState) (left : D → ℕ → Image → 
   pub refuses_tables : total_blocks sup.slots sup.groups ≤ (state a).size → (f : TablesFault) (s : DiskState) → (state c).faults ≡ (state a).faults
       → RefusesTables f sup (in_tables (block (state c).now)) (state c) s → RefusesDisk f (state a) s
   refuses_tables room Small s calm refused = absurd refused
-  refuses_tables room (Layout f) s calm refused = λ told.
-      (blocks_first sup (state a).now (in_tables (block (state c).now)) (is told) (shown told) f (refused (r.tells ∙ w.tells ∙ told)), not_small (state a).size (state a).now sup (is told) room)
+  refuses_tables room (Layout f) s calm refused = λ told. (
+    blocks_first sup (state a).now (in_tables (block (state c).now)) (is told) (shown told) f (refused (r.tells ∙ w.tells ∙ told)),
+    not_small (state a).size (state a).now sup (is told) room,
+  )
   refuses_tables room Disk s calm refused = omega (arith, refused, calm)
   refuses_tables room Memory s calm refused = absurd refused
 
   -- and those that are read are the image's, at rest.
-  pub attaches : (d : D) → Within state left Nowhere c d → (v : SystemView) → (state a).tells ≡ true → Accepts sup (in_tables (block (state c).now)) (tables_of v) → Attaches v (state a) (state d)
+  pub attaches : (d : D) → Within state left Nowhere c d → (v : SystemView) → (state a).tells ≡ true
+      → Accepts sup (in_tables (block (state c).now)) (tables_of v) → Attaches v (state a) (state d)
   attaches d v view told accepts = record {
     has = had;
     settled = after;

@@ -11,7 +11,7 @@ use Rattle.ice_tables.specs.Lots.{groups_of}
 use Rattle.ice_system.specs.Says.{SayTables}
 use Rattle.ice_system.specs.Systems.{AreTables, tables_with}
 use Rattle.ice_system.specs.Changes.{SlotBecomes}
-use Rattle.ice_system.proofs.Mixing.{row_block, owner_block, row_block_high, same_row, same_mark, same_cube_text, same_owner, same_holder, same_ordinal}
+use Rattle.ice_system.proofs.Mixing.{owner_block, names_same, rows_same, same_owner, same_holder, same_ordinal}
 use Rattle.ice_owner.proofs.Laws.{groups_same, owners_accepted}
 
 -- ---- the groups of a slot
@@ -41,30 +41,8 @@ module _ (rows owners : ℕ → List ℕ) where
   pub joined_high : (k : ℕ) → 15 ≤ k → joined rows owners k ≡ owners k
   joined_high k high = let is : nat_lt k 15 ≡ false = grind (arith, nat_tests) in rw is refl
 
-  row_here : (s : ℕ) → s < 16 → joined rows owners (row_block s) ≡ rows (row_block s)
-  row_here s low = joined_low (row_block s) (row_block_high s low)
-
   owner_here : (g : ℕ) → joined rows owners (owner_block g) ≡ owners (owner_block g)
   owner_here g = joined_high (owner_block g) (omega arith)
-
-  joined_row : (slots s : ℕ) → slots ≤ 16 → row_in slots (joined rows owners) s ≡ row_in slots rows s
-  joined_row slots s few = by (nat_lt s slots) refl
-    where
-      by : (b : Bool) → nat_lt s slots ≡ b → row_in slots (joined rows owners) s ≡ row_in slots rows s
-      by false is = rw is refl
-      by true is = let low : s < slots = grind (arith, nat_tests) in same_row rows (joined rows owners) s (row_here s (omega (arith, low, few))) slots
-
-  joined_names : (slots : ℕ) → slots ≤ 16 → AreNames slots rows → AreNames slots (joined rows owners)
-  joined_names slots few is =
-      let mark : (s : ℕ) → s < 16 → _ = λ s low. same_mark rows (joined rows owners) s (row_here s low) in
-      record {
-        marks = λ s low. rw (mark s (omega (arith, low, few))) (is.marks s low);
-        texts = λ s low live. same_cube_text rows (joined rows owners) s (row_here s (omega (arith, low, few)))
-            (is.texts s low (λ none. live (mark s (omega (arith, low, few)) ∙ none)));
-        differ = λ s r less low live other. rw (row_here s (omega (arith, less, low, few)), row_here r (omega (arith, low, few)))
-            (is.differ s r less low (λ none. live (mark s (omega (arith, less, low, few)) ∙ none)) (λ none. other (mark r (omega (arith, low, few)) ∙ none)));
-        no_more = λ s high low. mark s low ∙ is.no_more s high low;
-      }
 
 -- blocks to which rows and groups were written say the tables that they are
 pub joined_says : (names : NamesView) (lots : OwnersView) (rows owners : ℕ → List ℕ) → names.slots ≤ 16 → AreLots lots → AreTables names lots
@@ -72,10 +50,10 @@ pub joined_says : (names : NamesView) (lots : OwnersView) (rows owners : ℕ →
     → ((g : ℕ) → holder_in lots.groups owners g ≡ holder lots g) → ((g : ℕ) → ordinal_in lots.groups owners g ≡ ordinal lots g)
     → ((g : ℕ) → lots.groups ≤ g → g < 1024 → owner_byte owners g ≡ 0) → SayTables (tables_with names lots) (joined rows owners)
 joined_says names lots rows owners few are tables accepted written holders ordinals past = record {
-  rows = λ s. joined_row rows owners names.slots s few ∙ written s;
+  rows = λ s. rows_same names.slots few rows (joined rows owners) (λ k low high. joined_low rows owners k high) s ∙ written s;
   holders = λ g. same_holder owners (joined rows owners) g (owner_here rows owners g) lots.groups ∙ holders g;
   ordinals = λ g. same_ordinal owners (joined rows owners) g (owner_here rows owners g) lots.groups ∙ ordinals g;
-  names = joined_names rows owners names.slots few accepted;
+  names = names_same names.slots few rows (joined rows owners) (λ k low high. joined_low rows owners k high) accepted;
   owners = owners_accepted lots (tables_with names lots) (joined rows owners) are (has_owners names lots) tables.live tables.taken
       (λ g high low. same_owner owners (joined rows owners) g (owner_here rows owners g) ∙ past g high low);
 }

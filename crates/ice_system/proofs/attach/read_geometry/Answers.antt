@@ -8,4 +8,5 @@ returns-in-Ok-2-clause-geometry g c = geometry_of c.in-Ok.sup c.look.new.into c.
 
 pub returns-in-Err-clause-refused : goal.returns-in-Err-clause-refused
 returns-in-Err-clause-refused g c = λ told.
-    super_refused (g.D.Disk.state c.args.disk.now).size (g.D.Disk.state c.args.disk.now).now c.in-Err.fault (ap super_fault (sym (c.in_ok-look.ensures.bytes told)) ∙ c.in-Err.ensures.refuses)
+    super_refused (g.D.Disk.state c.args.disk.now).size (g.D.Disk.state c.args.disk.now).now c.in-Err.fault
+    (ap super_fault (sym (c.in_ok-look.ensures.bytes told)) ∙ c.in-Err.ensures.refuses)

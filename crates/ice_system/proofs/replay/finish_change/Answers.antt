@@ -22,19 +22,22 @@ pub returns-in-Ok-clause-done : goal.returns-in-Ok-clause-done
 returns-in-Ok-clause-done g c = λ told.
     let targets = subst (λ (o : Option Header). IfSome o (λ h. AreTargets 8 is_table (targets_said h))) c.in-Some.is c.in_ok-pending.ensures.targets in
     let said = subst (λ (o : Option Header). SaysPending o (g.D.Disk.state c.args.disk.now).now) c.in-Some.is (c.in_ok-pending.ensures.reads told) in
-    replay_finishes g.D.Disk.state g.D.Disk.left c.args.disk.now c.pending.new.disk c.replay.new.disk c.pending.ensures.within (targets_said c.in-Some.header) targets
+    replay_finishes g.D.Disk.state g.D.Disk.left c.args.disk.now c.pending.new.disk c.replay.new.disk c.pending.ensures.within
+    (targets_said c.in-Some.header) targets
     c.replay.ensures.within (c.requires.settled told) said c.in-Ok.ensures.done (c.in-Ok.ensures.settled (c.pending.ensures.within.tells ∙ told))
 
 pub returns-in-Ok-clause-crash : goal.returns-in-Ok-clause-crash
 returns-in-Ok-clause-crash g c = λ t told has.
     let targets = subst (λ (o : Option Header). IfSome o (λ h. AreTargets 8 is_table (targets_said h))) c.in-Some.is c.in_ok-pending.ensures.targets in
     let said = subst (λ (o : Option Header). SaysPending o (g.D.Disk.state c.args.disk.now).now) c.in-Some.is (c.in_ok-pending.ensures.reads told) in
-    replay_crash g.D.Disk.state g.D.Disk.left c.args.disk.now c.pending.new.disk c.replay.new.disk c.pending.ensures.within (targets_said c.in-Some.header) targets
+    replay_crash g.D.Disk.state g.D.Disk.left c.args.disk.now c.pending.new.disk c.replay.new.disk c.pending.ensures.within
+    (targets_said c.in-Some.header) targets
     c.replay.ensures.within (c.requires.settled told) said t has c.replay.ensures.crash
 
 pub returns-in-Err-clause-crash : goal.returns-in-Err-clause-crash
 returns-in-Err-clause-crash g c = λ t told has.
     let targets = subst (λ (o : Option Header). IfSome o (λ h. AreTargets 8 is_table (targets_said h))) c.in-Some.is c.in_ok-pending.ensures.targets in
     let said = subst (λ (o : Option Header). SaysPending o (g.D.Disk.state c.args.disk.now).now) c.in-Some.is (c.in_ok-pending.ensures.reads told) in
-    replay_crash g.D.Disk.state g.D.Disk.left c.args.disk.now c.pending.new.disk c.replay.new.disk c.pending.ensures.within (targets_said c.in-Some.header) targets
+    replay_crash g.D.Disk.state g.D.Disk.left c.args.disk.now c.pending.new.disk c.replay.new.disk c.pending.ensures.within
+    (targets_said c.in-Some.header) targets
     c.replay.ensures.within (c.requires.settled told) said t has c.replay.ensures.crash

@@ -12,5 +12,6 @@ returns-in-None-clause-refused g c = (
       let same = still_block g.D.Disk.state g.D.Disk.left c.args.disk.now c.look.new.disk c.in_ok-look.ensures.within in
       no_blocks i
       (ap is_open (sym (c.in_ok-look.ensures.bytes told)) ∙ sym c.gate_is_on.ensures ∙ c.if-not-gate_is_on.false)
-      (ap system_targets (sym (c.in_ok-look-2.ensures.bytes (c.in_ok-look.ensures.within.tells ∙ told) ∙ same 2)) ∙ no-header (system_targets c.look-2.new.into) (sym c.in-None.ensures.header)),
+      (ap system_targets (sym (c.in_ok-look-2.ensures.bytes (c.in_ok-look.ensures.within.tells ∙ told) ∙ same 2))
+      ∙ no-header (system_targets c.look-2.new.into) (sym c.in-None.ensures.header)),
 )

@@ -11,7 +11,8 @@ returns-in-Ok-barrier-clause-attaches g c = λ told.
 pub returns-in-Ok-barrier-clause-refused : goal.returns-in-Ok-barrier-clause-refused
 returns-in-Ok-barrier-clause-refused g c =
     let state = g.D.Disk.state in let w = c.in-Ok-barrier.ensures.within in
-    err_more c.open_settled.result _ _ (λ fault why. refuses_back state g.D.Disk.left c.args.disk.now c.barrier.new.self w fault (state c.open_settled.new.disk) c.in-Ok-barrier.ensures.calm why)
+    err_more c.open_settled.result _ _ (λ fault why. refuses_back state g.D.Disk.left c.args.disk.now c.barrier.new.self w fault
+    (state c.open_settled.new.disk) c.in-Ok-barrier.ensures.calm why)
     c.open_settled.ensures.refused
 
 pub returns-in-Ok-barrier-clause-crash : goal.returns-in-Ok-barrier-clause-crash

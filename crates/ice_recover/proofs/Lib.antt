@@ -1,0 +1,2 @@
+mod OthersLaws
+mod ReplayLaws
