@@ -1,18 +1,13 @@
 -- A volume that is opened: it stands for each world that the image opens.
 use Rattle.std.proofs.Common.{◌≡◌, ◌∙◌, ◌⊎◌, inl, inr, ⊎_elim, ◌≤◌, ℕ, true, false, List, length, Option, Some, None, sym, ap, subst, arith}
-use Rattle.std.specs.Prelude.{unwrap_or}
 use Rattle.ice_base.specs.Disk.{Image, DiskState, Everywhere, Below, block}
 use Rattle.ice_base.specs.Frames.{Within, LeavesOnly, With, Every, CrashStep}
 use Rattle.ice_base.specs.Lots.{LotView, extent}
 use Rattle.tree_spec.specs.Records.{Cube}
 use Rattle.tree_spec.specs.World.{World}
-use Rattle.ice_layout.specs.Geometry.{total_blocks}
 use Rattle.ice_layout.specs.Supers.{super_of}
-use Rattle.ice_layout.specs.declared.superblock.Super.{Super}
 use Rattle.ice_layout.specs.declared.superblock.LayoutFault.{LayoutFault}
-use Rattle.ice_layout.specs.declared.superblock.LayoutFault.TheVariants.{Magic, Version, Slots, Groups, Total, Zero, Names, Owners, Header}
-use Rattle.ice_tables.specs.Journals.{table_blocks}
-use Rattle.ice_tables.specs.Tables.{Tables, HasTables, AreNames, AreOwners, FirstFault, tables_in}
+use Rattle.ice_tables.specs.Tables.{Tables, HasTables, FirstFault}
 use Rattle.ice_tables.specs.Lots.{total, lot_of}
 use Rattle.ice_tables.proofs.TableLaws.{tables_one, tables_rest}
 use Rattle.ice_tables.proofs.FaultLaws.{with_tables}
@@ -61,10 +56,10 @@ module _ (s : DiskState) (w : World) (whole : s.tells ≡ true → length s.now 
   not_short short = ⊎_elim
       (λ none. omega (arith, room_there, none))
       (λ small.
-        let q = small told_at_start in
-        let slots : found.tables.slots ≡ (super_of (block s.now 0)).slots = ap (λ (t : Tables). t.slots) found.has.says in
-        let groups : found.tables.groups ≡ (super_of (block s.now 0)).groups = ap (λ (t : Tables). t.groups) found.has.says in
-        omega (arith, room_there, q.1, slots, groups))
+      let q = small told_at_start in
+      let slots : found.tables.slots ≡ (super_of (block s.now 0)).slots = ap (λ (t : Tables). t.slots) found.has.says in
+      let groups : found.tables.groups ≡ (super_of (block s.now 0)).groups = ap (λ (t : Tables). t.groups) found.has.says in
+      omega (arith, room_there, q.1, slots, groups))
       short
 
   -- its tables are not refused

@@ -23,10 +23,13 @@ fn pass<H: Host>(
 ) -> Result<usize, Status>
     requires limit { taken ≤ longest_script }
     requires ready { IsReady volume.old.system (H.state host.old) session.old.reader }
+    // The disk is the same one, and no count of faults falls; why the session ends.
     ensures on { GoesOn (H.state host.old) (H.state host.new) }
     ensures cause { IfErr result (λ status. LoopCause status (H.state host.old) (H.state host.new)) }
+    // The session may go on, with no more bytes than a script may have.
     ensures count { IfOk result (λ n. taken + n ≤ longest_script) }
     ensures ready { IfOk result (λ n. IsReady volume.new.system (H.state host.new) session.new.reader) }
+    // From any world, the lines that end in the piece are answered, or the session has ended.
     ensures passes { (w : World) (start : H) → Fed H.state H.left w start taken host.old volume.old.system session.old.reader
         → Passes H.state H.left w start taken result host.new volume.new.system session.new.reader }
 {
@@ -46,8 +49,10 @@ fn pass<H: Host>(
 /// Takes the script to its end and answers each line of it.
 pub(crate) fn serve<H: Host>(host: &mut H, volume: &mut Volume, session: &mut Session) -> Status
     requires { IsReady volume.old.system (H.state host.old) session.old.reader }
+    // The disk is the same one, and no count of faults falls; why the session ended.
     ensures on { GoesOn (H.state host.old) (H.state host.new) }
     ensures cause { (result ≡ Status.Done) ⊎ LoopCause result (H.state host.old) (H.state host.new) }
+    // From the world that the volume and the disk stand for, how the session ended.
     ensures served { (w : World) → StandsFor volume.old.system (H.state host.old) w → session.old.reader.text ≡ []
         → Served H.state H.left w host.old result volume.new.system host.new }
 {

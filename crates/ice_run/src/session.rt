@@ -60,11 +60,14 @@ pub(crate) fn answer<H: Host>(
     session: &mut Session,
 ) -> Result<(), Status>
     requires { IsLive volume.old.system (H.state host.old) }
+    // The disk is the same one, no count of faults falls, nothing is taken, and a fault ends the session.
     ensures on { GoesOn (H.state host.old) (H.state host.new) }
     ensures intake { (H.state host.new).streams.intake ≡ (H.state host.old).streams.intake }
     ensures cause { IfErr result (λ status. LoopCause status (H.state host.old) (H.state host.new)) }
+    // The session may go on.
     ensures ready { OnOk result (IsReady volume.new.system (H.state host.new) session.new.reader) }
     ensures text { OnOk result (session.new.reader.text ≡ []) }
+    // From any world, one more line of the script is answered, or it is the one that ended the session.
     ensures answered { (w : World) (script lines ahead : List Line) (start : H)
         → script ≡ lines ++ line_of session.old.reader.text ∷ ahead
         → SoFar H.state H.left w script volume.old.system lines start host.old
@@ -95,10 +98,13 @@ fn feed<H: Host>(
     byte: u8,
 ) -> Result<(), Status>
     requires { IsReady volume.old.system (H.state host.old) session.old.reader }
+    // The disk is the same one, no count of faults falls, nothing is taken, and a fault ends the session.
     ensures on { GoesOn (H.state host.old) (H.state host.new) }
     ensures intake { (H.state host.new).streams.intake ≡ (H.state host.old).streams.intake }
     ensures cause { IfErr result (λ status. LoopCause status (H.state host.old) (H.state host.new)) }
+    // The session may go on.
     ensures ready { OnOk result (IsReady volume.new.system (H.state host.new) session.new.reader) }
+    // From any world, the lines that end in these bytes are answered, or one of them ended the session.
     ensures served { (w : World) (input taken ahead : List ℕ) (start : H) → input ≡ taken ++ byte ∷ ahead
         → Serving H.state H.left w volume.old.system input taken start host.old session.old.reader
         → OnOk result (Serving H.state H.left w volume.new.system input (taken ++ byte ∷ []) start host.new session.new.reader) }
@@ -121,10 +127,13 @@ pub(crate) fn feed_all<H: Host>(
     piece: &[u8],
 ) -> Result<(), Status>
     requires { IsReady volume.old.system (H.state host.old) session.old.reader }
+    // The disk is the same one, no count of faults falls, nothing is taken, and a fault ends the session.
     ensures on { GoesOn (H.state host.old) (H.state host.new) }
     ensures intake { (H.state host.new).streams.intake ≡ (H.state host.old).streams.intake }
     ensures cause { IfErr result (λ status. LoopCause status (H.state host.old) (H.state host.new)) }
+    // The session may go on.
     ensures ready { OnOk result (IsReady volume.new.system (H.state host.new) session.new.reader) }
+    // From any world, the lines that end in these bytes are answered, or one of them ended the session.
     ensures served { (w : World) (input taken ahead : List ℕ) (start : H) → input ≡ taken ++ piece.now ++ ahead
         → Serving H.state H.left w volume.old.system input taken start host.old session.old.reader
         → OnOk result (Serving H.state H.left w volume.new.system input (taken ++ piece.now) start host.new session.new.reader) }
@@ -148,9 +157,11 @@ pub(crate) fn close<H: Host>(
     session: &mut Session,
 ) -> Result<(), Status>
     requires { IsReady volume.old.system (H.state host.old) session.old.reader }
+    // The disk is the same one, no count of faults falls, nothing is taken, and a fault ends the session.
     ensures on { GoesOn (H.state host.old) (H.state host.new) }
     ensures intake { (H.state host.new).streams.intake ≡ (H.state host.old).streams.intake }
     ensures cause { IfErr result (λ status. LoopCause status (H.state host.old) (H.state host.new)) }
+    // From any world, all lines of the script are answered, or the last one ended the session.
     ensures served { (w : World) (input : List ℕ) (start : H)
         → Serving H.state H.left w volume.old.system input input start host.old session.old.reader
         → OnOk result (SoFar H.state H.left w (script_lines input) volume.new.system (script_lines input) start host.new) }

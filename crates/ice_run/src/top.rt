@@ -28,9 +28,11 @@ use std::alloc::Global;
 /// Makes the fresh image where the disk is large enough.
 fn format_image<D: Disk>(disk: &mut D, sup: &Super) -> Status
     requires { is_geometry sup.now ≡ true }
+    // Blocks 0 to 31 alone change; why it ended so, and that too few blocks are left as they are.
     ensures within { Within D.state D.left (Below 32) disk.old disk.new }
     ensures cause { FormatCause sup.now result (D.state disk.old) (D.state disk.new) }
     ensures room { (D.state disk.old).size < total_blocks sup.now.slots sup.now.groups → (result ≡ Status.Small) × (disk.new ≡ disk.old) }
+    // At Done the image is the fresh one, and a session may start from it.
     ensures fresh { (D.state disk.old).tells ≡ true → result ≡ Status.Done
         → IsFreshImage sup.now (D.state disk.new).now × Settled Everywhere (D.state disk.new) }
     ensures starts { (D.state disk.old).tells ≡ true → result ≡ Status.Done → Starts (D.state disk.new) (empty_world sup.now) }
@@ -49,8 +51,10 @@ fn format_image<D: Disk>(disk: &mut D, sup: &Super) -> Status
 fn open_and_serve<H: Host>(alloc: Global, host: &mut H, session: &mut Session) -> Status
     requires text { session.old.reader.text ≡ [] }
     requires open_line { session.old.reader.ended ≡ false }
+    // On any host, whatever its image is.
     ensures behaves { Behaves result (H.state host.old) (H.state host.new) }
     ensures memory { result ≡ Status.Memory → host.new ≡ host.old }
+    // From each world that the image opens: how the session ends, and what each crash leaves.
     ensures ends { (w : World) → Starts (H.state host.old) w → Ends result w (H.state host.old) (H.state host.new) }
     ensures crash { (w : World) → Starts (H.state host.old) w
         → LeavesOnly H.left host.old host.new (CrashLeaves (H.state host.old).streams.aside w (script_lines (H.state host.old).streams.intake)) }
@@ -68,8 +72,10 @@ fn open_and_serve<H: Host>(alloc: Global, host: &mut H, session: &mut Session) -
 
 /// Makes room for a session, and runs it.
 fn run_session<H: Host>(alloc: Global, host: &mut H) -> Status
+    // On any host, whatever its image is.
     ensures behaves { Behaves result (H.state host.old) (H.state host.new) }
     ensures memory { result ≡ Status.Memory → host.new ≡ host.old }
+    // From each world that the image opens: how the session ends, and what each crash leaves.
     ensures ends { (w : World) → Starts (H.state host.old) w → Ends result w (H.state host.old) (H.state host.new) }
     ensures crash { (w : World) → Starts (H.state host.old) w → (crashed : Image) (out : List ℕ)
         → H.left host.new (H.state host.old).clock crashed out
@@ -91,11 +97,16 @@ fn run_session<H: Host>(alloc: Global, host: &mut H) -> Status
 /// A change of the tables that failed from the first write of its gate on has no reply, and ends the session with `Disk`.
 /// Other words are `Usage`. `Usage` and `Memory` come before any call on the host.
 pub fn run<H: Host>(alloc: Global, words: &Words, host: &mut H) -> Status
+    // Which words there are, and when nothing is done.
     ensures usage { (result ≡ Status.Usage) ↔ (request_of words.now ≡ None) }
     ensures untouched { (result ≡ Status.Usage) ⊎ (result ≡ Status.Memory) → host.new ≡ host.old }
+    // The making of an image.
     ensures format { (image : List ℕ) (sup : Geometry) → request_of words.now ≡ Some (Formats image sup)
         → FormatsImage H.state H.left sup result host.old host.new }
+    // A session on any image.
     ensures behaves { (image : List ℕ) → request_of words.now ≡ Some (Runs image) → Behaves result (H.state host.old) (H.state host.new) }
+    // A session from each world that the image opens: how it ends, what each crash since its start leaves,
+    // and what is left where the lot of any one cube was damaged then.
     ensures ends { (image : List ℕ) (w : World) → request_of words.now ≡ Some (Runs image)
         → Starts (H.state host.old) w → Ends result w (H.state host.old) (H.state host.new) }
     ensures crash { (image : List ℕ) (w : World) → request_of words.now ≡ Some (Runs image)

@@ -17,7 +17,7 @@ pub(crate) enum LateFault {
     Failed = 1,
 }
 
-/// The cubes of an image. No cube can be mounted yet.
+/// The cubes of an image, by its tables. No cube can be mounted yet.
 #[derive(Drop)]
 pub(crate) struct Volume {
     pub(crate) system: System,
@@ -145,6 +145,7 @@ impl Volume {
         command: &Command<'_>,
         room: &mut Room,
     ) -> Result<Reply, LateFault>
+        // The disk has all blocks, the command is one that is answered, and the room is empty.
         requires disk { HasRoom self.old.system (D.state disk.old) }
         requires answered { IsAnswered (asked command.now) }
         requires entries { room.old.entries ≡ [] }
