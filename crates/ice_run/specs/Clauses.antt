@@ -67,7 +67,8 @@ pub record StopsAtTables (w : World) (steps : List Answered) (taken left : List 
 
 -- the volume did not attach; a change of the tables failed; or the end did, after all lines
 abbrev pub StopsAt : World → List Answered → (taken left : List ℕ) → Type 0
-StopsAt w steps taken left = ((taken ≡ []) × (steps ≡ [])) ⊎ (StopsAtTables w steps taken left ⊎ ((left ≡ []) × (lines_of steps ≡ script_lines taken)))
+StopsAt w steps taken left = ((taken ≡ []) × (steps ≡ []))
+    ⊎ (StopsAtTables w steps taken left ⊎ ((left ≡ []) × (lines_of steps ≡ script_lines taken)))
 
 -- Which lines are answered, by the status. The statuses that are missing don't come where the image opens.
 abbrev pub EndsAt : Status → World → List Answered → (tail taken left : List ℕ) → Type 0
@@ -133,7 +134,8 @@ SaysAlone s w steps = AllClean (told s w steps) → replies_of (told s w steps) 
 -- those that were sound at the start, and those that were made in the session, from there on
 pub record AllAlone (w : World) (steps : List Answered) : Type 0 where
   pub found : (s : ℕ) (c : Cube) → w.cube s ≡ Some c → ToSound c.content → SaysAlone s w steps
-  pub made : (s : ℕ) (before rest : List Answered) (a : Answered) (p : List (List ℕ)) (n : ℕ) → steps ≡ before ++ a ∷ rest → aim (end w before) a.line ≡ At s (Create p n) → IsOk a.reply → SaysAlone s a.then rest
+  pub made : (s : ℕ) (before rest : List Answered) (a : Answered) (p : List (List ℕ)) (n : ℕ) → steps ≡ before ++ a ∷ rest
+      → aim (end w before) a.line ≡ At s (Create p n) → IsOk a.reply → SaysAlone s a.then rest
 
 -- ---- the clauses together
 

@@ -31,7 +31,8 @@ module _ {D : Type 0} (state : D → DiskState) (left : D → ℕ → Image → 
 
   -- which lines are answered, of those in the bytes that were taken
   abbrev pub Reaches : Status → SystemView → (taken : List ℕ) → D → Type 0
-  Reaches Done v taken new = ((state new).streams.intake ≡ []) × (length taken ≤ longest_script) × SoFar state left w asked_lines v (script_lines taken) start new
+  Reaches Done v taken new = ((state new).streams.intake ≡ []) × (length taken ≤ longest_script)
+      × SoFar state left w asked_lines v (script_lines taken) start new
   Reaches Source v taken new = (length taken ≤ longest_script) × SoFar state left w asked_lines v (ended_lines taken) start new
   Reaches Script v taken new = (length taken ≡ longest_script + 1) × SoFar state left w asked_lines v (ended_lines (take longest_script taken)) start new
   Reaches Sink v taken new = (length taken ≤ longest_script) × Broken Sink taken new

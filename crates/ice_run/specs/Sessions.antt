@@ -82,6 +82,7 @@ module _ {D : Type 0} (state : D → DiskState) (left : D → ℕ → Image → 
   BreaksOff Small heard old new = ⊥
 
 -- the first bytes of the input were read: the lines that ended in them are answered, and the reader holds what follows the last LF
-pub record Serving {D : Type 0} (state : D → DiskState) (left : D → ℕ → Image → List ℕ → Type 0) (w : World) (v : SystemView) (input taken : List ℕ) (old new : D) (reader : Gathered) : Type 0 where
+pub record Serving {D : Type 0} (state : D → DiskState) (left : D → ℕ → Image → List ℕ → Type 0)
+    (w : World) (v : SystemView) (input taken : List ℕ) (old new : D) (reader : Gathered) : Type 0 where
   pub so_far : SoFar state left w (script_lines input) v (ended_lines taken) old new
   pub holds : reader.text ≡ take 40001 (cut_of taken).rest

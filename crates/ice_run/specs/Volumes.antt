@@ -92,7 +92,8 @@ told_of (Err After) = Err Failed
 
 -- A line, answered or, where a change of the tables failed late, not. Only the blocks of the tables and their journal change.
 -- Each crash leaves an image that fits the world before, or one after an Ok reply. The reply and the world after it follow by a step.
-pub record AnswersLine {D X : Type 0} (state : D → DiskState) (left : D → ℕ → Image → List ℕ → Type 0) (line : Line) (v w : SystemView) (room : RoomContent) (result : Result (Result Value Refusal) X) (old new : D) : Type 0 where
+pub record AnswersLine {D X : Type 0} (state : D → DiskState) (left : D → ℕ → Image → List ℕ → Type 0)
+    (line : Line) (v w : SystemView) (room : RoomContent) (result : Result (Result Value Refusal) X) (old new : D) : Type 0 where
   pub within : Within state left IsChange old new
   pub size : total (tables_of w) ≡ total (tables_of v)
   pub cause : OnErr result (v.failed ≡ false → Rose (state old).faults (state new).faults)
