@@ -1,5 +1,5 @@
 //! A keep that holds all changes back until it commits them.
-ghost use Rattle.std.specs.Prelude.{is_ok, ◌≡◌, ◌⊎◌, ◌≤◌, ◌<◌, ◌+◌, ◌*◌, ◌-◌, ◌==◌, cond, true, false, [], List, ℕ, length, MatchOption, IfOk, IsOk, OnOk, OnErr};
+ghost use Rattle.std.specs.Prelude.{is_ok, ◌≡◌, ◌⊎◌, ◌≤◌, ◌+◌, ◌*◌, ◌-◌, ◌==◌, true, [], List, ℕ, length, IfOk, IsOk, OnOk, OnErr};
 ghost use Rattle.ice_base.specs.Counts.{Made};
 ghost use Rattle.ice_base.specs.Disk.{HasCause, Everywhere, block};
 ghost use Rattle.ice_base.specs.Frames.{Within, CrashStep, Settled, Sure};

@@ -79,9 +79,17 @@ fn each_crash_of_a_commit_leaves_the_tree_before_or_after(rt: HostRuntime) -> Re
             let mut left = after(&rt, &host, moment, fill, rt.alloc())?;
             let new = moment >= SURE || moment + 1 == SURE && fill == 1;
             let want = Ok(if new { 1 } else { 0 });
-            assert_eq!(rt; done(&rt, &mut left, &lot), want, "moment {moment}, fill {fill}");
+            assert_eq!(rt;
+                done(&rt, &mut left, &lot),
+                want,
+                "moment {moment}, fill {fill}"
+            );
             assert_eq!(rt; recover_in(&mut left, &lot, BLOCKS), Ok(()));
-            assert_eq!(rt; done(&rt, &mut left, &lot), want, "moment {moment}, fill {fill}");
+            assert_eq!(rt;
+                done(&rt, &mut left, &lot),
+                want,
+                "moment {moment}, fill {fill}"
+            );
         }
     }
     Ok(())
@@ -101,9 +109,16 @@ fn a_commit_that_failed_is_taken_up_again(rt: HostRuntime) -> Result<(), Fail> {
         for fill in 0..4 {
             let mut left = after(&rt, &host, host.calls(), fill, rt.alloc())?;
             let first = done(&rt, &mut left, &lot);
-            assert!(rt; first == Ok(least) || first == Ok(most), "call {failing}, fill {fill}");
+            assert!(rt;
+                first == Ok(least) || first == Ok(most),
+                "call {failing}, fill {fill}"
+            );
             assert_eq!(rt; recover_in(&mut left, &lot, BLOCKS), Ok(()));
-            assert_eq!(rt; done(&rt, &mut left, &lot), first, "call {failing}, fill {fill}");
+            assert_eq!(rt;
+                done(&rt, &mut left, &lot),
+                first,
+                "call {failing}, fill {fill}"
+            );
         }
         assert_eq!(rt; recover_in(&mut host, &lot, BLOCKS), Ok(()));
         let last = done(&rt, &mut host, &lot);
@@ -127,9 +142,17 @@ fn a_replay_can_be_stopped_at_each_call(rt: HostRuntime) -> Result<(), Fail> {
         assert_eq!(rt; stopped, Err(JournalFault::Disk), "call {failing}");
         for fill in 0..4 {
             let mut again = after(&rt, &left, left.calls(), fill, rt.alloc())?;
-            assert_eq!(rt; done(&rt, &mut again, &lot), Ok(1), "call {failing}, fill {fill}");
+            assert_eq!(rt;
+                done(&rt, &mut again, &lot),
+                Ok(1),
+                "call {failing}, fill {fill}"
+            );
             assert_eq!(rt; recover_in(&mut again, &lot, BLOCKS), Ok(()));
-            assert_eq!(rt; done(&rt, &mut again, &lot), Ok(1), "call {failing}, fill {fill}");
+            assert_eq!(rt;
+                done(&rt, &mut again, &lot),
+                Ok(1),
+                "call {failing}, fill {fill}"
+            );
         }
         assert_eq!(rt; recover_in(&mut left, &lot, BLOCKS), Ok(()));
         assert_eq!(rt; done(&rt, &mut left, &lot), Ok(1), "call {failing}");

@@ -51,7 +51,10 @@ fn put(rt: &impl Abort, keep: &mut JournalKeep, host: &mut MemHost, lot: &Lot, a
     requires homes { AreHomes (lot_places lot.now) keep.old.entries }
     ensures homes { AreHomes (lot_places lot.now) keep.new.entries }
 {
-    assert_eq!(rt; put_in(keep, host, lot, BLOCKS, at, &block(first, at)), Ok(()));
+    assert_eq!(rt;
+        put_in(keep, host, lot, BLOCKS, at, &block(first, at)),
+        Ok(())
+    );
 }
 
 /// The first byte that the effective blocks have at an address.
@@ -102,7 +105,15 @@ fn a_full_keep_is_committed(rt: HostRuntime) -> Result<(), Fail> {
         (keep.len(), host.reads(), host.writes(), host.barriers()),
         (0, 0, 483, 4)
     );
-    for (moment, want) in [(0, 0), (241, 0), (242, 0), (244, 7), (300, 7), (484, 7), (487, 7)] {
+    for (moment, want) in [
+        (0, 0),
+        (241, 0),
+        (242, 0),
+        (244, 7),
+        (300, 7),
+        (484, 7),
+        (487, 7),
+    ] {
         for fill in 0..4 {
             let mut left = after(&rt, &host, moment, fill, rt.alloc())?;
             for at in [0, 120, 239] {
@@ -157,7 +168,11 @@ fn two_lots_are_committed_apart(rt: HostRuntime) -> Result<(), Fail> {
             for _ in 0..2 {
                 assert_eq!(rt; seen(&rt, &mut left, &one, 9)?, want[0], "{moment}, {fill}");
                 assert_eq!(rt; seen(&rt, &mut left, &two, 9)?, want[1], "{moment}, {fill}");
-                assert_eq!(rt; seen(&rt, &mut left, &two, 10)?, want[2], "{moment}, {fill}");
+                assert_eq!(rt;
+                    seen(&rt, &mut left, &two, 10)?,
+                    want[2],
+                    "{moment}, {fill}"
+                );
                 assert_eq!(rt; recover_in(&mut left, &one, BLOCKS), Ok(()));
                 assert_eq!(rt; recover_in(&mut left, &two, BLOCKS), Ok(()));
             }
