@@ -1,13 +1,13 @@
 -- Where the journals lie: their blocks are apart, and lie among those of the tables or of the lot.
-use Rattle.std.proofs.Common.{◌≡◌, ◌≢◌, ◌⊎◌, inl, inr, ⊎_elim, ◌≤◌, ◌<◌, ◌+◌, ◌-◌, ◌*◌, ℕ, true, List, length, refl, sym, ◌∙◌, ap, subst, arith}
-use Rattle.ice_base.specs.Lots.{LotView, IsLot, is_address, place, is_sited, extent, gate_place, header_place}
+use Rattle.std.proofs.Common.{◌≡◌, inl, inr, ◌≤◌, ◌<◌, ◌+◌, ◌-◌, ◌*◌, ℕ, true, refl, sym, subst, arith}
+use Rattle.ice_base.specs.Lots.{LotView, IsLot, place, is_sited, extent}
 use Rattle.ice_base.proofs.LotLaws.{place-in, place-apart, place-sited, area_in, area_below, sited-below, gate_in, header_in, home_not_gate, home_not_header, home_not_body}
-use Rattle.ice_layout.specs.Headers.{is_table, slot_targets, system_targets}
+use Rattle.ice_layout.specs.Headers.{slot_targets, system_targets}
 use Rattle.ice_layout.proofs.HeaderLaws.{may_be}
-use Rattle.ice_tables.specs.Journals.{Places, lot_places, system_places}
+use Rattle.ice_tables.specs.Journals.{lot_places, system_places}
 use Rattle.ice_tables.proofs.JournalLaws.{table-range}
 use Rattle.ice_journal.specs.declared.area.Area.{Area}
-use Rattle.ice_journal.specs.Areas.{tables_area, slot_area, IsArea, IsAreaOf, NamesTargets}
+use Rattle.ice_journal.specs.Areas.{tables_area, slot_area, IsAreaOf}
 use Rattle.ice_journal.specs.Blocks.{AreApart, JournalExtent}
 
 -- The blocks of the tables' journal are different ones.

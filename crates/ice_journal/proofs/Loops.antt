@@ -1,5 +1,5 @@
 -- One block written after another.
-use Rattle.std.proofs.Common.{◌≡◌, ◌⊎◌, inl, inr, ℕ, ◌+◌, ◌<◌, ◌≤◌, true, List, refl, sym, ◌∙◌, subst, arith}
+use Rattle.std.proofs.Common.{◌≡◌, ◌⊎◌, inl, inr, ℕ, ◌+◌, ◌<◌, true, List, refl, sym, ◌∙◌, subst, arith}
 use Rattle.ice_base.specs.Counts.{Made}
 use Rattle.ice_base.specs.Disk.{Image, block, DiskState}
 use Rattle.ice_base.specs.Frames.{Within}

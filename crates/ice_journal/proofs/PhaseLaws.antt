@@ -1,17 +1,16 @@
 -- What the images of each phase stand for, and what each phase rests on.
-use Rattle.std.proofs.Common.{◌≡◌, ◌≢◌, ◌⊎◌, inl, inr, ◌≤◌, ◌<◌, ◌+◌, ◌==◌, ℕ, zero, suc, Bool, true, false, cond, List, [], ◌∷◌, length, Option, Some, None, IsSomeAnd, refl, sym, ◌∙◌, ap, subst, arith}
+use Rattle.std.proofs.Common.{◌≡◌, inl, inr, ◌≤◌, ◌<◌, ◌+◌, ◌==◌, ℕ, zero, suc, true, false, cond, List, [], ◌∷◌, length, Option, refl, sym, ◌∙◌, ap, subst, arith}
 use Rattle.std.specs.Prelude.{if◌then◌else◌}
 use Rattle.std.proofs.lemmas.Bool.{cases_Bool}
-use Rattle.std.proofs.lemmas.Bool.Decides.{nat_tests}
 use Rattle.ice_base.specs.Disk.{Image, block}
 use Rattle.ice_base.specs.Frames.{RestsOn}
 use Rattle.ice_layout.specs.Headers.{is_open}
-use Rattle.ice_tables.specs.Journals.{Places, replayed, effective}
+use Rattle.ice_tables.specs.Journals.{Places, replayed}
 use Rattle.ice_txn.specs.declared.set.Entry.{Entry}
 use Rattle.ice_txn.specs.Sets.{address, addresses, contents, holds, over, Differ}
 use Rattle.ice_txn.proofs.SetLaws.{over_free, held_entry, over_here}
-use Rattle.ice_journal.specs.Blocks.{IsBody, IsPlace, IsPut, IsOther, JournalExtent, CommitBlocks, AreHomes, AreApart}
-use Rattle.ice_journal.specs.Phases.{HoldBlocks, HoldsSet, HomesAre, Idle, Full, Open, RestsIdle, RestsFull, RestsOpen, StandsFor, BeforeOrAfter, IsPending}
+use Rattle.ice_journal.specs.Blocks.{IsBody, IsPut, JournalExtent, CommitBlocks, AreHomes, AreApart}
+use Rattle.ice_journal.specs.Phases.{HoldBlocks, HoldsSet, HomesAre, Idle, Full, Open, RestsIdle, RestsFull, RestsOpen, StandsFor, BeforeOrAfter}
 
 -- Bodies in place of their targets show the map with the entries in place, where the other homes show the map.
 pub replayed_is : (place : ℕ → ℕ) (entries : List Entry) (body : ℕ) (image : Image) (map : ℕ → List ℕ) (a : ℕ) → HoldBlocks body entries image

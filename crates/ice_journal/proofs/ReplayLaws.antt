@@ -1,5 +1,5 @@
 -- What an open journal stands for, as a set of entries, and what its replay leaves.
-use Rattle.std.proofs.Common.{◌≡◌, ◌≢◌, ◌≤◌, ◌<◌, ◌+◌, ◌==◌, ℕ, zero, suc, Bool, true, false, List, [], ◌∷◌, length, slice_index, inl, inr, Option, Some, None, IsSomeAnd, Result, Ok, Err, OnOk, refl, sym, ◌∙◌, ap, subst, arith}
+use Rattle.std.proofs.Common.{◌≡◌, ◌≤◌, ◌<◌, ◌+◌, ℕ, zero, suc, true, false, List, [], ◌∷◌, length, slice_index, inl, inr, Option, Some, None, IsSomeAnd, Result, Ok, OnOk, refl, sym, ◌∙◌, ap, subst, arith}
 use Rattle.std.proofs.lemmas.Result.{on_ok_weaker}
 use Rattle.ice_base.specs.Disk.{Image, DiskState, block, Everywhere}
 use Rattle.ice_base.specs.Frames.{Within, CrashStep, Settled, Sure, Moves}
@@ -9,10 +9,10 @@ use Rattle.ice_base.specs.Lots.{LotView, is_address}
 use Rattle.ice_layout.specs.Headers.{is_open, AreTargets}
 use Rattle.ice_tables.specs.Journals.{Places, replayed, effective}
 use Rattle.ice_txn.specs.declared.set.Entry.{Entry}
-use Rattle.ice_txn.specs.Sets.{address, addresses, contents, holds, over, Differ}
+use Rattle.ice_txn.specs.Sets.{address, addresses, contents, over, Differ}
 use Rattle.ice_txn.proofs.SetLaws.{held_entry, held_here}
 use Rattle.ice_journal.specs.Blocks.{IsPut, IsTargetPlace, JournalExtent, AreHomes, AreApart}
-use Rattle.ice_journal.specs.Phases.{HoldBlocks, HoldsSet, Idle, Full, Open, RestsIdle, StandsFor, IsPending}
+use Rattle.ice_journal.specs.Phases.{HoldBlocks, Idle, Full, Open, RestsIdle, StandsFor, IsPending}
 use Rattle.ice_journal.specs.Shown.{are_some, AreNoneOrTargets}
 use Rattle.ice_journal.proofs.PhaseLaws.{replayed_is, open_stands, close_stands, idle_inside}
 use Rattle.ice_journal.proofs.StepLaws.{homes_written, gate_closed, sure_at}

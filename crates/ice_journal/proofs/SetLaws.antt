@@ -1,20 +1,18 @@
 -- The header that a write set has.
-use Rattle.std.proofs.Common.{◌≡◌, ◌≢◌, ◌≤◌, ◌<◌, ◌+◌, ◌-◌, ◌&&◌, ◌++◌, ◌==◌, ℕ, zero, suc, Bool, true, false, cond, List, [], ◌∷◌, length, take, replicate, slice_index, slice_set, append_assoc, Option, Some, None, refl, sym, ◌∙◌, ap, subst, arith}
+use Rattle.std.proofs.Common.{◌≡◌, ◌≤◌, ◌<◌, ◌+◌, ◌-◌, ◌++◌, ◌==◌, ℕ, zero, suc, Bool, true, false, cond, List, [], ◌∷◌, length, take, replicate, slice_index, slice_set, append_assoc, Some, None, refl, sym, ◌∙◌, ap, subst, arith}
 use Rattle.std.specs.List.{list_all}
 use Rattle.std.proofs.lemmas.Bool.Decides.{nat_tests}
 use Rattle.std.proofs.lemmas.List.{take_more, length-take-le}
 use Rattle.std.proofs.Math.Seq.{take-append_seam, set-append_seam, take-length}
 use Rattle.ice_base.specs.Spare.{has}
 use Rattle.ice_base.specs.Lots.{LotView, is_address}
-use Rattle.ice_layout.specs.Geometry.{between}
-use Rattle.ice_layout.specs.Headers.{all_differ, filled, header_with, header_of, system_header_of, targets_said, may_be_address, is_table, slot_targets, system_targets, IsProperHeader}
+use Rattle.ice_layout.specs.Headers.{all_differ, filled, header_with, header_of, system_header_of, targets_said, system_targets, IsProperHeader}
 use Rattle.ice_layout.specs.declared.header.Header.{Header}
 use Rattle.ice_layout.proofs.HeaderLaws.{header-said, said_targets}
 use Rattle.ice_txn.specs.declared.set.Entry.{Entry}
 use Rattle.ice_txn.specs.Sets.{address, addresses, holds, Differ}
 use Rattle.ice_txn.proofs.SetLaws.{count_addresses, not_held}
-use Rattle.ice_journal.specs.declared.area.Area.{Area}
-use Rattle.ice_journal.specs.Areas.{NamesTargets, may_be_target, most_bodies}
+use Rattle.ice_journal.specs.Areas.{NamesTargets}
 
 has_addresses : (entries : List Entry) (a : ℕ) → has (addresses entries) a ≡ holds entries a
 unfolding has holds

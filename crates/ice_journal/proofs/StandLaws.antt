@@ -1,20 +1,19 @@
 -- What a journal stands for is what the effective blocks of a lot or of the tables are, and rests on the journal's blocks.
-use Rattle.std.proofs.Common.{◌≡◌, ◌⊎◌, inl, inr, ⊎_elim, ◌≤◌, ◌<◌, ◌+◌, ℕ, Bool, true, false, cond, List, [], length, Option, Some, None, IsSomeAnd, refl, sym, ◌∙◌, ap, subst, arith}
+use Rattle.std.proofs.Common.{◌≡◌, ◌⊎◌, inl, inr, ⊎_elim, ◌≤◌, ◌<◌, ℕ, Bool, true, false, List, [], length, Option, Some, None, IsSomeAnd, refl, sym, ◌∙◌, ap, arith}
 use Rattle.std.specs.Prelude.{if◌then◌else◌, unwrap_or}
 use Rattle.std.specs.Option.{option_map}
 use Rattle.std.proofs.Math.Path.{fun_ext}
-use Rattle.std.proofs.lemmas.Bool.Decides.{nat_tests}
-use Rattle.ice_base.specs.Disk.{Image, DiskState, block}
-use Rattle.ice_base.specs.Frames.{RestsOn, Sure}
-use Rattle.ice_base.specs.Lots.{LotView, is_address, place, inside, extent}
+use Rattle.ice_base.specs.Disk.{Image, block}
+use Rattle.ice_base.specs.Frames.{RestsOn}
+use Rattle.ice_base.specs.Lots.{LotView, inside}
 use Rattle.ice_base.proofs.LotLaws.{inside_at, inside_same}
-use Rattle.ice_layout.specs.Headers.{is_open, is_table, slot_targets, system_targets}
+use Rattle.ice_layout.specs.Headers.{is_open, slot_targets, system_targets}
 use Rattle.ice_layout.proofs.HeaderLaws.{few-slot, few-system}
 use Rattle.ice_tables.specs.Journals.{Places, effective, effective_of, lot_places, system_places, in_tables, table_blocks}
 use Rattle.ice_tables.proofs.JournalLaws.{effective-same, table-range}
 use Rattle.ice_txn.specs.declared.set.Entry.{Entry}
 use Rattle.ice_txn.specs.Sets.{over}
-use Rattle.ice_journal.specs.Blocks.{IsPlace, JournalExtent}
+use Rattle.ice_journal.specs.Blocks.{JournalExtent}
 use Rattle.ice_journal.specs.Phases.{BeforeOrAfter, Idle, IsPending, RestsIdle, StandsFor}
 
 -- ---- a map that is cut to the addresses

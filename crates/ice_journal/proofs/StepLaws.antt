@@ -1,10 +1,10 @@
 -- The steps of a commit: what each leaves at its crashes, and what it ends with.
-use Rattle.std.proofs.Common.{◌≡◌, ◌≤◌, ◌<◌, ℕ, true, false, List, Option, Some, length, inl, inr, Result, Ok, Err, OnOk, OnErr, refl, sym, ◌∙◌, ap, subst, arith, ◌+◌}
+use Rattle.std.proofs.Common.{◌≡◌, ◌≤◌, ◌<◌, ℕ, true, false, List, Option, length, inl, inr, Result, Ok, Err, OnOk, refl, sym, ◌∙◌, ap, subst, arith}
 use Rattle.std.proofs.lemmas.Result.{on_ok_weaker}
 use Rattle.ice_base.specs.Disk.{Image, DiskState, block, Everywhere, Nowhere}
-use Rattle.ice_base.specs.Frames.{Within, RestsOn, CrashStep, Every, Settled, Sure, Moves, MovesFrom}
-use Rattle.ice_base.specs.FrameLaws.{within_refl, within_more}
-use Rattle.ice_base.proofs.Frame.{step_from_now, now_after, step_more, moves_then, moves_more, moves_fail}
+use Rattle.ice_base.specs.Frames.{Within, RestsOn, Every, Settled, Sure, Moves, MovesFrom}
+use Rattle.ice_base.specs.FrameLaws.{within_refl}
+use Rattle.ice_base.proofs.Frame.{step_from_now, now_after, step_more, moves_then, moves_more}
 use Rattle.ice_base.proofs.Rests.{from_barrier, from_then}
 use Rattle.ice_layout.specs.Headers.{is_open}
 use Rattle.ice_tables.specs.Journals.{Places}

@@ -1,5 +1,5 @@
 -- Where journals lie, and what an area may hold.
-use Rattle.std.specs.Prelude.{◌≡◌, ◌⊎◌, ◌<◌, ◌≤◌, ◌+◌, ◌*◌, ℕ, Bool, true, List, Option, None, Some}
+use Rattle.std.specs.Prelude.{◌≡◌, ◌⊎◌, ◌<◌, ◌+◌, ◌*◌, ℕ, Bool, true, List, Option, None, Some}
 use Rattle.std.specs.List.{list_all}
 use Rattle.ice_base.specs.Lots.{LotView, is_address}
 use Rattle.ice_layout.specs.Headers.{is_table, may_be_address, slot_targets, system_targets}

@@ -40,6 +40,10 @@ JournalExtent at most k = (k ≡ at.gate) ⊎ IsBody at most k ⊎ IsPlace at k
 abbrev pub HomeBlocks : Places → List Entry → ℕ → Type 0
 HomeBlocks at entries k = (k ≡ at.gate) ⊎ IsPut at entries k
 
+-- all these blocks lie below a number of blocks
+abbrev pub LiesBelow : Places → (most : ℕ) → (blocks : ℕ) → Type 0
+LiesBelow at most blocks = (k : ℕ) → JournalExtent at most k → k < blocks
+
 -- what a commit of these entries changes
 abbrev pub CommitBlocks : Places → List Entry → ℕ → Type 0
 CommitBlocks at entries k = (k ≡ at.gate) ⊎ IsBody at (length entries) k ⊎ IsPut at entries k

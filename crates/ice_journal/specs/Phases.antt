@@ -1,6 +1,7 @@
 -- What a journal stands for, and the phases of a commit: what holds of an image between two steps, and which blocks that looks at.
 use Rattle.std.specs.Prelude.{◌≡◌, ◌⊎◌, ◌<◌, ◌+◌, ℕ, true, false, List, length, Option, Some, IsSomeAnd}
-use Rattle.ice_base.specs.Disk.{Image, block}
+use Rattle.ice_base.specs.Disk.{Image, DiskState, block}
+use Rattle.ice_base.specs.Frames.{Sure}
 use Rattle.ice_layout.specs.Headers.{is_open}
 use Rattle.ice_tables.specs.Journals.{Places, effective}
 use Rattle.ice_txn.specs.declared.set.Entry.{Entry}
@@ -45,6 +46,10 @@ RestsFull at entries k = IsBody at (length entries) k ⊎ IsPlace at k
 
 abbrev pub RestsOpen : Places → List Entry → ℕ → Type 0
 RestsOpen at entries k = (k ≡ at.gate) ⊎ IsBody at (length entries) k ⊎ IsOther at entries k
+
+-- the journal is at rest with the map, and what that looks at is settled
+abbrev pub IsAtRest : Places → (ℕ → List ℕ) → DiskState → Type 0
+IsAtRest at map s = Sure (RestsIdle at) (Idle at map) s
 
 -- the image stands for the map at the addresses of the journal
 abbrev pub StandsFor : (List ℕ → Option (List ℕ)) → Places → (ℕ → List ℕ) → Image → Type 0

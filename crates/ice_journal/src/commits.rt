@@ -2,16 +2,16 @@
 ghost use Rattle.std.specs.Prelude.{is_ok, ◌≡◌, ◌<◌, ◌≤◌, ◌⊎◌, ◌+◌, ◌*◌, ℕ, List, true, length, OnOk, OnErr, IsErrOf};
 ghost use Rattle.ice_base.specs.Counts.{Made};
 ghost use Rattle.ice_base.specs.Disk.{block, HasCause, Everywhere};
-ghost use Rattle.ice_base.specs.Frames.{Within, CrashStep, Moves, Settled, Sure};
+ghost use Rattle.ice_base.specs.Frames.{Within, CrashStep, Moves, Settled};
 ghost use Rattle.ice_layout.specs.Headers.{is_open};
 ghost use Rattle.ice_txn.specs.Sets.{over};
 ghost use Rattle.ice_journal.specs.Areas.{IsAreaOf};
-ghost use Rattle.ice_journal.specs.Blocks.{AreHomes, CommitBlocks, HomeBlocks, JournalExtent};
-ghost use Rattle.ice_journal.specs.Phases.{BeforeOrAfter, Full, Idle, RestsIdle};
+ghost use Rattle.ice_journal.specs.Blocks.{AreHomes, CommitBlocks, HomeBlocks, JournalExtent, LiesBelow};
+ghost use Rattle.ice_journal.specs.Phases.{BeforeOrAfter, Full, Idle, IsAtRest};
 ghost use Rattle.ice_journal.specs.declared.commits.CommitFault.TheVariants.{Before, After};
 
-use crate::{Area, Journal};
 use crate::settle::{settle_body, settle_gate, settle_homes};
+use crate::{Area, Journal};
 use ice_base::{Disk, DiskFault};
 use ice_txn::WriteSet;
 
@@ -34,7 +34,7 @@ fn finish<D: Disk, J: Journal>(
     requires area { IsAreaOf area.now (J.reads journal.now) (J.places journal.now) (J.most journal.now) }
     requires few { length set.now.entries ≤ J.most journal.now }
     requires homes { AreHomes (J.places journal.now) set.now.entries }
-    requires below { (k : ℕ) → JournalExtent (J.places journal.now) (J.most journal.now) k → k < (D.state disk.old).size }
+    requires below { LiesBelow (J.places journal.now) (J.most journal.now) (D.state disk.old).size }
     ensures within { Within D.state D.left (HomeBlocks (J.places journal.now) set.now.entries) disk.old disk.new }
     ensures cause { HasCause (D.state disk.old) (D.state disk.new) result }
     ensures calm { OnOk result ((D.state disk.new).faults ≡ (D.state disk.old).faults) }
@@ -64,24 +64,24 @@ pub fn commit<D: Disk, J: Journal>(
     requires some { 1 ≤ length set.now.entries }
     requires few { length set.now.entries ≤ J.most journal.now }
     requires homes { AreHomes (J.places journal.now) set.now.entries }
-    requires below { (k : ℕ) → JournalExtent (J.places journal.now) (J.most journal.now) k → k < (D.state disk.old).size }
+    requires below { LiesBelow (J.places journal.now) (J.most journal.now) (D.state disk.old).size }
     // Only the gate, the header, as many bodies as the set has blocks, and their homes may change. Faults come from the disk alone.
     ensures within { Within D.state D.left (CommitBlocks (J.places journal.now) set.now.entries) disk.old disk.new }
     ensures cause { HasCause (D.state disk.old) (D.state disk.new) result }
     ensures calm { OnOk result ((D.state disk.new).faults ≡ (D.state disk.old).faults) }
     // From a journal at rest each crash, within the commit or after it, leaves the map before or the map after, and so do reads.
-    ensures crash { (map : ℕ → List ℕ) → Sure (RestsIdle (J.places journal.now)) (Idle (J.places journal.now) map) (D.state disk.old)
+    ensures crash { (map : ℕ → List ℕ) → IsAtRest (J.places journal.now) map (D.state disk.old)
         → CrashStep D.state D.left (JournalExtent (J.places journal.now) (J.most journal.now))
         (BeforeOrAfter (J.reads journal.now) (J.places journal.now) set.now.entries map) disk.old disk.new }
-    ensures either { (map : ℕ → List ℕ) → Sure (RestsIdle (J.places journal.now)) (Idle (J.places journal.now) map) (D.state disk.old)
+    ensures either { (map : ℕ → List ℕ) → IsAtRest (J.places journal.now) map (D.state disk.old)
         → BeforeOrAfter (J.reads journal.now) (J.places journal.now) set.now.entries map (D.state disk.new).now }
     // An Ok leaves it at rest with the map after, and every block settled.
-    ensures done { (map : ℕ → List ℕ) → Sure (RestsIdle (J.places journal.now)) (Idle (J.places journal.now) map) (D.state disk.old)
-        → OnOk result (Sure (RestsIdle (J.places journal.now)) (Idle (J.places journal.now) (over set.now.entries map)) (D.state disk.new)) }
+    ensures done { (map : ℕ → List ℕ) → IsAtRest (J.places journal.now) map (D.state disk.old)
+        → OnOk result (IsAtRest (J.places journal.now) (over set.now.entries map) (D.state disk.new)) }
     ensures settled { (D.state disk.old).tells ≡ true → OnOk result (Settled Everywhere (D.state disk.new)) }
     // Before leaves it at rest with the map before; After comes where the gate is loose or open.
-    ensures before { (map : ℕ → List ℕ) → Sure (RestsIdle (J.places journal.now)) (Idle (J.places journal.now) map) (D.state disk.old)
-        → IsErrOf result Before → Sure (RestsIdle (J.places journal.now)) (Idle (J.places journal.now) map) (D.state disk.new) }
+    ensures before { (map : ℕ → List ℕ) → IsAtRest (J.places journal.now) map (D.state disk.old)
+        → IsErrOf result Before → IsAtRest (J.places journal.now) map (D.state disk.new) }
     ensures late { (D.state disk.old).tells ≡ true → IsErrOf result After
         → ((D.state disk.new).loose (J.places journal.now).gate ≡ true)
         ⊎ (is_open (block (D.state disk.new).now (J.places journal.now).gate) ≡ true) }

@@ -2,10 +2,10 @@
 ghost use Rattle.std.specs.Prelude.{is_ok, ◌≡◌, ◌<◌, ◌⊎◌, ◌+◌, ℕ, List, true, length, OnOk, OnErr};
 ghost use Rattle.ice_base.specs.Counts.{Made};
 ghost use Rattle.ice_base.specs.Disk.{HasCause, Everywhere};
-ghost use Rattle.ice_base.specs.Frames.{Within, CrashStep, Settled, Sure};
+ghost use Rattle.ice_base.specs.Frames.{Within, CrashStep, Settled};
 ghost use Rattle.ice_layout.specs.Headers.{AreTargets};
-ghost use Rattle.ice_journal.specs.Blocks.{JournalExtent, ReplayBlocks};
-ghost use Rattle.ice_journal.specs.Phases.{Idle, IsPending, RestsIdle, StandsFor};
+ghost use Rattle.ice_journal.specs.Blocks.{JournalExtent, LiesBelow, ReplayBlocks};
+ghost use Rattle.ice_journal.specs.Phases.{IsAtRest, IsPending, StandsFor};
 
 use crate::Journal;
 use crate::settle::{settle_gate, settle_targets};
@@ -19,7 +19,7 @@ pub fn replay<D: Disk, J: Journal>(
     targets: &[u32],
 ) -> Result<(), DiskFault>
     requires targets { AreTargets (J.most journal.now) (J.places journal.now).home targets.now }
-    requires below { (k : ℕ) → JournalExtent (J.places journal.now) (J.most journal.now) k → k < (D.state disk.old).size }
+    requires below { LiesBelow (J.places journal.now) (J.most journal.now) (D.state disk.old).size }
     // Only the gate and the homes of the targets may change. Faults come from the disk alone.
     ensures within { Within D.state D.left (ReplayBlocks (J.places journal.now) targets.now) disk.old disk.new }
     ensures cause { HasCause (D.state disk.old) (D.state disk.new) result }
@@ -34,7 +34,7 @@ pub fn replay<D: Disk, J: Journal>(
     ensures done { (map : ℕ → List ℕ) → Settled (JournalExtent (J.places journal.now) (J.most journal.now)) (D.state disk.old)
         → IsPending (J.reads journal.now) (J.places journal.now) targets.now (D.state disk.old).now
         → StandsFor (J.reads journal.now) (J.places journal.now) map (D.state disk.old).now
-        → OnOk result (Sure (RestsIdle (J.places journal.now)) (Idle (J.places journal.now) map) (D.state disk.new)) }
+        → OnOk result (IsAtRest (J.places journal.now) map (D.state disk.new)) }
     ensures settled { (D.state disk.old).tells ≡ true → OnOk result (Settled Everywhere (D.state disk.new)) }
     // After an Err the gate is loose, or the journal is open as before and names the same targets.
     ensures late { (D.state disk.old).tells ≡ true

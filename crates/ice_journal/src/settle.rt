@@ -6,7 +6,7 @@ ghost use Rattle.ice_base.specs.Frames.{Within, Settled};
 ghost use Rattle.ice_layout.specs.Headers.{is_open, AreTargets};
 ghost use Rattle.ice_txn.specs.Sets.{address, addresses, contents, holds, Differ};
 ghost use Rattle.ice_journal.specs.Areas.{IsArea, IsAreaOf, NamesTargets, may_be_target, most_bodies};
-ghost use Rattle.ice_journal.specs.Blocks.{AreApart, AreHomes, IsBodyOf, IsPlace, IsPut, IsTargetPlace, JournalExtent};
+ghost use Rattle.ice_journal.specs.Blocks.{AreApart, AreHomes, IsBodyOf, IsPlace, IsPut, IsTargetPlace, LiesBelow};
 ghost use Rattle.ice_journal.specs.Phases.{HoldBlocks};
 
 use crate::effective::look;
@@ -131,7 +131,7 @@ fn write_targets<D: Disk, J: Journal>(
 ) -> Result<(), DiskFault>
     requires targets { AreTargets (J.most journal.now) (J.places journal.now).home targets.now }
     requires area { IsAreaOf area.now (J.reads journal.now) (J.places journal.now) (J.most journal.now) }
-    requires below { (k : ℕ) → JournalExtent (J.places journal.now) (J.most journal.now) k → k < (D.state disk.old).size }
+    requires below { LiesBelow (J.places journal.now) (J.most journal.now) (D.state disk.old).size }
     ensures within { Within D.state D.left (IsTargetPlace (J.places journal.now) targets.now) disk.old disk.new }
     ensures cause { HasCause (D.state disk.old) (D.state disk.new) result }
     ensures calm { OnOk result ((D.state disk.new).faults ≡ (D.state disk.old).faults) }
@@ -157,7 +157,7 @@ pub(crate) fn settle_targets<D: Disk, J: Journal>(
 ) -> Result<(), DiskFault>
     requires targets { AreTargets (J.most journal.now) (J.places journal.now).home targets.now }
     requires area { IsAreaOf area.now (J.reads journal.now) (J.places journal.now) (J.most journal.now) }
-    requires below { (k : ℕ) → JournalExtent (J.places journal.now) (J.most journal.now) k → k < (D.state disk.old).size }
+    requires below { LiesBelow (J.places journal.now) (J.most journal.now) (D.state disk.old).size }
     ensures within { Within D.state D.left (IsTargetPlace (J.places journal.now) targets.now) disk.old disk.new }
     ensures cause { HasCause (D.state disk.old) (D.state disk.new) result }
     ensures calm { OnOk result ((D.state disk.new).faults ≡ (D.state disk.old).faults) }

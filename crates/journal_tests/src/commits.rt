@@ -27,11 +27,7 @@ fn pair(alloc: Global, first: u32, second: u32) -> Result<WriteSet, AllocError>
     Ok(set)
 }
 
-fn commit_lot<D: Disk>(
-    rt: &impl Abort,
-    disk: &mut D,
-    set: &WriteSet,
-) -> Result<(), CommitFault>
+fn commit_lot<D: Disk>(rt: &impl Abort, disk: &mut D, set: &WriteSet) -> Result<(), CommitFault>
     requires count { length set.now.entries ≡ 2 }
     requires held { (a : ℕ) → holds set.now.entries a ≡ true → (a ≡ 0xFFFFFFFF) ⊎ (a ≡ 9) }
 {
@@ -39,11 +35,7 @@ fn commit_lot<D: Disk>(
     commit(disk, &lot(), set)
 }
 
-fn commit_tables<D: Disk>(
-    rt: &impl Abort,
-    disk: &mut D,
-    set: &WriteSet,
-) -> Result<(), CommitFault>
+fn commit_tables<D: Disk>(rt: &impl Abort, disk: &mut D, set: &WriteSet) -> Result<(), CommitFault>
     requires count { length set.now.entries ≡ 2 }
     requires held { (a : ℕ) → holds set.now.entries a ≡ true → (a ≡ 11) ⊎ (a ≡ 18) }
 {
@@ -70,7 +62,13 @@ fn stands(rt: &impl Abort, host: &MemHost, at: u32) -> Block {
     *host.block(at)
 }
 
-fn after(rt: &impl Abort, host: &MemHost, moment: u64, fill: u64, alloc: Global) -> Result<MemHost, AllocError> {
+fn after(
+    rt: &impl Abort,
+    host: &MemHost,
+    moment: u64,
+    fill: u64,
+    alloc: Global,
+) -> Result<MemHost, AllocError> {
     assert!(rt; moment <= host.calls());
     host.crashed(alloc, moment, fill)
 }
@@ -86,10 +84,7 @@ fn committed(rt: &impl Abort, alloc: Global) -> Result<MemHost, Fail> {
 #[test]
 fn a_commit_leaves_bodies_header_gate_and_homes(rt: HostRuntime) -> Result<(), Fail> {
     let host = committed(&rt, rt.alloc())?;
-    assert_eq!(rt;
-        (host.reads(), host.writes(), host.barriers()),
-        (0, 7, 4)
-    );
+    assert_eq!(rt; (host.reads(), host.writes(), host.barriers()), (0, 7, 4));
     for (at, want) in [
         (288, block(&[232, 3])),
         (289, block(&[0])),
@@ -179,10 +174,7 @@ fn the_tables_are_committed_likewise(rt: HostRuntime) -> Result<(), Fail> {
     let set = pair(rt.alloc(), 11, 18)?;
     let mut host = host(&rt, rt.alloc(), 0, &[0; 1024])?;
     assert_eq!(rt; commit_tables(&rt, &mut host, &set), Ok(()));
-    assert_eq!(rt;
-        (host.reads(), host.writes(), host.barriers()),
-        (0, 7, 4)
-    );
+    assert_eq!(rt; (host.reads(), host.writes(), host.barriers()), (0, 7, 4));
     for (at, want) in [
         (0, block(&[0])),
         (1, block(&[0])),

@@ -1,12 +1,11 @@
-use Rattle.std.proofs.Common.{◌≡◌, ◌≤◌, ◌<◌, ◌+◌, ◌*◌, ◌-◌, ℕ, List, ◌∙◌, refl, sym, ap, subst, inl, inr, length, OnOk, Ok, Result, ⊎_elim, arith}
-use Rattle.ice_base.specs.Frames.{Within, CrashStep, MovesFrom, Settled, Sure}
+use Rattle.std.proofs.Common.{◌+◌, ◌-◌, ◌∙◌, refl, subst, inl, inr, length, OnOk, Result, ⊎_elim, arith}
+use Rattle.ice_base.specs.Frames.{Settled}
 use Rattle.ice_base.specs.FrameLaws.{within_then, within_more}
-use Rattle.ice_base.proofs.Frame.{step_more, sure_after}
+use Rattle.ice_base.proofs.Frame.{sure_after}
 use Rattle.ice_txn.specs.Sets.{over}
-use Rattle.ice_journal.specs.Areas.{bodies_for}
 use Rattle.ice_journal.specs.Blocks.{CommitBlocks, HomeBlocks, IsBody, IsBodyOf, JournalExtent}
-use Rattle.ice_journal.specs.Phases.{BeforeOrAfter, Full, Idle, RestsIdle}
-use Rattle.ice_journal.proofs.PhaseLaws.{idle_rests, idle_stands, idle_outside, idle_inside}
+use Rattle.ice_journal.specs.Phases.{BeforeOrAfter, Idle, RestsIdle}
+use Rattle.ice_journal.proofs.PhaseLaws.{idle_rests, idle_outside, idle_inside}
 use Rattle.ice_journal.proofs.StepLaws.{set_written, set_holds, body_of, written, then_finished, every_now, sure_at}
 use Rattle.ice_journal.proofs.commits.commit.Goals as goal
 
@@ -23,7 +22,7 @@ pub finish-requires-clause-below : goal.finish-requires-clause-below
 finish-requires-clause-below g c = λ k is. omega (arith, c.requires.below k is, c.settle_body.ensures.within.size)
 
 pub returns-in-Ok-finish-clause-within : goal.returns-in-Ok-finish-clause-within
-returns-in-Ok-finish-clause-within g c = 
+returns-in-Ok-finish-clause-within g c =
     let state = g.D.Disk.state in let left = g.D.Disk.left in let at = g.J.Journal.places c.args.journal.now in let most = g.J.Journal.most c.args.journal.now in
     let reads = g.J.Journal.reads c.args.journal.now in let entries = c.args.set.now.entries in let area = c.area-area.result in let is = c.area-area.ensures in
     let w = within_more state left (IsBodyOf area.header area.body (length entries)) (IsBody at (length entries)) c.args.disk.now c.settle_body.new.disk (λ k body. body_of area reads at most (length entries) k is body) c.settle_body.ensures.within in
@@ -32,7 +31,7 @@ returns-in-Ok-finish-clause-within g c =
     (within_more state left (HomeBlocks at entries) (CommitBlocks at entries) c.settle_body.new.disk c.finish.new.disk (λ k home. ⊎_elim (λ gate. inl gate) (λ put. inr (inr put)) home) c.finish.ensures.within)
 
 pub returns-in-Err-finish-clause-within : goal.returns-in-Err-finish-clause-within
-returns-in-Err-finish-clause-within g c = 
+returns-in-Err-finish-clause-within g c =
     let state = g.D.Disk.state in let left = g.D.Disk.left in let at = g.J.Journal.places c.args.journal.now in let most = g.J.Journal.most c.args.journal.now in
     let reads = g.J.Journal.reads c.args.journal.now in let entries = c.args.set.now.entries in let area = c.area-area.result in let is = c.area-area.ensures in
     let w = within_more state left (IsBodyOf area.header area.body (length entries)) (IsBody at (length entries)) c.args.disk.now c.settle_body.new.disk (λ k body. body_of area reads at most (length entries) k is body) c.settle_body.ensures.within in
@@ -78,7 +77,7 @@ returns-in-Ok-finish-clause-done g c = λ map sure.
     sure_at (JournalExtent at most) (RestsIdle at) (Idle at (over entries map)) (state c.finish.new.disk) (idle_inside reads at entries most c.requires.few is.apart) end
 
 pub returns-in-Err-clause-within : goal.returns-in-Err-clause-within
-returns-in-Err-clause-within g c = 
+returns-in-Err-clause-within g c =
     let state = g.D.Disk.state in let left = g.D.Disk.left in let at = g.J.Journal.places c.args.journal.now in let most = g.J.Journal.most c.args.journal.now in
     let reads = g.J.Journal.reads c.args.journal.now in let entries = c.args.set.now.entries in let area = c.area-area.result in let is = c.area-area.ensures in
     let w = within_more state left (IsBodyOf area.header area.body (length entries)) (IsBody at (length entries)) c.args.disk.now c.settle_body.new.disk (λ k body. body_of area reads at most (length entries) k is body) c.settle_body.ensures.within in

@@ -1,5 +1,4 @@
-use Rattle.std.proofs.Common.{◌≡◌, ◌<◌, ℕ, List, ◌∙◌, refl, sym, inl, inr, arith}
-use Rattle.ice_base.specs.Frames.{Within}
+use Rattle.std.proofs.Common.{◌≡◌, ◌∙◌, refl, inl, inr, arith}
 use Rattle.ice_base.specs.FrameLaws.{within_then, within_more}
 use Rattle.ice_base.proofs.Frame.{moves_fail}
 use Rattle.ice_txn.specs.Sets.{over}

@@ -1,21 +1,20 @@
-use Rattle.std.proofs.Common.{◌≡◌, ◌<◌, ℕ, List, ◌∙◌, refl, inl, inr, arith}
-use Rattle.ice_base.specs.Frames.{Within}
+use Rattle.std.proofs.Common.{◌≡◌, ◌∙◌, refl, inl, inr, arith}
 use Rattle.ice_base.specs.FrameLaws.{within_then, within_more}
 use Rattle.ice_journal.specs.Blocks.{IsTargetPlace, ReplayBlocks}
-use Rattle.ice_journal.proofs.ReplayLaws.{targets_written, replay_closed, replay_crash, replay_done, pending_still}
+use Rattle.ice_journal.proofs.ReplayLaws.{targets_written, replay_closed, replay_crash, replay_done}
 use Rattle.ice_journal.proofs.replays.replay.Goals as goal
 
 pub settle_gate-requires : goal.settle_gate-requires
 settle_gate-requires g c = omega (arith, c.requires.below (g.J.Journal.places c.args.journal.now).gate (inl refl), c.area-area.ensures.gate, c.settle_targets.ensures.within.size)
 
 pub returns-in_err-settle_targets-clause-within : goal.returns-in_err-settle_targets-clause-within
-returns-in_err-settle_targets-clause-within g c = 
+returns-in_err-settle_targets-clause-within g c =
     let state = g.D.Disk.state in let left = g.D.Disk.left in let at = g.J.Journal.places c.args.journal.now in let most = g.J.Journal.most c.args.journal.now in
     let reads = g.J.Journal.reads c.args.journal.now in let ts = c.args.targets.now in let apart = c.area-area.ensures.apart in
     within_more state left (IsTargetPlace at ts) (ReplayBlocks at ts) c.args.disk.now c.settle_targets.new.disk (λ k is. inr is) c.settle_targets.ensures.within
 
 pub returns-clause-within : goal.returns-clause-within
-returns-clause-within g c = 
+returns-clause-within g c =
     let state = g.D.Disk.state in let left = g.D.Disk.left in let at = g.J.Journal.places c.args.journal.now in let most = g.J.Journal.most c.args.journal.now in
     let reads = g.J.Journal.reads c.args.journal.now in let ts = c.args.targets.now in let apart = c.area-area.ensures.apart in
     within_then state left (ReplayBlocks at ts) c.args.disk.now c.settle_targets.new.disk c.settle_gate.new.disk

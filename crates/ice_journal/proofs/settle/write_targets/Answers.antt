@@ -1,7 +1,7 @@
-use Rattle.std.proofs.Common.{rules, ◌≡◌, ◌<◌, ◌≤◌, ◌+◌, ℕ, true, length, slice_index, inl, inr, ap, sym, ◌∙◌, arith}
+use Rattle.std.proofs.Common.{rules, ◌<◌, ◌≤◌, ◌+◌, ℕ, length, slice_index, inl, inr, ap, ◌∙◌, arith}
 use Rattle.ice_base.specs.Disk.{block}
 use Rattle.ice_journal.specs.Blocks.{IsTargetPlace}
-use Rattle.ice_journal.proofs.Loops.{wrote_within, wrote_more}
+use Rattle.ice_journal.proofs.Loops.{wrote_more}
 use Rattle.ice_journal.proofs.settle.write_targets.Goals as goal
 
 pub copy_block-requires-clause-from : goal.copy_block-requires-clause-from

@@ -1,5 +1,5 @@
-use Rattle.std.proofs.Common.{◌≡◌, ◌+◌, ◌<◌, length, slice_index, sym, ◌∙◌, arith}
-use Rattle.ice_txn.specs.Sets.{address, addresses}
+use Rattle.std.proofs.Common.{◌<◌, length, sym, ◌∙◌, arith}
+use Rattle.ice_txn.specs.Sets.{addresses}
 use Rattle.ice_txn.proofs.SetLaws.{count_addresses, address_index}
 use Rattle.ice_journal.proofs.SetLaws.{target_put}
 use Rattle.ice_journal.proofs.writes.header_of_set.Goals as goal

@@ -1,4 +1,4 @@
-use Rattle.std.proofs.Common.{◌≡◌, ◌≤◌, ℕ, true, Option, None, Some, length, sym, subst}
+use Rattle.std.proofs.Common.{◌≡◌, ◌≤◌, ℕ, true, Option, length, sym, subst}
 use Rattle.ice_layout.specs.Headers.{is_table, may_be_address}
 use Rattle.ice_txn.specs.Sets.{addresses}
 use Rattle.ice_journal.specs.Areas.{NamesTargets, bodies_for, target_for}
@@ -8,9 +8,11 @@ use Rattle.ice_journal.proofs.writes.write_names.Goals as goal
 pub write_system_header-requires : goal.write_system_header-requires
 write_system_header-requires c =
     let header = c.header_of_set-header in
-    record { proper = proper_header 8 is_table c.args.set.now.entries header.result header.ensures.header header.ensures.differ c.requires.some
-        (subst (λ (o : Option ℕ). length c.args.set.now.entries ≤ bodies_for o) c.in-None.is c.requires.few)
-        (λ a held. subst (λ (o : Option ℕ). target_for o a ≡ true) c.in-None.is (c.requires.targets a held)) }
+    record {
+      proper = proper_header 8 is_table c.args.set.now.entries header.result header.ensures.header header.ensures.differ c.requires.some
+          (subst (λ (o : Option ℕ). length c.args.set.now.entries ≤ bodies_for o) c.in-None.is c.requires.few)
+          (λ a held. subst (λ (o : Option ℕ). target_for o a ≡ true) c.in-None.is (c.requires.targets a held));
+    }
 
 pub write_header-requires-clause-proper : goal.write_header-requires-clause-proper
 write_header-requires-clause-proper c =

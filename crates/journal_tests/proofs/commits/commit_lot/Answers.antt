@@ -1,4 +1,4 @@
-use Rattle.std.proofs.Common.{◌≡◌, ◌<◌, ◌*◌, ℕ, true, length, ⊎_elim, subst, sym, arith}
+use Rattle.std.proofs.Common.{◌≡◌, ◌<◌, ℕ, true, ⊎_elim, subst, sym, arith}
 use Rattle.ice_base.specs.Lots.{is_address}
 use Rattle.ice_base.proofs.LotLaws.{is_address_sub, is_address_at}
 use Rattle.ice_journal.proofs.AreaLaws.{lot_below}

@@ -1,4 +1,4 @@
-use Rattle.std.proofs.Common.{◌≡◌, ◌<◌, ℕ, arith}
+use Rattle.std.proofs.Common.{◌<◌, arith}
 use Rattle.ice_journal.proofs.AreaLaws.{lot_below}
 use Rattle.journal_tests.proofs.commits.recover.Goals as goal
 
