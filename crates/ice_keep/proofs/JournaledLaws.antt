@@ -1,5 +1,5 @@
 -- What a keep that holds all changes back shows of a lot at rest, and what its commit leaves of it.
-use Rattle.std.proofs.Common.{◌≡◌, inl, inr, ℕ, zero, suc, List, [], ◌∷◌, length, true, false, cond, ◌==◌, refl, sym, ◌∙◌, ap, subst, arith}
+use Rattle.std.proofs.Common.{◌≡◌, inl, inr, ℕ, zero, suc, List, [], ◌∷◌, length, true, false, cond, ◌==◌, Result, Ok, Err, OnOk, OnErr, refl, sym, ◌∙◌, ap, subst, arith}
 use Rattle.std.proofs.Math.Path.{fun_ext}
 use Rattle.ice_base.specs.Disk.{Image, DiskState}
 use Rattle.ice_base.specs.Frames.{CrashStep, RestsOn, Sure, With}
@@ -31,6 +31,12 @@ over_same (x ∷ entries) m n a e = ap (λ (y : List ℕ). cond (x.at == a) x.bl
 -- A keep that holds nothing holds addresses of the lot alone.
 pub none_homes : (lot : LotView) (entries : List Entry) → entries ≡ [] → AreHomes (lot_places lot) entries
 none_homes lot entries none a held = absurd (let f : holds entries a ≡ false = subst (λ (x : List Entry). holds x a ≡ false) (sym none) (no_entry a) in cc)
+
+-- After a commit it holds addresses of the lot alone, as before.
+pub commit_homes : {T X : Type 0} (lot : LotView) (r : Result T X) (v w : SetView) → OnOk r (w.entries ≡ []) → OnErr r (w ≡ v)
+    → AreHomes (lot_places lot) v.entries → AreHomes (lot_places lot) w.entries
+commit_homes lot (Ok x) v w emptied kept homes = none_homes lot w.entries emptied
+commit_homes lot (Err e) v w emptied kept homes = subst (λ (x : SetView). AreHomes (lot_places lot) x.entries) (sym kept) homes
 
 -- Over a lot at rest it shows the blocks with what it holds in place.
 pub rest_map : (lot : LotView) (entries : List Entry) (map : ℕ → List ℕ) (i : Image) → AreHomes (lot_places lot) entries → LotAtRest lot map i
