@@ -44,7 +44,8 @@ effective_inside lot map i e = go (effective (slot_targets lot) (lot_places lot)
     go (Some m) e = let is : map ≡ inside lot m = some-of (inside lot m) map e in ap (inside lot) is ∙ inside-twice lot m ∙ sym is
 
 -- Nor has such a map with entries of the lot in place.
-pub over_inside : (lot : LotView) (entries : List Entry) (map : ℕ → List ℕ) → AreHomes (lot_places lot) entries → inside lot map ≡ map → inside lot (over entries map) ≡ over entries map
+pub over_inside : (lot : LotView) (entries : List Entry) (map : ℕ → List ℕ) → AreHomes (lot_places lot) entries → inside lot map ≡ map
+    → inside lot (over entries map) ≡ over entries map
 over_inside lot entries map homes is = fun_ext (λ a. by a (cases_Bool (is_address lot a)))
   where
     by : (a : ℕ) → (is_address lot a ≡ true) ⊎ (is_address lot a ≡ false) → inside lot (over entries map) a ≡ over entries map a
@@ -95,7 +96,8 @@ pub read_blocks : (lot : LotView) (i : Image) (ts : List ℕ) → targets_now lo
 read_blocks lot i ts e = effective_shown lot i ts e
 
 -- Where the targets that count are some, the journal is open with them,
-pub some_pending : (lot : LotView) (ts : List ℕ) (i : Image) → targets_now lot i ≡ Some ts → are_some ts ≡ true → IsPending (slot_targets lot) (lot_places lot) ts i
+pub some_pending : (lot : LotView) (ts : List ℕ) (i : Image) → targets_now lot i ≡ Some ts → are_some ts ≡ true
+    → IsPending (slot_targets lot) (lot_places lot) ts i
 unfolding targets_now
 some_pending lot ts i e some = elim (cases_Bool (is_open (block i (gate_place lot)))) [
   | inl on ↦ record { gate = on; header = let h : slot_targets lot (block i (header_place lot)) ≡ Some ts = rw on at e in h }
@@ -146,6 +148,8 @@ rest_or_open lot map i e = elim (cases_Bool (is_open (block i (gate_place lot)))
       inr (named.0, rw on named.1, header-some lot (block i (header_place lot)) named.0 named.1)
 ]
   where
-    some-read : (o : Option (List ℕ)) → option_map (λ m. inside lot m) (option_map (λ ts. replayed (place lot) ts (lot_places lot).body i) o) ≡ Some map → (ts : List ℕ) × (o ≡ Some ts)
+    some-read : (o : Option (List ℕ))
+        → option_map (λ m. inside lot m) (option_map (λ ts. replayed (place lot) ts (lot_places lot).body i) o) ≡ Some map
+        → (ts : List ℕ) × (o ≡ Some ts)
     some-read None f = absurd (cc f)
     some-read (Some ts) f = (ts, refl)

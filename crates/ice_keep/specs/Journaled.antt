@@ -16,5 +16,6 @@ module _ {D : Type 0} (state : D → DiskState) (left : D → ℕ → Image → 
   pub held_refl : (v : SetView) (d : D) → HeldBack state left lot v d v d
   held_refl v d = record { still = still_refl state left d; homes = λ h. h }
 
-  pub held_then : (u : SetView) (a : D) (v : SetView) (b : D) (w : SetView) (c : D) → HeldBack state left lot u a v b → HeldBack state left lot v b w c → HeldBack state left lot u a w c
+  pub held_then : (u : SetView) (a : D) (v : SetView) (b : D) (w : SetView) (c : D) → HeldBack state left lot u a v b
+      → HeldBack state left lot v b w c → HeldBack state left lot u a w c
   held_then u a v b w c p q = record { still = still_then state left a b c p.still q.still; homes = λ h. q.homes (p.homes h) }

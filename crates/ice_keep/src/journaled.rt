@@ -1,5 +1,5 @@
 //! A keep that holds all changes back until it commits them.
-ghost use Rattle.std.specs.Prelude.{is_ok, ◌≡◌, ◌⊎◌, ◌≤◌, ◌<◌, ◌+◌, ◌*◌, ◌-◌, ◌==◌, cond, true, false, [], List, ℕ, length, MatchOption, IfOk, IsOk, OnOk, OnErr};
+ghost use Rattle.std.specs.Prelude.{is_ok, ◌≡◌, ◌⊎◌, ◌≤◌, ◌+◌, ◌*◌, ◌-◌, ◌==◌, true, [], List, ℕ, length, IfOk, IsOk, OnOk, OnErr};
 ghost use Rattle.ice_base.specs.Counts.{Made};
 ghost use Rattle.ice_base.specs.Disk.{HasCause, Everywhere, block};
 ghost use Rattle.ice_base.specs.Frames.{Within, CrashStep, Settled, Sure};
@@ -8,7 +8,7 @@ ghost use Rattle.ice_layout.specs.Headers.{is_open, slot_targets};
 ghost use Rattle.ice_tables.specs.Journals.{lot_places};
 ghost use Rattle.ice_txn.specs.Sets.{holds, over};
 ghost use Rattle.ice_journal.specs.Blocks.{AreHomes, CommitBlocks, JournalExtent};
-ghost use Rattle.ice_journal.specs.Phases.{BeforeOrAfter, Idle, RestsIdle};
+ghost use Rattle.ice_journal.specs.Phases.{BeforeOrAfter, IsAtRest};
 ghost use Rattle.ice_journal.specs.Rests.{BlocksEither, LotAtRest, RestsLot};
 ghost use Rattle.ice_keep.specs.Journaled.{HeldBack, held_refl, held_then};
 
@@ -88,11 +88,11 @@ impl JournalKeep {
             ⊎ ((D.state disk.new).loose (gate_place lot.now) ≡ true)
             ⊎ (is_open (block (D.state disk.new).now (gate_place lot.now)) ≡ true)) }
         // The same of what the journal stands for.
-        ensures stands { (map : ℕ → List ℕ) → Sure (RestsIdle (lot_places lot.now)) (Idle (lot_places lot.now) map) (D.state disk.old)
+        ensures stands { (map : ℕ → List ℕ) → IsAtRest (lot_places lot.now) map (D.state disk.old)
             → CrashStep D.state D.left (JournalExtent (lot_places lot.now) 240)
             (BeforeOrAfter (slot_targets lot.now) (lot_places lot.now) self.old.entries map) disk.old disk.new }
-        ensures idle { (map : ℕ → List ℕ) → Sure (RestsIdle (lot_places lot.now)) (Idle (lot_places lot.now) map) (D.state disk.old)
-            → OnOk result (Sure (RestsIdle (lot_places lot.now)) (Idle (lot_places lot.now) (over self.old.entries map)) (D.state disk.new)) }
+        ensures idle { (map : ℕ → List ℕ) → IsAtRest (lot_places lot.now) map (D.state disk.old)
+            → OnOk result (IsAtRest (lot_places lot.now) (over self.old.entries map) (D.state disk.new)) }
         // Where it held m blocks: 2 m + 3 writes and 4 barriers, after which every block is settled.
         ensures settled { (D.state disk.old).tells ≡ true → 1 ≤ length self.old.entries
             → OnOk result (Settled Everywhere (D.state disk.new)) }

@@ -16,7 +16,8 @@ use Rattle.ice_journal.proofs.AreaLaws.{lot_extent}
 use Rattle.ice_journal.proofs.RestLaws.{rest_rests, rests_lot}
 use Rattle.ice_recover.specs.Reads.{ReadsAs}
 
-pub rest_kept : (lot : LotView) (map : ℕ → List ℕ) (s t : DiskState) → Kept (extent lot) s t → Sure (RestsLot lot) (LotAtRest lot map) s → Sure (RestsLot lot) (LotAtRest lot map) t
+pub rest_kept : (lot : LotView) (map : ℕ → List ℕ) (s t : DiskState) → Kept (extent lot) s t → Sure (RestsLot lot) (LotAtRest lot map) s
+    → Sure (RestsLot lot) (LotAtRest lot map) t
 rest_kept lot map s t kept sure = sure_kept (RestsLot lot) (LotAtRest lot map) s t (rest_rests lot map) (kept_fewer (extent lot) (RestsLot lot) s t (rests_lot lot) kept) sure
 
 -- what the journal reads as rests on its gate and its header
@@ -27,10 +28,12 @@ reads_rests lot view i j same reads =
     let header : slot_targets lot (block j (header_place lot)) ≡ slot_targets lot (block i (header_place lot)) = ap (slot_targets lot) (same (header_place lot) (header_in lot)) in
     rw (gate, header) reads
 
-pub reads_kept : (lot : LotView) (view : List ℕ) (s t : DiskState) → Kept (extent lot) s t → Sure (extent lot) (ReadsAs lot view) s → Sure (extent lot) (ReadsAs lot view) t
+pub reads_kept : (lot : LotView) (view : List ℕ) (s t : DiskState) → Kept (extent lot) s t → Sure (extent lot) (ReadsAs lot view) s
+    → Sure (extent lot) (ReadsAs lot view) t
 reads_kept lot view s t kept sure = sure_kept (extent lot) (ReadsAs lot view) s t (reads_rests lot view) kept sure
 
-journal_kept : (lot : LotView) (P : Image → Type 0) (s t : DiskState) → Kept (extent lot) s t → Every (JournalExtent (lot_places lot) 240) s P → Every (JournalExtent (lot_places lot) 240) t P
+journal_kept : (lot : LotView) (P : Image → Type 0) (s t : DiskState) → Kept (extent lot) s t → Every (JournalExtent (lot_places lot) 240) s P
+    → Every (JournalExtent (lot_places lot) 240) t P
 journal_kept lot P s t kept every = every_kept (JournalExtent (lot_places lot) 240) P s t (kept_fewer (extent lot) (JournalExtent (lot_places lot) 240) s t (lot_extent lot) kept) every
 
 pub either_kept : (lot : LotView) (entries : List Entry) (map : ℕ → List ℕ) (s t : DiskState) → Kept (extent lot) s t

@@ -20,7 +20,8 @@ pub journal_settled : (lot : LotView) (s : DiskState) → Settled (extent lot) s
 journal_settled lot s all = record { told = all.told; settled = λ k here. all.settled k (lot_extent lot k here) }
 
 -- a map that an image stands for is that of its effective blocks
-stands-blocks : (lot : LotView) (map : ℕ → List ℕ) (i : Image) → inside lot map ≡ map → StandsFor (slot_targets lot) (lot_places lot) map i → effective_of lot i ≡ Some map
+stands-blocks : (lot : LotView) (map : ℕ → List ℕ) (i : Image) → inside lot map ≡ map → StandsFor (slot_targets lot) (lot_places lot) map i
+    → effective_of lot i ≡ Some map
 stands-blocks lot map i is stands = lot_effective lot map i stands ∙ ap (λ (m : ℕ → List ℕ). Some m) is
 
 module _ {D : Type 0} (state : D → DiskState) (left : D → ℕ → Image → List ℕ → Type 0) (lot : LotView) (ts : List ℕ) (some : are_some ts ≡ true) (a b : D) (sure : Sure (extent lot) (ReadsAs lot ts) (state a)) where

@@ -29,37 +29,69 @@ returns-then-len-eq0-clause-idle g c = λ map sure.
     nothing_idle g.D.Disk.state g.D.Disk.left c.args.lot.now c.args.self.now.entries map c.args.disk.now none sure
 
 pub returns-in-Ok-clause-crash : goal.returns-in-Ok-clause-crash
-returns-in-Ok-clause-crash g c = λ map sure. held_crash g.D.Disk.state g.D.Disk.left c.args.lot.now c.self.inside.set c.args.self.now c.self.view_is c.requires.homes map c.args.disk.now c.commit.new.disk sure (c.commit.ensures.crash map (sure_idle c.args.lot.now map (g.D.Disk.state c.args.disk.now) sure))
+returns-in-Ok-clause-crash g c = λ map sure.
+    let idle = sure_idle c.args.lot.now map (g.D.Disk.state c.args.disk.now) sure in
+    held_crash g.D.Disk.state g.D.Disk.left c.args.lot.now c.self.inside.set c.args.self.now c.self.view_is
+    c.requires.homes map c.args.disk.now c.commit.new.disk sure (c.commit.ensures.crash map idle)
 
 pub returns-in-Ok-clause-either : goal.returns-in-Ok-clause-either
-returns-in-Ok-clause-either g c = λ map sure. held_either g.D.Disk.state g.D.Disk.left c.args.lot.now c.self.inside.set c.args.self.now c.self.view_is c.requires.homes map c.args.disk.now c.commit.new.disk sure (c.commit.ensures.either map (sure_idle c.args.lot.now map (g.D.Disk.state c.args.disk.now) sure))
+returns-in-Ok-clause-either g c = λ map sure.
+    let idle = sure_idle c.args.lot.now map (g.D.Disk.state c.args.disk.now) sure in
+    held_either g.D.Disk.state g.D.Disk.left c.args.lot.now c.self.inside.set c.args.self.now c.self.view_is
+    c.requires.homes map c.args.disk.now c.commit.new.disk sure (c.commit.ensures.either map idle)
 
 pub returns-in-Ok-clause-stands : goal.returns-in-Ok-clause-stands
-returns-in-Ok-clause-stands g c = λ map sure. held_stands g.D.Disk.state g.D.Disk.left c.args.lot.now c.self.inside.set c.args.self.now c.self.view_is c.requires.homes map c.args.disk.now c.commit.new.disk (c.commit.ensures.crash map sure)
+returns-in-Ok-clause-stands g c = λ map sure.
+    held_stands g.D.Disk.state g.D.Disk.left c.args.lot.now c.self.inside.set c.args.self.now c.self.view_is
+    c.requires.homes map c.args.disk.now c.commit.new.disk (c.commit.ensures.crash map sure)
 
 pub returns-in-Ok-clause-done : goal.returns-in-Ok-clause-done
-returns-in-Ok-clause-done g c = λ map sure. held_done g.D.Disk.state g.D.Disk.left c.args.lot.now c.self.inside.set c.args.self.now c.self.view_is c.requires.homes map c.args.disk.now c.commit.new.disk sure (c.in-Ok.ensures.done map (sure_idle c.args.lot.now map (g.D.Disk.state c.args.disk.now) sure))
+returns-in-Ok-clause-done g c = λ map sure.
+    let idle = sure_idle c.args.lot.now map (g.D.Disk.state c.args.disk.now) sure in
+    held_done g.D.Disk.state g.D.Disk.left c.args.lot.now c.self.inside.set c.args.self.now c.self.view_is
+    c.requires.homes map c.args.disk.now c.commit.new.disk sure (c.in-Ok.ensures.done map idle)
 
 pub returns-in-Ok-clause-idle : goal.returns-in-Ok-clause-idle
-returns-in-Ok-clause-idle g c = λ map sure. held_idle g.D.Disk.state g.D.Disk.left c.args.lot.now c.self.inside.set c.args.self.now c.self.view_is c.requires.homes map c.args.disk.now c.commit.new.disk (c.in-Ok.ensures.done map sure)
+returns-in-Ok-clause-idle g c = λ map sure.
+    held_idle g.D.Disk.state g.D.Disk.left c.args.lot.now c.self.inside.set c.args.self.now c.self.view_is
+    c.requires.homes map c.args.disk.now c.commit.new.disk (c.in-Ok.ensures.done map sure)
 
 pub returns-in-Err-Before-clause-crash : goal.returns-in-Err-Before-clause-crash
-returns-in-Err-Before-clause-crash g c = λ map sure. held_crash g.D.Disk.state g.D.Disk.left c.args.lot.now c.self.inside.set c.args.self.now c.self.view_is c.requires.homes map c.args.disk.now c.commit.new.disk sure (c.commit.ensures.crash map (sure_idle c.args.lot.now map (g.D.Disk.state c.args.disk.now) sure))
+returns-in-Err-Before-clause-crash g c = λ map sure.
+    let idle = sure_idle c.args.lot.now map (g.D.Disk.state c.args.disk.now) sure in
+    held_crash g.D.Disk.state g.D.Disk.left c.args.lot.now c.self.inside.set c.args.self.now c.self.view_is
+    c.requires.homes map c.args.disk.now c.commit.new.disk sure (c.commit.ensures.crash map idle)
 
 pub returns-in-Err-Before-clause-either : goal.returns-in-Err-Before-clause-either
-returns-in-Err-Before-clause-either g c = λ map sure. held_either g.D.Disk.state g.D.Disk.left c.args.lot.now c.self.inside.set c.args.self.now c.self.view_is c.requires.homes map c.args.disk.now c.commit.new.disk sure (c.commit.ensures.either map (sure_idle c.args.lot.now map (g.D.Disk.state c.args.disk.now) sure))
+returns-in-Err-Before-clause-either g c = λ map sure.
+    let idle = sure_idle c.args.lot.now map (g.D.Disk.state c.args.disk.now) sure in
+    held_either g.D.Disk.state g.D.Disk.left c.args.lot.now c.self.inside.set c.args.self.now c.self.view_is
+    c.requires.homes map c.args.disk.now c.commit.new.disk sure (c.commit.ensures.either map idle)
 
 pub returns-in-Err-Before-clause-stands : goal.returns-in-Err-Before-clause-stands
-returns-in-Err-Before-clause-stands g c = λ map sure. held_stands g.D.Disk.state g.D.Disk.left c.args.lot.now c.self.inside.set c.args.self.now c.self.view_is c.requires.homes map c.args.disk.now c.commit.new.disk (c.commit.ensures.crash map sure)
+returns-in-Err-Before-clause-stands g c = λ map sure.
+    held_stands g.D.Disk.state g.D.Disk.left c.args.lot.now c.self.inside.set c.args.self.now c.self.view_is
+    c.requires.homes map c.args.disk.now c.commit.new.disk (c.commit.ensures.crash map sure)
 
 pub returns-in-Err-Before-clause-failed : goal.returns-in-Err-Before-clause-failed
-returns-in-Err-Before-clause-failed g c = λ map sure. inl (held_before g.D.Disk.state g.D.Disk.left c.args.lot.now c.self.inside.set c.args.self.now c.self.view_is c.requires.homes map c.args.disk.now c.commit.new.disk sure (c.in-Err-Before.ensures.before map (sure_idle c.args.lot.now map (g.D.Disk.state c.args.disk.now) sure) (cc c.in-Err-Before.field-0-is)))
+returns-in-Err-Before-clause-failed g c = λ map sure.
+    let idle = sure_idle c.args.lot.now map (g.D.Disk.state c.args.disk.now) sure in
+    inl (held_before g.D.Disk.state g.D.Disk.left c.args.lot.now c.self.inside.set c.args.self.now c.self.view_is
+    c.requires.homes map c.args.disk.now c.commit.new.disk sure (c.in-Err-Before.ensures.before map idle (cc c.in-Err-Before.field-0-is)))
 
 pub returns-in-Err-After-clause-crash : goal.returns-in-Err-After-clause-crash
-returns-in-Err-After-clause-crash g c = λ map sure. held_crash g.D.Disk.state g.D.Disk.left c.args.lot.now c.self.inside.set c.args.self.now c.self.view_is c.requires.homes map c.args.disk.now c.commit.new.disk sure (c.commit.ensures.crash map (sure_idle c.args.lot.now map (g.D.Disk.state c.args.disk.now) sure))
+returns-in-Err-After-clause-crash g c = λ map sure.
+    let idle = sure_idle c.args.lot.now map (g.D.Disk.state c.args.disk.now) sure in
+    held_crash g.D.Disk.state g.D.Disk.left c.args.lot.now c.self.inside.set c.args.self.now c.self.view_is
+    c.requires.homes map c.args.disk.now c.commit.new.disk sure (c.commit.ensures.crash map idle)
 
 pub returns-in-Err-After-clause-either : goal.returns-in-Err-After-clause-either
-returns-in-Err-After-clause-either g c = λ map sure. held_either g.D.Disk.state g.D.Disk.left c.args.lot.now c.self.inside.set c.args.self.now c.self.view_is c.requires.homes map c.args.disk.now c.commit.new.disk sure (c.commit.ensures.either map (sure_idle c.args.lot.now map (g.D.Disk.state c.args.disk.now) sure))
+returns-in-Err-After-clause-either g c = λ map sure.
+    let idle = sure_idle c.args.lot.now map (g.D.Disk.state c.args.disk.now) sure in
+    held_either g.D.Disk.state g.D.Disk.left c.args.lot.now c.self.inside.set c.args.self.now c.self.view_is
+    c.requires.homes map c.args.disk.now c.commit.new.disk sure (c.commit.ensures.either map idle)
 
 pub returns-in-Err-After-clause-stands : goal.returns-in-Err-After-clause-stands
-returns-in-Err-After-clause-stands g c = λ map sure. held_stands g.D.Disk.state g.D.Disk.left c.args.lot.now c.self.inside.set c.args.self.now c.self.view_is c.requires.homes map c.args.disk.now c.commit.new.disk (c.commit.ensures.crash map sure)
+returns-in-Err-After-clause-stands g c = λ map sure.
+    held_stands g.D.Disk.state g.D.Disk.left c.args.lot.now c.self.inside.set c.args.self.now c.self.view_is
+    c.requires.homes map c.args.disk.now c.commit.new.disk (c.commit.ensures.crash map sure)
