@@ -129,7 +129,7 @@ fn each_crash_leaves_a_change_whole_or_absent(rt: HostRuntime) -> Result<(), Fai
             left.reserve(200, 200)?;
             let found = listed(&rt, alloc, &mut left)?;
             assert!(rt;
-                found == sure || found == sure + 1,
+                found == sure || found == sure.saturating_add(1),
                 "moment {moment}, fill {fill}: {found}"
             );
             if found > sure {
@@ -179,7 +179,10 @@ fn each_failing_call_ends_as_its_place_says(rt: HostRuntime) -> Result<(), Fail>
         let sure = answered(host.output().len());
         let found = listed(&rt, alloc, &mut host)?;
         if status == Status::Disk {
-            assert!(rt; found == sure || found == sure + 1, "call {call}: {found}");
+            assert!(rt;
+                found == sure || found == sure.saturating_add(1),
+                "call {call}: {found}"
+            );
         }
     }
     Ok(())
