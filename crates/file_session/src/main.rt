@@ -2,7 +2,7 @@
 //! standard input as `icefs run` does.
 #![tactic(auto)]
 
-ghost use Rattle.std.specs.Prelude.{◌≡◌, [], false, true};
+ghost use Rattle.std.specs.Prelude.{◌≡◌, ◌≤◌, [], false, true};
 
 use disk_file::{FileHost, OpenFault};
 use ice_base::{Block, Disk, DiskFault, Status, Words};
@@ -29,14 +29,15 @@ fn block(first: &[u8; 10], at: usize, second: &[u8; 10]) -> Block
 }
 
 /// The cubes `/a` in slot 0 with group 0 and `/b` in slot 1 with group 1.
-fn put_cubes(host: &mut FileHost) -> Result<(), DiskFault>
-    requires { 19 ≤ (FileHost.state host.old).size }
-{
+fn put_cubes<D: Disk>(disk: &mut D) -> Result<(), DiskFault> {
+    if disk.blocks() < 19 {
+        return Err(DiskFault::Failed);
+    }
     let rows = block(b"\x01\x02\0\0\0\0\0\0/a", 256, b"\x01\x02\0\0\0\0\0\0/b");
     let owners = block(b"\x01\0\0\0\0\0\0\0\0\0", 4, b"\x02\0\0\0\0\0\0\0\0\0");
-    host.write(11, &rows)?;
-    host.write(15, &owners)?;
-    host.barrier()
+    disk.write(11, &rows)?;
+    disk.write(15, &owners)?;
+    disk.barrier()
 }
 
 /// Puts the cubes into the image by the bytes of their rows and groups.
