@@ -1,5 +1,5 @@
 -- What a keep that holds all changes back shows of a lot at rest, and what its commit leaves of it.
-use Rattle.std.proofs.Common.{◌≡◌, inl, inr, ℕ, zero, suc, List, [], ◌∷◌, length, true, false, cond, ◌==◌, Result, Ok, Err, OnOk, OnErr, refl, sym, ◌∙◌, ap, subst, arith}
+use Rattle.std.proofs.Common.{◌≡◌, inl, inr, ℕ, List, [], ◌∷◌, length, false, cond, ◌==◌, Result, Ok, Err, OnOk, OnErr, refl, sym, ◌∙◌, ap, subst, arith}
 use Rattle.std.proofs.Math.Path.{fun_ext}
 use Rattle.ice_base.specs.Disk.{Image, DiskState}
 use Rattle.ice_base.specs.Frames.{CrashStep, RestsOn, Sure, With}

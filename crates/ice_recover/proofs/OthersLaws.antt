@@ -1,6 +1,5 @@
 -- What holds of a lot outlasts calls that keep its blocks.
-use Rattle.std.proofs.Common.{◌≡◌, ◌∙◌, ◌⊎◌, inl, inr, ℕ, List, Some, true, ap}
-use Rattle.std.specs.Prelude.{if◌then◌else◌}
+use Rattle.std.proofs.Common.{◌≡◌, ℕ, List, Some, ap}
 use Rattle.ice_base.specs.Disk.{Image, DiskState, block}
 use Rattle.ice_base.specs.Frames.{Every, Kept, RestsOn, Sure}
 use Rattle.ice_base.specs.Lots.{LotView, extent, gate_place, header_place}

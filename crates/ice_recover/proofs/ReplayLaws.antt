@@ -1,5 +1,5 @@
 -- What a replay of a lot's journal leaves, by the lot's effective blocks.
-use Rattle.std.proofs.Common.{◌≡◌, ◌∙◌, ◌⊎◌, inl, inr, ⊎_elim, ℕ, List, Some, true, Result, Ok, Err, OnOk, OnErr, length, refl, sym, ap}
+use Rattle.std.proofs.Common.{◌≡◌, ◌∙◌, ◌⊎◌, inl, inr, ⊎_elim, ℕ, List, Some, true, Result, Ok, Err, OnOk, OnErr, sym, ap}
 use Rattle.ice_base.specs.Disk.{Image, DiskState}
 use Rattle.ice_base.specs.Frames.{CrashStep, Settled, Sure}
 use Rattle.ice_base.specs.Lots.{LotView, extent, inside}

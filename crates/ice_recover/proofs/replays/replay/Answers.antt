@@ -1,4 +1,4 @@
-use Rattle.std.proofs.Common.{◌≡◌, ◌∙◌, ◌⊎◌, ℕ, List, true, OnErr, sym, subst, ap}
+use Rattle.std.proofs.Common.{◌≡◌, ◌∙◌, ◌⊎◌, ℕ, List, true, OnErr, sym, subst}
 use Rattle.ice_base.specs.Disk.{Image}
 use Rattle.ice_layout.specs.Headers.{slot_targets}
 use Rattle.ice_tables.specs.Journals.{effective_of, lot_places}

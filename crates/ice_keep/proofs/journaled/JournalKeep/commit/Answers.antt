@@ -1,10 +1,8 @@
-use Rattle.std.proofs.Common.{◌≡◌, ◌∙◌, ◌≤◌, ℕ, List, true, length, ap, sym, subst, inl, inr, refl, arith}
+use Rattle.std.proofs.Common.{◌≡◌, ◌∙◌, length, ap, sym, inl, arith}
 use Rattle.std.proofs.lemmas.Bool.Decides.{nat_tests}
 use Rattle.ice_txn.specs.Sets.{SetView}
-use Rattle.ice_tables.specs.Journals.{lot_places}
-use Rattle.ice_journal.specs.Blocks.{AreHomes}
 use Rattle.ice_journal.proofs.AreaLaws.{lot_below}
-use Rattle.ice_keep.proofs.JournaledLaws.{sure_idle, held_crash, held_either, held_done, held_before, held_stands, held_idle, none_held, nothing_crash, nothing_stands, nothing_done, nothing_idle}
+use Rattle.ice_keep.proofs.JournaledLaws.{sure_idle, held_crash, held_either, held_done, held_before, held_stands, held_idle, none_held, nothing_crash, nothing_done, nothing_idle}
 use Rattle.ice_keep.proofs.journaled.JournalKeep.commit.Goals as goal
 
 pub commit-requires-clause-few : goal.commit-requires-clause-few
