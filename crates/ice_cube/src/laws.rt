@@ -1,0 +1,17 @@
+//! The laws of mounted cubes, each the contract of a function that does nothing.
+ghost use Rattle.std.specs.Prelude.{◌≡◌, ◌+◌, ℕ};
+ghost use Rattle.ice_base.specs.Disk.{Image, DiskState};
+ghost use Rattle.ice_base.specs.Frames.{Kept, RestsOn};
+ghost use Rattle.ice_base.specs.Lots.{LotView, extent};
+ghost use Rattle.tree_spec.specs.Costs.{Form};
+ghost use Rattle.tree_spec.specs.Records.{History, Mode, cut_to, floor, fresh, tree_at};
+ghost use Rattle.ice_cube.specs.Cubes.{CubeView, HasHistory, Holds};
+
+/// What a cube holds outlasts calls that keep its lot's blocks, barriers among them, and what its lot has rests on these blocks.
+#[tactic(auto, using(crate::proofs::CubeLaws::holds_kept, crate::proofs::CubeLaws::history_rests))]
+pub fn cubes_outlast_others()
+    ensures holds { (f : Form) (mode : Mode) (h : History) (c : CubeView) (s t : DiskState)
+        → Kept (extent c.lot) s t → Holds f mode h c s → Holds f mode h c t }
+    ensures rests { (lot : LotView) (f : Form) (mode : Mode) (h : History)
+        → RestsOn (extent lot) (HasHistory lot f mode h) }
+{}
