@@ -1,6 +1,7 @@
 -- What a mounted cube holds: what a commit makes of it, and what it outlasts.
 use Rattle.std.proofs.Common.{◌≡◌, ◌∙◌, ◌⊎◌, inl, inr, ◌≤◌, ◌+◌, ◌++◌, ℕ, ◌∷◌, Bool, true, false, List, [], length, take, Some, Result, Ok, Err, OnOk, OnErr, length-append, refl, sym, ap, subst, arith}
 use Rattle.std.proofs.Math.Path.{fun_ext}
+use Rattle.std.proofs.lemmas.List.{length-take-le}
 use Rattle.std.proofs.Math.Seq.{take-length}
 use Rattle.ice_base.specs.Disk.{Image, DiskState, block, Nowhere}
 use Rattle.ice_base.specs.Frames.{CrashStep, Every, Kept, RestsOn, Settled, Sure, Within}
@@ -10,7 +11,7 @@ use Rattle.ice_base.proofs.Kept.{every_kept, kept_fewer, sure_kept}
 use Rattle.tree_spec.specs.Costs.{Form, form_of}
 use Rattle.tree_spec.specs.Operations.{Operation}
 use Rattle.tree_spec.specs.Answers.{next_tree, tree_after}
-use Rattle.tree_spec.specs.Records.{History, Mode, done, floor, settled, tree_at, tree_now}
+use Rattle.tree_spec.specs.Records.{History, Mode, cut_to, done, floor, fresh, settled, tree_at, tree_now}
 use Rattle.tree_spec.specs.Trees.{Tree}
 use Rattle.ice_tables.specs.Journals.{effective_of, lot_places}
 use Rattle.ice_tables.proofs.JournalLaws.{lot_blocks_rest}
@@ -88,6 +89,41 @@ rest_holds lot f mode b from sure n map s form number rest is =
         count = omega (arith, number);
       };
     }
+
+-- A cube that was mounted with the tree of one of a history's counts holds the history that is cut to that count.
+pub holds_cut : (f : Form) (mode : Mode) (h : History) (j : ℕ) (c : CubeView) (s : DiskState) → j ≤ length h.since
+    → Holds f mode (fresh (tree_at h j) (floor h + j)) c s → Holds f mode (cut_to h j) c s
+holds_cut f mode h j c s few holds =
+    let tree : tree_after (h.sure ++ take j h.since) h.base ≡ tree_at h j = after_append h.sure (take j h.since) h.base in
+    let number : floor (cut_to h j) ≡ floor h + j = omega (arith, length-append h.sure (take j h.since), length-take-le j h.since few) in
+    record {
+      lasts = λ i agrees.
+          let has = holds.lasts i agrees in
+          let v = has.2 in
+          let none : has.0 ≡ 0 = omega (arith, has.1) in
+          (0, omega arith, record { form = v.form; blocks = v.blocks; effective = v.effective; recovers = moved v.blocks tree number has.0 none v.recovers });
+      runs = λ live.
+          let r = holds.runs live in
+          let none : r.back ≡ 0 = omega (arith, r.few) in
+          record {
+            form = r.form;
+            map = r.map;
+            rest = r.rest;
+            back = 0;
+            few = omega arith;
+            base = moved r.map tree number r.back none r.base;
+            running = moved (over c.set r.map) tree number 0 refl r.running;
+            count = omega (arith, r.count, number);
+          };
+    }
+  where
+    moved : (m : ℕ → List ℕ) → tree_after (h.sure ++ take j h.since) h.base ≡ tree_at h j → floor (cut_to h j) ≡ floor h + j → (n : ℕ) → n ≡ 0
+        → MapRecovers f (mode_byte mode) c.lot m (tree_at (fresh (tree_at h j) (floor h + j)) n) (floor (fresh (tree_at h j) (floor h + j)) + n)
+        → MapRecovers f (mode_byte mode) c.lot m (tree_after (h.sure ++ take j h.since) h.base) (floor (cut_to h j) + 0)
+    moved m tree number n none r =
+        let first = subst (λ (x : ℕ). MapRecovers f (mode_byte mode) c.lot m (tree_at (fresh (tree_at h j) (floor h + j)) x) (floor (fresh (tree_at h j) (floor h + j)) + x)) none r in
+        subst (λ (t : Tree). MapRecovers f (mode_byte mode) c.lot m t (floor (cut_to h j) + 0)) (sym tree)
+        (subst (λ (x : ℕ). MapRecovers f (mode_byte mode) c.lot m (tree_at h j) x) (omega (arith, number)) first)
 
 -- ---- commits
 

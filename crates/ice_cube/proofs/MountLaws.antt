@@ -147,15 +147,15 @@ one_count lot i f g m n t u k j a b =
 -- an Ok of the check shows a tree
 pub some_recovers : (lot : LotView) (i : Image) (s : Summary) → ((m : ℕ → List ℕ) → effective_of lot i ≡ Some m → Sums lot m s) → (effective_of lot i ≡ None → ⊥)
     → RecoversSome lot i s.done
-some_recovers lot i s yes no = go (effective_of lot i) refl
+some_recovers lot i s reads never = go (effective_of lot i) refl
   where
     go : (o : Option (ℕ → List ℕ)) → effective_of lot i ≡ o → RecoversSome lot i s.done
-    go (Some m) e = sums_recover lot i m s e (yes m e)
-    go None e = absurd (no e)
+    go (Some m) e = sums_recover lot i m s e (reads m e)
+    go None e = absurd (never e)
 
 -- a lot without effective blocks recovers nothing
 pub none_damage : (lot : LotView) (i : Image) → effective_of lot i ≡ None → RecoversNothing lot i × LotMayName lot (effective_of lot i) rule.Header
-none_damage lot i e = (λ f mode t k r. absurd (let no : None ≡ Some r.blocks = sym e ∙ r.effective in cc no), rw e refl)
+none_damage lot i e = (λ f mode t k r. absurd (let nothing : None ≡ Some r.blocks = sym e ∙ r.effective in cc nothing), rw e refl)
 
 -- damage that a check names is there
 pub check_damage : (lot : LotView) (i : Image) (x : CheckFault) (r : Rule) → x ≡ check.Damaged r

@@ -8,4 +8,4 @@ mod mount;
 
 pub use cube::Cube;
 pub use fault::CubeFault;
-pub use laws::cubes_outlast_others;
+pub use laws::{cubes_outlast_others, mounted_cube_holds_cut};
