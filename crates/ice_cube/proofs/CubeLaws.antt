@@ -1,10 +1,10 @@
 -- What a mounted cube holds: what a commit makes of it, and what it outlasts.
-use Rattle.std.proofs.Common.{◌≡◌, ◌∙◌, ◌⊎◌, inl, inr, ◌≤◌, ◌+◌, ◌++◌, ℕ, ◌∷◌, Bool, true, false, List, [], length, take, Some, Result, Ok, Err, OnOk, OnErr, length-append, refl, sym, ap, subst, arith}
+use Rattle.std.proofs.Common.{◌≡◌, ◌∙◌, inl, inr, ◌≤◌, ◌+◌, ◌++◌, ℕ, ◌∷◌, false, List, [], length, take, length-append, refl, sym, subst, arith}
 use Rattle.std.proofs.Math.Path.{fun_ext}
 use Rattle.std.proofs.lemmas.List.{length-take-le}
 use Rattle.std.proofs.Math.Seq.{take-length}
-use Rattle.ice_base.specs.Disk.{Image, DiskState, block, Nowhere}
-use Rattle.ice_base.specs.Frames.{CrashStep, Every, Kept, RestsOn, Settled, Sure, Within}
+use Rattle.ice_base.specs.Disk.{Image, DiskState}
+use Rattle.ice_base.specs.Frames.{CrashStep, Every, Kept, RestsOn, Sure}
 use Rattle.ice_base.specs.Lots.{LotView, extent}
 use Rattle.ice_base.proofs.Frame.{agrees_fewer, leaves_refl, step_more}
 use Rattle.ice_base.proofs.Kept.{every_kept, kept_fewer, sure_kept}
@@ -131,12 +131,16 @@ holds_cut f mode h j c s few holds =
 pub either_history : (f : Form) (mode : Mode) (h : History) (c : CubeView) (s : DiskState) (r : Runs f mode h c s) (i : Image)
     → BlocksEither c.lot c.set r.map i → HasHistory c.lot f mode h i
 either_history f mode h c s r i (inl e) = (r.back, r.few, record { form = r.form; blocks = r.map; effective = e; recovers = r.base })
-either_history f mode h c s r i (inr e) = (length h.since, omega arith, record {
-  form = r.form;
-  blocks = over c.set r.map;
-  effective = e;
-  recovers = subst (λ (ops : List Operation). MapRecovers f (mode_byte mode) c.lot (over c.set r.map) (tree_after ops (tree_after h.sure h.base)) (done h)) (sym (take-length h.since)) r.running;
-})
+either_history f mode h c s r i (inr e) = (
+  length h.since,
+  omega arith,
+  record {
+    form = r.form;
+    blocks = over c.set r.map;
+    effective = e;
+    recovers = subst (λ (ops : List Operation). MapRecovers f (mode_byte mode) c.lot (over c.set r.map) (tree_after ops (tree_after h.sure h.base)) (done h)) (sym (take-length h.since)) r.running;
+  },
+)
 
 module _ {D : Type 0} (state : D → DiskState) (left : D → ℕ → Image → List ℕ → Type 0) where
   pub step_wider : (E F : ℕ → Type 0) (P : Image → Type 0) (a b : D) → ((k : ℕ) → E k → F k) → CrashStep state left E P a b → CrashStep state left F P a b

@@ -1,5 +1,5 @@
 -- What a mount finds, and what it leaves.
-use Rattle.std.proofs.Common.{◌≡◌, ◌∙◌, ◌⊎◌, inl, inr, ◌<◌, ◌==◌, nat_lt, ℕ, Bool, true, false, List, [], length, slice_index, Option, Some, None, Result, Ok, Err, OnOk, IfErr, refl, sym, ap, subst, arith}
+use Rattle.std.proofs.Common.{◌≡◌, ◌∙◌, inl, inr, ◌==◌, nat_lt, ℕ, Bool, true, false, List, length, slice_index, Option, Some, None, refl, sym, ap, subst, arith}
 use Rattle.std.specs.Prelude.{if◌then◌else◌, not, nat_eq, unwrap_or, ◌^◌}
 use Rattle.std.proofs.lemmas.Bool.{cases_Bool}
 use Rattle.std.proofs.lemmas.Bool.Decides.{nat_tests}
@@ -8,8 +8,7 @@ use Rattle.ice_base.specs.Fields.{long_at, word_at}
 use Rattle.ice_base.specs.Frames.{CrashStep, Every, Settled, Sure, Within}
 use Rattle.ice_base.specs.Lots.{LotView, extent, gate_place, header_place, sub_address}
 use Rattle.ice_base.proofs.Frame.{every_apart, step_apart, step_more, step_then}
-use Rattle.ice_base.specs.FrameLaws.{within_more, within_then}
-use Rattle.ice_base.proofs.LotLaws.{gate_in, header_in}
+use Rattle.ice_base.specs.FrameLaws.{within_then}
 use Rattle.ice_base.specs.declared.fault.Rule.{Rule}
 use Rattle.ice_base.specs.declared.fault.Rule.TheVariants as rule
 use Rattle.tree_spec.specs.Costs.{Form, form_of}
@@ -38,7 +37,7 @@ use Rattle.ice_journal.proofs.StepLaws.{every_now}
 use Rattle.ice_rules.specs.Rules.{LotMayName}
 use Rattle.tree_spec.specs.Records.{History}
 use Rattle.ice_cube.specs.Cubes.{HasHistory}
-use Rattle.ice_cube.specs.Mounting.{KeepsBlocks, RecoversSome, TellsDamage, Unwritten, UnwrittenIfDamaged}
+use Rattle.ice_cube.specs.Mounting.{KeepsBlocks, RecoversSome, TellsDamage, UnwrittenIfDamaged}
 use Rattle.ice_cube.specs.declared.fault.CubeFault.{CubeFault}
 use Rattle.ice_cube.specs.declared.fault.CubeFault.TheVariants as cube
 use Rattle.ice_cube.proofs.CubeLaws.{same_history, same_recovers, step_wider}
@@ -122,7 +121,7 @@ plain_mode slot bytes sound =
     grind (arith, nat_tests)
 
 form_again : (n : ℕ) → form_of n ≡ form_of (form_of n).version
-form_again n = elim (cases_Bool (nat_eq n 2)) [ | inl is ↦ rw is refl | inr isnt ↦ rw isnt refl ]
+form_again n = elim (cases_Bool (nat_eq n 2)) [ inl is ↦ rw is refl | inr isnt ↦ rw isnt refl ]
 
 -- the blocks of which a summary was made are those of the lot
 pub sums_recover : (lot : LotView) (i : Image) (m : ℕ → List ℕ) (s : Summary) → effective_of lot i ≡ Some m → Sums lot m s → RecoversSome lot i s.done

@@ -1,6 +1,5 @@
-use Rattle.std.proofs.Common.{rules, ◌≡◌, ◌∙◌, ℕ, List, true, false, Some, sym, ap, subst, arith}
+use Rattle.std.proofs.Common.{rules, ◌≡◌, ◌∙◌, false, sym}
 use Rattle.ice_base.specs.Disk.{Nowhere, block}
-use Rattle.ice_base.specs.Frames.{Settled, Sure, Within}
 use Rattle.ice_base.specs.FrameLaws.{within_more, within_then}
 use Rattle.ice_base.specs.Lots.{extent, gate_place}
 use Rattle.ice_layout.specs.Headers.{is_open}

@@ -1,5 +1,4 @@
-use Rattle.std.proofs.Common.{rules, ◌≡◌, ◌∙◌, ℕ, List, true, false, None, sym}
-use Rattle.ice_base.specs.Frames.{Settled}
+use Rattle.std.proofs.Common.{rules, ◌≡◌, ◌∙◌, true, false, None, sym}
 use Rattle.ice_tables.specs.Journals.{effective_of}
 use Rattle.ice_cube.proofs.MountLaws.{check_damage, look_same, look_settled, look_step, look_then, none_damage, some_recovers}
 use Rattle.ice_cube.proofs.mount.take_up.Goals as goal

@@ -1,8 +1,7 @@
-use Rattle.std.proofs.Common.{◌≡◌, ◌∙◌, ◌+◌, ℕ, List, [], true, false, length, sym, ap, subst, arith}
+use Rattle.std.proofs.Common.{◌≡◌, ◌∙◌, ℕ, [], false, sym, ap, subst, arith}
 use Rattle.ice_base.specs.Frames.{Settled}
 use Rattle.ice_base.specs.Lots.{LotView, extent}
 use Rattle.tree_spec.specs.Records.{fresh}
-use Rattle.tree_spec.specs.Trees.{Tree}
 use Rattle.ice_reads.specs.Recovers.{MapRecovers}
 use Rattle.ice_images.specs.Recovering.{mode_byte, Recovers}
 use Rattle.ice_cube.specs.Cubes.{CubeView, Holds}

@@ -1,4 +1,4 @@
-use Rattle.std.proofs.Common.{◌≡◌, ◌∙◌, ℕ, List, [], Bool, true, false, sym, subst, ap, refl, arith}
+use Rattle.std.proofs.Common.{◌≡◌, ◌∙◌, List, Bool, false, sym, subst, ap, arith}
 use Rattle.ice_base.specs.Frames.{CrashStep, Within}
 use Rattle.ice_base.specs.FrameLaws.{within_more}
 use Rattle.ice_base.specs.Lots.{extent}
