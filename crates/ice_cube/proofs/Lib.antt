@@ -1,0 +1,2 @@
+pub mod CubeLaws
+mod MountLaws
