@@ -1,0 +1,2 @@
+mod FreshLoops
+mod FreshLaws
