@@ -27,7 +27,8 @@ sub_no_head lot from l is =
     let o = is.0 in
     let p = is.3.0 in
     let less = head_below o p (length lot.groups) is.2 is.3.1 in
-    let e : sub_address ≡ 256 * o + p = place-apart lot sub_address (256 * o + p) l (is_address_sub lot) (head_address lot o p is.2 is.3.1) (sub_place lot ∙ is.3.2) in
+    let e : sub_address ≡ 256 * o + p =
+    place-apart lot sub_address (256 * o + p) l (is_address_sub lot) (head_address lot o p is.2 is.3.1) (sub_place lot ∙ is.3.2) in
     let few = l.few in
     omega (arith, e, less, few)
 
@@ -64,10 +65,12 @@ module _ {D : Type 0} (state : D → DiskState) (left : D → ℕ → Image → 
   sub_within a b w = within_more state left (λ k. k ≡ area lot) (extent lot) a b
       (λ k e. subst (extent lot) (sym e) (area_in lot (area lot) (omega arith) (omega arith))) w
 
-  pub gate_within : (at : ℕ) (a b c : D) → at ≡ gate_place lot → Within state left (extent lot) a b → Within state left (λ k. k ≡ at) b c → Within state left (extent lot) a c
+  pub gate_within : (at : ℕ) (a b c : D) → at ≡ gate_place lot → Within state left (extent lot) a b → Within state left (λ k. k ≡ at) b c
+      → Within state left (extent lot) a c
   gate_within at a b c is w v = within_next state left w v (λ k e. subst (extent lot) (sym (e ∙ is)) (gate_in lot))
 
-  pub heads_within : (from : ℕ) (a b c : D) → Within state left (extent lot) a b → Within state left (IsHeadFrom lot from) b c → Within state left (extent lot) a c
+  pub heads_within : (from : ℕ) (a b c : D) → Within state left (extent lot) a b → Within state left (IsHeadFrom lot from) b c
+      → Within state left (extent lot) a c
   heads_within from a b c w v = within_next state left w v (head_in lot from)
 
   -- the sub-super block, the gate and the groups, one after another
@@ -83,7 +86,8 @@ module _ {D : Type 0} (state : D → DiskState) (left : D → ℕ → Image → 
       (is_fresh lot (state d).now some (subst (λ (bytes : List ℕ). IsSub lot.slot (fresh_sub lot.slot) bytes) (sym same) sub) groups)
 
 -- what the sub-super block says once it is written
-pub sub_wrote : {T X : Type 0} (lot : LotView) (slot home : ℕ) (bytes : List ℕ) (image : Image) (r : Result T X) → slot ≡ lot.slot → home ≡ place lot sub_address
+pub sub_wrote : {T X : Type 0} (lot : LotView) (slot home : ℕ) (bytes : List ℕ) (image : Image) (r : Result T X)
+    → slot ≡ lot.slot → home ≡ place lot sub_address
     → IsSub slot (fresh_sub slot) bytes → OnOk r (block image home ≡ bytes) → OnOk r (IsSub lot.slot (fresh_sub lot.slot) (block image (area lot)))
 sub_wrote lot slot home bytes image (Ok x) same is sub e =
     let here : block image (area lot) ≡ bytes = ap (block image) (sym (is ∙ sub_place lot)) ∙ e in

@@ -1,2 +1,3 @@
 mod FreshLoops
 mod FreshLaws
+pub mod FreshLots

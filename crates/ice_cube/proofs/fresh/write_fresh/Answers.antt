@@ -13,14 +13,16 @@ pub returns-in_err-set_gate-clause-within : goal.returns-in_err-set_gate-clause-
 returns-in_err-set_gate-clause-within g c =
     gate_within g.D.Disk.state g.D.Disk.left c.args.lot.now c.area_of.result.gate c.args.disk.now c.write_fresh_sub.new.disk c.set_gate.new.disk
     (ap (λ (x : Area). x.gate) c.area_of.ensures.area)
-    (sub_within g.D.Disk.state g.D.Disk.left c.args.lot.now c.args.disk.now c.write_fresh_sub.new.disk c.write_fresh_sub.ensures.within) c.set_gate.ensures.within
+    (sub_within g.D.Disk.state g.D.Disk.left c.args.lot.now c.args.disk.now c.write_fresh_sub.new.disk c.write_fresh_sub.ensures.within)
+    c.set_gate.ensures.within
 
 pub returns-clause-within : goal.returns-clause-within
 returns-clause-within g c =
     heads_within g.D.Disk.state g.D.Disk.left c.args.lot.now 0 c.args.disk.now c.set_gate.new.disk c.init_groups.new.disk
     (gate_within g.D.Disk.state g.D.Disk.left c.args.lot.now c.area_of.result.gate c.args.disk.now c.write_fresh_sub.new.disk c.set_gate.new.disk
     (ap (λ (x : Area). x.gate) c.area_of.ensures.area)
-    (sub_within g.D.Disk.state g.D.Disk.left c.args.lot.now c.args.disk.now c.write_fresh_sub.new.disk c.write_fresh_sub.ensures.within) c.set_gate.ensures.within)
+    (sub_within g.D.Disk.state g.D.Disk.left c.args.lot.now c.args.disk.now c.write_fresh_sub.new.disk c.write_fresh_sub.ensures.within)
+    c.set_gate.ensures.within)
     c.init_groups.ensures.within
 
 pub returns-clause-fresh : goal.returns-clause-fresh
