@@ -1,2 +1,5 @@
 pub mod CubeLaws
 mod MountLaws
+mod FreshLoops
+mod FreshLaws
+pub mod FreshLots

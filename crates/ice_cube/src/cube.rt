@@ -11,7 +11,6 @@ ghost use Rattle.ice_cube.specs.Cubes.{CubeView, HasHistory, Holds};
 
 use ice_base::{Disk, DiskFault, Lot};
 use ice_keep::JournalKeep;
-use ice_pool::BitPool;
 use std::marker::Model;
 use tree_spec::Refusal;
 
@@ -20,7 +19,6 @@ use tree_spec::Refusal;
 pub struct Cube {
     lot: Lot,
     keep: JournalKeep,
-    pool: BitPool,
     done: u64,
     stopped: bool,
 }
@@ -47,7 +45,6 @@ impl Cube {
         Cube {
             lot,
             keep,
-            pool: BitPool::new(),
             done,
             stopped: false,
         }

@@ -1,11 +1,14 @@
-//! One mounted cube: mounts, commands and commits that outlast crashes.
+//! One mounted cube: mounts, and commits that outlast crashes; the blocks of a new one.
 #![tactic(auto)]
 
 mod cube;
 mod fault;
+mod fresh;
 mod laws;
+mod make;
 mod mount;
 
 pub use cube::Cube;
-pub use fault::CubeFault;
+pub use fault::{CubeFault, MakeFault};
+pub use fresh::init_groups;
 pub use laws::{cubes_outlast_others, mounted_cube_holds_cut};
