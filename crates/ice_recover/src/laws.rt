@@ -1,11 +1,13 @@
 //! The laws of lots at rest and of lots whose journal is open, each the contract of a function that does nothing.
-ghost use Rattle.std.specs.Prelude.{◌≡◌, ◌⊎◌, ℕ, List, Some, true};
+ghost use Rattle.std.specs.Prelude.{◌≡◌, ◌⊎◌, ℕ, List, Option, Some, true};
 ghost use Rattle.ice_base.specs.Disk.{Image, DiskState};
-ghost use Rattle.ice_base.specs.Frames.{Every, Kept, Sure};
+ghost use Rattle.ice_base.specs.Frames.{Every, Kept, RestsOn, Sure};
 ghost use Rattle.ice_base.specs.Lots.{LotView, extent};
-ghost use Rattle.ice_tables.specs.Journals.{effective_of, lot_places};
+ghost use Rattle.ice_tables.specs.Journals.{Places, effective_of, lot_places};
 ghost use Rattle.ice_txn.specs.declared.set.Entry.{Entry};
 ghost use Rattle.ice_journal.specs.Blocks.{JournalExtent};
+ghost use Rattle.ice_txn.specs.Sets.{over};
+ghost use Rattle.ice_journal.specs.Phases.{BeforeOrAfter, Full, Idle, Open, RestsFull, RestsIdle, RestsOpen, StandsFor};
 ghost use Rattle.ice_journal.specs.Rests.{BlocksEither, LotAtRest, RestsLot};
 ghost use Rattle.ice_journal.specs.Shown.{are_some};
 ghost use Rattle.ice_recover.specs.Reads.{ReadsAs};
@@ -31,4 +33,24 @@ pub fn lots_outlast_others()
     ensures blocks { (lot : LotView) (map : ℕ → List ℕ) (s t : DiskState) → Kept (extent lot) s t
         → Every (JournalExtent (lot_places lot) 240) s (λ i. effective_of lot i ≡ Some map)
         → Every (JournalExtent (lot_places lot) 240) t (λ i. effective_of lot i ≡ Some map) }
+{}
+
+/// The phases of a commit: what holds in each looks at just these blocks, and what a crash leaves then stands for the map, for either, or
+/// for the map with the entries in place.
+pub fn phases_stand_for_maps()
+    // While nothing, or bodies and header, are written; while the gate is opened or closed; while the homes are written.
+    ensures idle { (at : Places) (map : ℕ → List ℕ) → RestsOn (RestsIdle at) (Idle at map) }
+    ensures full { (reads : List ℕ → Option (List ℕ)) (at : Places) (entries : List Entry) (map : ℕ → List ℕ)
+        → RestsOn (RestsFull at entries) (Full reads at entries map) }
+    ensures open_gate { (reads : List ℕ → Option (List ℕ)) (at : Places) (entries : List Entry) (map : ℕ → List ℕ)
+        → RestsOn (RestsOpen at entries) (Open reads at entries map) }
+    // What the image stands for in them: before, either, after, after.
+    ensures body { (reads : List ℕ → Option (List ℕ)) (at : Places) (map : ℕ → List ℕ) (i : Image)
+        → Idle at map i → StandsFor reads at map i }
+    ensures gate { (reads : List ℕ → Option (List ℕ)) (at : Places) (entries : List Entry) (map : ℕ → List ℕ) (i : Image)
+        → Full reads at entries map i → BeforeOrAfter reads at entries map i }
+    ensures homes { (reads : List ℕ → Option (List ℕ)) (at : Places) (entries : List Entry) (map : ℕ → List ℕ) (i : Image)
+        → Open reads at entries map i → StandsFor reads at (over entries map) i }
+    ensures close { (reads : List ℕ → Option (List ℕ)) (at : Places) (entries : List Entry) (map : ℕ → List ℕ) (i : Image)
+        → Full reads at entries (over entries map) i → StandsFor reads at (over entries map) i }
 {}

@@ -4,5 +4,5 @@
 mod laws;
 mod replays;
 
-pub use laws::{a_stopped_replay_is_begun_again, lots_outlast_others};
+pub use laws::{a_stopped_replay_is_begun_again, lots_outlast_others, phases_stand_for_maps};
 pub use replays::replay;
