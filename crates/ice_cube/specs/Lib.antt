@@ -1,3 +1,5 @@
 pub mod Cubes
+pub mod Commands
+pub mod Wider
 pub mod Mounting
 pub mod Fresh

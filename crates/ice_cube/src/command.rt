@@ -1,0 +1,69 @@
+//! The commands of a mounted cube's tree.
+ghost use Rattle.std.specs.Prelude.{◌≡◌, ◌≤◌, ◌×◌, ℕ, List, Some, [], true, false, length, IfErr, IsErrOf};
+ghost use Rattle.ice_base.specs.Disk.{Caused};
+ghost use Rattle.ice_base.specs.Frames.{CrashStep, Sure, Within};
+ghost use Rattle.ice_base.specs.Lots.{extent, is_sited};
+ghost use Rattle.ice_base.specs.Still.{Still};
+ghost use Rattle.ice_base.specs.declared.fault.Rule.{Rule};
+ghost use Rattle.tree_spec.specs.Costs.{Form, form_one};
+ghost use Rattle.tree_spec.specs.Lines.{asked};
+ghost use Rattle.tree_spec.specs.Operations.{Operation, operation, is_change};
+ghost use Rattle.tree_spec.specs.Own.{OnTree};
+ghost use Rattle.tree_spec.specs.Records.{Cube as Record, History, Mode};
+ghost use Rattle.tree_spec.specs.Replies.{Tallies, meant};
+ghost use Rattle.tree_spec.specs.declared.reply.Refusal.TheVariants.{Damaged, Fault, Stopped};
+ghost use Rattle.ice_journal.specs.Rests.{LotAtRest, RestsLot};
+ghost use Rattle.ice_look.specs.Broken.{IsBroken};
+ghost use Rattle.ice_rules.specs.Rules.{rule_number};
+ghost use Rattle.ice_txn.specs.Sets.{over};
+ghost use Rattle.ice_cube.specs.Commands.{AnswersOwn, HoldsRecord, IsCommand, IsTreeRefusal};
+ghost use Rattle.ice_cube.specs.Cubes.{HasHistory, Holds};
+
+use crate::cube::Cube;
+use ice_base::Disk;
+use tree_spec::{Command, Reply, Room};
+
+impl Cube {
+    /// Answers a command of its tree; `depth` is the number of names of the cube's path. What an accepted one changes is held back.
+    /// A changing command commits first where more than 144 blocks are held back, after the refusals that its paths alone show.
+    /// Stopped: it was stopped. A fault or damage found in a changing command stops it, and damage found in another one as well.
+    pub fn command<D: Disk>(
+        &mut self,
+        disk: &mut D,
+        command: &Command<'_>,
+        depth: usize,
+        room: &mut Room,
+    ) -> Reply
+        // The lot lies on the disk and has a group, the command is one of a tree, and the room is empty.
+        requires sited { is_sited self.old.lot (D.state disk.old).size ≡ true }
+        requires some { 1 ≤ length self.old.lot.groups }
+        requires tree { IsCommand depth (asked command.now) }
+        requires bytes { room.old.bytes ≡ [] }
+        requires entries { room.old.entries ≡ [] }
+        requires rows { room.old.rows ≡ [] }
+        ensures lot { self.new.lot ≡ self.old.lot }
+        // It refuses with Stopped exactly where it was stopped, and nothing happens then, and else as a tree.
+        ensures stopped { self.old.stopped ≡ true → IsErrOf result Stopped }
+        ensures untouched { self.old.stopped ≡ true → (self.new ≡ self.old) × (disk.new ≡ disk.old) }
+        ensures set { self.old.stopped ≡ false → IfErr result IsTreeRefusal }
+        ensures failed { Caused D.state Fault result disk.old disk.new }
+        // Damage that it names is there, where the lot is at rest.
+        ensures damaged { (map : ℕ → List ℕ) (n : ℕ) → Sure (RestsLot self.old.lot) (LotAtRest self.old.lot map) (D.state disk.old)
+            → IsErrOf result (Damaged n) → (r : Rule) × (n ≡ rule_number r) × IsBroken form_one self.old.lot (over self.old.set map) r }
+        ensures tallies { Tallies result room.new }
+        // Only blocks of the lot may change, and none where 144 blocks are held back at most, or by a command that changes nothing.
+        ensures within { Within D.state D.left (extent self.old.lot) disk.old disk.new }
+        ensures early { length self.old.set ≤ 144 → Still D.state D.left disk.old disk.new }
+        ensures looks { (op : Operation) → operation depth (asked command.now) ≡ Some op → is_change op ≡ false
+            → Still D.state D.left disk.old disk.new }
+        // From each record that it holds, the answer is the record's, and it holds the record after it.
+        ensures own { (c : Record) (op : Operation) → operation depth (asked command.now) ≡ Some op
+            → HoldsRecord self.old (D.state disk.old) c
+            → AnswersOwn self.new (D.state disk.new) c (OnTree op) (meant result room.new) }
+        // Each crash leaves what the history before it has.
+        ensures crash { (f : Form) (mode : Mode) (h : History) → Holds f mode h self.old (D.state disk.old)
+            → CrashStep D.state D.left (extent self.old.lot) (HasHistory self.old.lot f mode h) disk.old disk.new }
+    {
+        BODY
+    }
+}
