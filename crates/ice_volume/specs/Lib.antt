@@ -1,0 +1,6 @@
+pub mod Cells
+pub mod Volumes
+pub mod Rows
+pub mod Lines
+pub mod Orders
+pub mod Finishing
