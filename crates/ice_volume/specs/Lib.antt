@@ -3,4 +3,4 @@ pub mod Volumes
 pub mod Rows
 pub mod Lines
 pub mod Orders
-pub mod Finishing
+pub mod Sessions
