@@ -10,7 +10,7 @@ use Rattle.tree_spec.specs.World.{World}
 use Rattle.ice_script.specs.Grammar.{line_of}
 use Rattle.ice_script.specs.Reading.{Gathered}
 use Rattle.ice_run.specs.Scripts.{script_lines, ended_lines}
-use Rattle.ice_system.specs.Systems.{SystemView}
+use Rattle.ice_volume.specs.Volumes.{VolumeView}
 use Rattle.ice_run.specs.Runs.{lines_of}
 use Rattle.ice_run.specs.Sessions.{SoFar, BreaksOff, Serving}
 use Rattle.ice_run.proofs.Scripts.{next_line, ended_lines-ended, ended_lines-other, rest-ended, rest-other, last_line, no_last_line, ended_ahead}
@@ -73,7 +73,7 @@ breaks_more state left w script heard more all start new is Small cut = cut
 pub ended_more : (taken more : List ℕ) → (lines : List Line) × (ended_lines (taken ++ more) ≡ ended_lines taken ++ lines)
 ended_more taken more = ended_ahead taken more
 
-module _ {D T : Type 0} (state : D → DiskState) (left : D → ℕ → Image → List ℕ → Type 0) (w : World) (input taken ahead : List ℕ) (b : ℕ) (start mid new : D) (v z : SystemView) (old pushed reader : Gathered) (result : Result T Status)
+module _ {D T : Type 0} (state : D → DiskState) (left : D → ℕ → Image → List ℕ → Type 0) (w : World) (input taken ahead : List ℕ) (b : ℕ) (start mid new : D) (v z : VolumeView) (old pushed reader : Gathered) (result : Result T Status)
     (serving : Serving state left w v input taken start mid old) (is : input ≡ taken ++ b ∷ ahead)
     (text : pushed.text ≡ (if nat_eq b 10 then old.text else take 40001 (old.text ++ b ∷ []))) where
   held : nat_eq b 10 ≡ true → pushed.text ≡ old.text
@@ -103,7 +103,7 @@ module _ {D T : Type 0} (state : D → DiskState) (left : D → ℕ → Image �
       → IfErr result (λ status. BreaksOff state left w (script_lines input) status (ended_lines (taken ++ b ∷ [])) start new)
   fed_cut lf answered = if_err result (λ status cut. subst (λ (lines : List Line). BreaksOff state left w (script_lines input) status lines start new) (ended_here lf) cut) (answered (next_here lf).0 (next_here lf).1)
 
-module _ {D : Type 0} (state : D → DiskState) (left : D → ℕ → Image → List ℕ → Type 0) (w : World) (input taken : List ℕ) (b : ℕ) (start mid : D) (v : SystemView) (old pushed : Gathered)
+module _ {D : Type 0} (state : D → DiskState) (left : D → ℕ → Image → List ℕ → Type 0) (w : World) (input taken : List ℕ) (b : ℕ) (start mid : D) (v : VolumeView) (old pushed : Gathered)
     (serving : Serving state left w v input taken start mid old) (text : pushed.text ≡ (if nat_eq b 10 then old.text else take 40001 (old.text ++ b ∷ []))) where
   -- another byte is held with the line
   pub fed_byte : nat_eq b 10 ≡ false → Serving state left w v input (taken ++ b ∷ []) start mid pushed
@@ -112,7 +112,7 @@ module _ {D : Type 0} (state : D → DiskState) (left : D → ℕ → Image → 
     holds = rest-other taken old.text pushed.text b other serving.holds (pushed_other b old.text (take 40001 (old.text ++ b ∷ [])) pushed.text other text);
   }
 
-module _ {D T : Type 0} (state : D → DiskState) (left : D → ℕ → Image → List ℕ → Type 0) (w : World) (input : List ℕ) (start mid new : D) (v z : SystemView) (reader same : Gathered) (result : Result T Status)
+module _ {D T : Type 0} (state : D → DiskState) (left : D → ℕ → Image → List ℕ → Type 0) (w : World) (input : List ℕ) (start mid new : D) (v z : VolumeView) (reader same : Gathered) (result : Result T Status)
     (serving : Serving state left w v input input start mid reader) (stays : same ≡ reader) (some : nat_eq (length reader.text) 0 ≡ false) where
   last_here : script_lines input ≡ ended_lines input ++ line_of same.text ∷ []
   last_here =
@@ -128,7 +128,7 @@ module _ {D T : Type 0} (state : D → DiskState) (left : D → ℕ → Image �
       → IfErr result (λ status. BreaksOff state left w (script_lines input) status (script_lines input) start new)
   closed_err answered = if_err result (λ status cut. subst (λ (lines : List Line). BreaksOff state left w (script_lines input) status lines start new) (sym last_here) cut) (answered [] last_here)
 
-module _ {D : Type 0} (state : D → DiskState) (left : D → ℕ → Image → List ℕ → Type 0) (w : World) (input : List ℕ) (start mid : D) (v : SystemView) (reader : Gathered) (serving : Serving state left w v input input start mid reader) where
+module _ {D : Type 0} (state : D → DiskState) (left : D → ℕ → Image → List ℕ → Type 0) (w : World) (input : List ℕ) (start mid : D) (v : VolumeView) (reader : Gathered) (serving : Serving state left w v input input start mid reader) where
   -- nothing stands behind the last LF
   pub closed_none : nat_eq (length reader.text) 0 ≡ true → SoFar state left w (script_lines input) v (script_lines input) start mid
   closed_none none = subst (λ (lines : List Line). SoFar state left w (script_lines input) v lines start mid) (sym (no_last_line input reader.text none serving.holds)) serving.so_far

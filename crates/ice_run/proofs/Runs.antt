@@ -6,7 +6,8 @@ use Rattle.tree_spec.specs.Replies.{Response, HasNames}
 use Rattle.tree_spec.specs.World.{World, Step}
 use Rattle.ice_text.specs.Text.{text, closings, lines_in}
 use Rattle.ice_text.proofs.Closings.{closings-text-append}
-use Rattle.ice_run.specs.Runs.{Answered, AllNamed, Runs, RunsFirst, end, lines_of, reply_texts, fault_in, faults_of, IsProperPrefix}
+use Rattle.ice_volume.specs.Lines.{fault_in}
+use Rattle.ice_run.specs.Runs.{Answered, AllNamed, Runs, RunsFirst, end, lines_of, reply_texts, faults_of, IsProperPrefix}
 
 -- one more line
 pub push : List Answered → Line → Response → World → List Answered

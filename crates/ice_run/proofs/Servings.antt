@@ -9,22 +9,21 @@ use Rattle.ice_base.specs.declared.status.Status.TheVariants.{Done, Usage, Memor
 use Rattle.tree_spec.specs.Lines.{Line}
 use Rattle.tree_spec.specs.World.{World}
 use Rattle.ice_script.specs.Reading.{Gathered}
-use Rattle.ice_system.specs.Systems.{SystemView}
+use Rattle.ice_volume.specs.Volumes.{VolumeView, StandsFor}
+use Rattle.ice_volume.proofs.StandLaws.{stands_fits, stands_kept}
 use Rattle.ice_run.specs.Clauses.{Heard}
 use Rattle.ice_run.specs.Runs.{end, faults_of}
 use Rattle.ice_run.specs.Scripts.{script_lines, ended_lines, longest_script, cut_of}
 use Rattle.ice_run.specs.Pieces.{TookOnly, TookPiece}
 use Rattle.ice_run.specs.Sessions.{SoFar, BreaksOff, Serving}
 use Rattle.ice_run.specs.Servings.{Fed, Served}
-use Rattle.ice_run.specs.Volumes.{StandsFor}
 use Rattle.ice_run.proofs.SessionLaws.{between_lines}
-use Rattle.ice_run.proofs.Standing.{stands_fits, stands_kept}
 
 append_nil : (xs : List ℕ) → xs ++ [] ≡ xs
 append_nil [] = refl
 append_nil (x ∷ xs) = ap (λ (y : List ℕ). x ∷ y) (append_nil xs)
 
-module _ {D : Type 0} (state : D → DiskState) (left : D → ℕ → Image → List ℕ → Type 0) (w : World) (script : List Line) (v : SystemView) where
+module _ {D : Type 0} (state : D → DiskState) (left : D → ℕ → Image → List ℕ → Type 0) (w : World) (script : List Line) (v : VolumeView) where
   -- nothing is answered yet
   pub so_far_none : (d : D) → StandsFor v (state d) w → SoFar state left w script v [] d d
   so_far_none d stands = record {
@@ -70,7 +69,7 @@ nothing_behind [] ys is = is
 nothing_behind (x ∷ xs) ys is = cc
 
 -- a line ended the session: which lines are in the bytes that were taken
-broke : {D : Type 0} (state : D → DiskState) (left : D → ℕ → Image → List ℕ → Type 0) (w : World) (start : D) (status : Status) (v : SystemView) (taken : List ℕ) (heard : List Line) (new : D)
+broke : {D : Type 0} (state : D → DiskState) (left : D → ℕ → Image → List ℕ → Type 0) (w : World) (start : D) (status : Status) (v : VolumeView) (taken : List ℕ) (heard : List Line) (new : D)
     → (state start).streams.intake ≡ taken ++ (state new).streams.intake → length taken ≤ longest_script → Heard taken (state new).streams.intake heard
     → BreaksOff state left w (script_lines (state start).streams.intake) status heard start new → Served state left w start status v new
 broke state left w start Sink v taken heard new took few all breaks = record { taken = taken; took = took; reaches = (few, record { heard = heard; all = all; breaks = breaks }) }
@@ -83,7 +82,7 @@ broke state left w start Volume v taken heard new took few all breaks = absurd b
 broke state left w start Script v taken heard new took few all breaks = absurd breaks
 broke state left w start Small v taken heard new took few all breaks = absurd breaks
 
-module _ {D : Type 0} (state : D → DiskState) (left : D → ℕ → Image → List ℕ → Type 0) (w : World) (start : D) (count : ℕ) (mid new : D) (v : SystemView) (reader : Gathered) (fed : Fed state left w start count mid v reader)
+module _ {D : Type 0} (state : D → DiskState) (left : D → ℕ → Image → List ℕ → Type 0) (w : World) (start : D) (count : ℕ) (mid new : D) (v : VolumeView) (reader : Gathered) (fed : Fed state left w start count mid v reader)
     (disk : SameDisk (state mid) (state new)) (leaves : Leaves state left (λ out. out ≡ (state mid).streams.aside) mid new) (only : TookOnly (state mid).streams (state new).streams) where
   -- taking a piece answers nothing
   took_on : SoFar state left w (script_lines (state start).streams.intake) v (ended_lines fed.taken) start new
@@ -116,7 +115,7 @@ module _ {D : Type 0} (state : D → DiskState) (left : D → ℕ → Image → 
     ended_there : n ≡ 0 → (state new).streams.intake ≡ []
     ended_there none = nothing_behind (take n piece) (state new).streams.intake (sym took.bytes ∙ took.ended none)
 
-    module _ (later : D) (z : SystemView) (after : Gathered) (intake : (state later).streams.intake ≡ (state new).streams.intake) where
+    module _ (later : D) (z : VolumeView) (after : Gathered) (intake : (state later).streams.intake ≡ (state new).streams.intake) where
       took_later : (state start).streams.intake ≡ (fed.taken ++ take n piece) ++ (state later).streams.intake
       took_later = took_more ∙ ap (λ (x : List ℕ). (fed.taken ++ take n piece) ++ x) (sym intake)
 
@@ -128,7 +127,7 @@ module _ {D : Type 0} (state : D → DiskState) (left : D → ℕ → Image → 
 
 module _ {D : Type 0} (state : D → DiskState) (left : D → ℕ → Image → List ℕ → Type 0) (w : World) (start : D) where
   -- before the first piece
-  pub fed_none : (v : SystemView) (reader : Gathered) → StandsFor v (state start) w → reader.text ≡ [] → Fed state left w start 0 start v reader
+  pub fed_none : (v : VolumeView) (reader : Gathered) → StandsFor v (state start) w → reader.text ≡ [] → Fed state left w start 0 start v reader
   unfolding cut_of
   fed_none v reader stands empty = record {
     taken = [];
@@ -137,7 +136,7 @@ module _ {D : Type 0} (state : D → DiskState) (left : D → ℕ → Image → 
     serving = record { so_far = so_far_none state left w (script_lines (state start).streams.intake) v start stands; holds = empty };
   }
 
-  module _ (count : ℕ) (mid : D) (v : SystemView) (reader : Gathered) (fed : Fed state left w start count mid v reader) (le : count ≤ longest_script) (ended : (state mid).streams.intake ≡ []) where
+  module _ (count : ℕ) (mid : D) (v : VolumeView) (reader : Gathered) (fed : Fed state left w start count mid v reader) (le : count ≤ longest_script) (ended : (state mid).streams.intake ≡ []) where
     all_taken : fed.taken ≡ (state start).streams.intake
     all_taken = sym (fed.took ∙ ap (λ (x : List ℕ). fed.taken ++ x) ended ∙ append_nil fed.taken)
 
@@ -148,7 +147,7 @@ module _ {D : Type 0} (state : D → DiskState) (left : D → ℕ → Image → 
     long_enough : length (state start).streams.intake ≤ longest_script
     long_enough = omega (arith, ap length all_taken, fed.count_is)
 
-    module _ (new : D) (z : SystemView) (intake : (state new).streams.intake ≡ (state mid).streams.intake) where
+    module _ (new : D) (z : VolumeView) (intake : (state new).streams.intake ≡ (state mid).streams.intake) where
       took_all : (state start).streams.intake ≡ (state start).streams.intake ++ (state new).streams.intake
       took_all = sym (ap (λ (x : List ℕ). (state start).streams.intake ++ x) (intake ∙ ended) ∙ append_nil (state start).streams.intake)
 

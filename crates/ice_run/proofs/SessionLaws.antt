@@ -10,15 +10,14 @@ use Rattle.tree_spec.specs.World.{World, Step, aim}
 use Rattle.ice_text.specs.Text.{text, closings, ended, data_lines, closing_line}
 use Rattle.ice_text.proofs.Closings.{closings-part}
 use Rattle.ice_images.specs.Fitting.{Fits}
-use Rattle.ice_system.specs.Systems.{SystemView}
-use Rattle.ice_run.specs.Clauses.{IsTableOrder}
-use Rattle.ice_run.specs.Crashes.{MayFit, Reached, CrashLeaves}
-use Rattle.ice_run.specs.Runs.{Answered, Next, end, lines_of, reply_texts, fault_in, faults_of, IsProperPrefix}
+use Rattle.ice_volume.specs.Lines.{IsTableOrder, MayFit, fault_in}
+use Rattle.ice_volume.specs.Volumes.{VolumeView, StandsFor}
+use Rattle.ice_volume.proofs.StandLaws.{stands_fits}
+use Rattle.ice_run.specs.Crashes.{Reached, CrashLeaves}
+use Rattle.ice_run.specs.Runs.{Answered, Next, end, lines_of, reply_texts, faults_of, IsProperPrefix}
 use Rattle.ice_run.specs.Sessions.{GaveReplies, SoFar, CutShort, FailedLate, CrashesSo}
-use Rattle.ice_run.specs.Volumes.{StandsFor}
 use Rattle.ice_run.proofs.Refusals.{fits_refused}
 use Rattle.ice_run.proofs.Runs.{push, named-push, closings-texts, closings-none, first-push, end-push, lines_of-push, texts-push, faults-push, front}
-use Rattle.ice_run.proofs.Standing.{stands_fits}
 
 append_nil : (xs : List ℕ) → xs ++ [] ≡ xs
 append_nil [] = refl
@@ -168,7 +167,7 @@ module _ (w : World) (script lines ahead : List Line) (line : Line) (old mid : D
         (λ same. left_whole image out fits (first.2 ∙ ap (λ (x : List ℕ). mid.streams.aside ++ x) (take_same (text r) first.0 same)))
         (same_or_less first.0 (length (text r)) first.1)
 
-module _ {D : Type 0} (state : D → DiskState) (left : D → ℕ → Image → List ℕ → Type 0) (w : World) (script lines ahead : List Line) (line : Line) (start a b : D) (v : SystemView)
+module _ {D : Type 0} (state : D → DiskState) (left : D → ℕ → Image → List ℕ → Type 0) (w : World) (script lines ahead : List Line) (line : Line) (start a b : D) (v : VolumeView)
     (so_far : SoFar state left w script v lines start a) (is : script ≡ lines ++ line ∷ ahead) (streams : (state b).streams ≡ (state a).streams)
     (leaves : LeavesOnly left a b (With (state a).streams.aside (MayFit (end w so_far.gave.steps) line))) where
   -- each crash up to the reply
@@ -199,7 +198,7 @@ module _ {D : Type 0} (state : D → DiskState) (left : D → ℕ → Image → 
     crash = crash_worked;
   }
 
-  module _ (z : SystemView) (r : Response) (u : World) (step : Step (end w so_far.gave.steps) line r u) (stands : StandsFor z (state b) u) (names : HasNames r) (faults : RoseBy (fault_in r) (state a).faults (state b).faults) (c : D)
+  module _ (z : VolumeView) (r : Response) (u : World) (step : Step (end w so_far.gave.steps) line r u) (stands : StandsFor z (state b) u) (names : HasNames r) (faults : RoseBy (fault_in r) (state a).faults (state b).faults) (c : D)
       (same : SameDisk (state b) (state c)) (gives : Leaves state left (FirstOf (state b).streams.aside (text r) (length (text r))) b c) (on : StandsFor z (state c) u) where
     aside_same : (state b).streams.aside ≡ (state a).streams.aside
     aside_same = ap (λ (x : Streams). x.aside) streams

@@ -1,56 +1,30 @@
 -- A whole session, from the opening of its volume to its end.
 use Rattle.std.proofs.Common.{◌≡◌, ◌∙◌, ◌⊎◌, inl, inr, ⊎_elim, ◌<◌, ◌≤◌, ◌+◌, ℕ, zero, suc, Bool, true, false, List, [], ◌∷◌, ◌++◌, length, Option, Some, None, refl, sym, ap, subst, length-append, arith}
-use Rattle.std.specs.Option.{option_map}
 use Rattle.ice_base.specs.Disk.{Image, DiskState, Streams, AgreesOn, Everywhere, Rose, RoseBy}
 use Rattle.ice_base.specs.Frames.{LeavesOnly, With, Every}
 use Rattle.ice_base.specs.declared.status.Status.{Status}
 use Rattle.ice_base.specs.declared.status.Status.TheVariants.{Done, Usage, Memory, Source, Sink, Disk, Volume, Script, Small}
 use Rattle.ice_base.proofs.Frame.{since_start}
 use Rattle.tree_spec.specs.Lines.{Line}
-use Rattle.tree_spec.specs.Records.{Cube, Content, is_offline}
 use Rattle.tree_spec.specs.World.{World}
 use Rattle.ice_text.specs.Text.{closings}
 use Rattle.ice_text.proofs.Closings.{closings-part}
-use Rattle.ice_images.specs.Fitting.{Fits, Has, cube_entry}
-use Rattle.ice_images.specs.Opening.{closed_state}
-use Rattle.ice_system.specs.Systems.{SystemView}
-use Rattle.ice_tables.specs.Lots.{lot_of}
+use Rattle.ice_images.specs.Fitting.{Fits}
+use Rattle.ice_volume.specs.Sessions.{Starts, finished}
 use Rattle.ice_run.specs.Causes.{GoesOn, LoopCause}
-use Rattle.ice_run.specs.Clauses.{Starts, Ends, EndsAt, EndsWell, NoneRose, fault_at, finished, put_away}
+use Rattle.ice_run.specs.Clauses.{Ends, EndsAt, EndsWell, NoneRose, fault_at}
 use Rattle.ice_run.specs.Crashes.{CrashLeaves}
 use Rattle.ice_run.specs.Runs.{RunsFirst, end, reply_texts, faults_of}
 use Rattle.ice_run.specs.Scripts.{script_lines, longest_script}
-use Rattle.ice_run.specs.Servings.{Served}
+use Rattle.ice_run.specs.Servings.{Broken, Concluded, EndsFailed}
 use Rattle.ice_run.specs.Sessions.{GaveReplies}
-use Rattle.ice_run.specs.Volumes.{StandsFor, IsClosed}
 use Rattle.ice_run.proofs.Answering.{answers_well}
 use Rattle.ice_run.proofs.ClauseLaws.{all_alone}
 use Rattle.ice_run.proofs.Runs.{closings-texts, closings-none}
-use Rattle.ice_run.proofs.Standing.{stands_fits}
 
 append_nil : (xs : List ℕ) → xs ++ [] ≡ xs
 append_nil [] = refl
 append_nil (x ∷ xs) = ap (λ (y : List ℕ). x ∷ y) (append_nil xs)
-
--- ---- the end of a session in which no cube was mounted
-
-put_closed : (off : Bool) (x : Content) (c : Cube) → put_away (closed_state off) x c ≡ c
-put_closed true x c = refl
-put_closed false x c = refl
-
-finished_closed : (o : Option Cube) → IsClosed o → option_map (λ (c : Cube). put_away c.state c.content c) o ≡ o
-finished_closed None closed = refl
-finished_closed (Some c) closed = ap (λ e. Some e) (ap (λ s. put_away s c.content c) closed ∙ put_closed (is_offline c.state) c.content c)
-
-pub fits_finished : (v : SystemView) (s : DiskState) (w : World) → StandsFor v s w → Every Everywhere s (Fits (finished w))
-fits_finished v s w stands i agrees =
-    let f = stands_fits v s w stands i agrees in record {
-      tables = f.tables;
-      has = f.has;
-      room = f.room;
-      shows = record { slots = f.shows.slots; groups = f.shows.groups; entries = λ x. f.shows.entries x ∙ ap (option_map cube_entry) (sym (finished_closed (w.cube x) (stands.closed x))) };
-      cubes = λ x here. subst (λ o. Has (lot_of f.tables x) i o) (sym (finished_closed (w.cube x) (stands.closed x))) (f.cubes x here);
-    }
 
 -- ---- faults
 
@@ -113,7 +87,7 @@ crash_opened state left w old d leaves = record {
 
 -- ---- a session that was served
 
-module _ {D : Type 0} (state : D → DiskState) (left : D → ℕ → Image → List ℕ → Type 0) (w : World) (old mid new : D) (v z : SystemView) (starts : Starts (state old) w) (streams : (state mid).streams ≡ (state old).streams)
+module _ {D : Type 0} (state : D → DiskState) (left : D → ℕ → Image → List ℕ → Type 0) (w : World) (old mid new : D) (starts : Starts (state old) w) (streams : (state mid).streams ≡ (state old).streams)
     (faults : (state old).faults ≤ (state mid).faults) where
   asked : List Line
   asked = script_lines (state mid).streams.intake
@@ -147,48 +121,54 @@ module _ {D : Type 0} (state : D → DiskState) (left : D → ℕ → Image → 
     disk_rose : Rose (state mid).faults (state new).faults → NoneRose (state old) (state new) → ⊥
     disk_rose rose quiet = quiet.disk (omega (arith, rose, faults))
 
-    pub ends_served : (status : Status) → (status ≡ Done) ⊎ LoopCause status (state mid) (state new) → Served state left w mid status z new → Ends status w (state old) (state new)
+    pub ends_served : (status : Status) → (status ≡ Done) ⊎ LoopCause status (state mid) (state new) → Concluded state left w mid status new → Ends status w (state old) (state new)
     ends_served Done cause served =
-        let r = served.reaches in let gave = r.2.gave in
-        ends_so Done _ [] gave closings-none served.taken served.took (refl, r.0, r.1, gave.asked) (λ is. fits_finished z (state new) (end w gave.steps) r.2.stands) (omega (arith, gave.faults)) (λ quiet. tt)
+        let r = served.concludes in
+        ends_so Done _ [] r.all.gave closings-none served.taken served.took (refl, r.none, r.few, r.all.gave.asked) (λ is. r.exit) (omega (arith, r.all.rose)) (λ quiet. tt)
     ends_served Source cause served =
-        let r = served.reaches in let gave = r.1.gave in
+        let r = served.concludes.1 in let gave = r.1.gave in
         ends_so Source _ [] gave closings-none served.taken served.took (refl, r.0, gave.asked) (λ is. absurd (cc is)) (omega (arith, gave.faults))
         (λ quiet. ⊎_elim (λ is. absurd (cc is)) (λ rose. quiet.source (subst (λ (x : Streams). Rose x.source_faults (state new).streams.source_faults) streams rose)) cause)
     ends_served Script cause served =
-        let r = served.reaches in let gave = r.1.gave in
+        let r = served.concludes.1 in let gave = r.1.gave in
         ends_so Script _ [] gave closings-none served.taken served.took (refl, r.0, gave.asked) (λ is. absurd (cc is)) (omega (arith, gave.faults)) (λ quiet. longer served.taken r.0 served.took)
       where
         longer : (taken : List ℕ) → length taken ≡ longest_script + 1 → (state mid).streams.intake ≡ taken ++ (state new).streams.intake → longest_script < length (state old).streams.intake
         longer taken is took = omega (arith, is, ap length (ap (λ (x : Streams). x.intake) (sym streams) ∙ took), length-append taken (state new).streams.intake)
     ends_served Sink cause served =
-        let r = served.reaches in let cut = r.1.breaks in
+        let r = served.concludes.1 in let cut = r.1.breaks in
         ends_so Sink cut.lines cut.tail cut.gave (closings-part cut.reply cut.tail cut.part.0 cut.names cut.part.2 cut.part.1) served.taken served.took
         (r.0, record { lines = r.1.heard; heard = r.1.all; reply = cut.reply; then = cut.then; next = cut.next; part = cut.part }) (λ is. absurd (cc is)) (omega (arith, cut.gave.faults))
         (λ quiet. ⊎_elim (λ is. absurd (cc is)) (λ rose. quiet.sink (subst (λ (x : Streams). Rose x.sink_faults (state new).streams.sink_faults) streams rose)) cause)
-    ends_served Disk cause served =
-        let r = served.reaches in let cut = r.1.breaks in
+    ends_served Disk cause served = ⊎_elim
+        (λ (broken : Broken state left w mid Disk served.taken new).
+        let cut = broken.breaks in
         ends_so Disk cut.lines [] cut.gave closings-none served.taken served.took
-        (refl, r.0, inr (inl (record { lines = r.1.heard; heard = r.1.all; line = cut.line; ahead = cut.ahead; next = cut.next; order = cut.order }))) (λ is. absurd (cc is)) cut.faults
-        (λ quiet. ⊎_elim (λ is. absurd (cc is)) (λ rose. disk_rose rose quiet) cause)
-    ends_served Usage cause served = absurd served.reaches
-    ends_served Memory cause served = absurd served.reaches
-    ends_served Volume cause served = absurd served.reaches
-    ends_served Small cause served = absurd served.reaches
+        (refl, served.concludes.0, inr (inl (record { lines = broken.heard; heard = broken.all; line = cut.line; ahead = cut.ahead; next = cut.next; order = cut.order }))) (λ is. absurd (cc is)) cut.faults
+        (λ quiet. ⊎_elim (λ is. absurd (cc is)) (λ rose. disk_rose rose quiet) cause))
+        (λ (failed : EndsFailed state left w mid served.taken new).
+        ends_so Disk _ [] failed.all.gave closings-none served.taken served.took
+        (refl, served.concludes.0, inr (inr (failed.none, failed.all.gave.asked))) (λ is. absurd (cc is)) failed.all.rose
+        (λ quiet. ⊎_elim (λ is. absurd (cc is)) (λ rose. disk_rose rose quiet) cause))
+        served.concludes.1
+    ends_served Usage cause served = absurd served.concludes.1
+    ends_served Memory cause served = absurd served.concludes.1
+    ends_served Volume cause served = absurd served.concludes.1
+    ends_served Small cause served = absurd served.concludes.1
 
   -- what each crash leaves afterwards
-  crash_in : (status : Status) → Served state left w mid status z new → LeavesOnly left mid new (CrashLeaves (state mid).streams.aside w (script_lines (state mid).streams.intake))
-  crash_in Done served = served.reaches.2.crash
-  crash_in Source served = served.reaches.1.crash
-  crash_in Script served = served.reaches.1.crash
-  crash_in Sink served = served.reaches.1.breaks.crash
-  crash_in Disk served = served.reaches.1.breaks.crash
-  crash_in Usage served = absurd served.reaches
-  crash_in Memory served = absurd served.reaches
-  crash_in Volume served = absurd served.reaches
-  crash_in Small served = absurd served.reaches
+  crash_in : (status : Status) → Concluded state left w mid status new → LeavesOnly left mid new (CrashLeaves (state mid).streams.aside w (script_lines (state mid).streams.intake))
+  crash_in Done served = served.concludes.all.crash
+  crash_in Source served = served.concludes.1.1.crash
+  crash_in Script served = served.concludes.1.1.crash
+  crash_in Sink served = served.concludes.1.1.breaks.crash
+  crash_in Disk served = ⊎_elim (λ (broken : Broken state left w mid Disk served.taken new). broken.breaks.crash) (λ (failed : EndsFailed state left w mid served.taken new). failed.all.crash) served.concludes.1
+  crash_in Usage served = absurd served.concludes.1
+  crash_in Memory served = absurd served.concludes.1
+  crash_in Volume served = absurd served.concludes.1
+  crash_in Small served = absurd served.concludes.1
 
-  pub crash_served : (status : Status) → Served state left w mid status z new → LeavesOnly left old mid (With (state old).streams.aside (Fits w)) → LeavesOnly left old new (CrashLeaves (state old).streams.aside w (script_lines (state old).streams.intake))
+  pub crash_served : (status : Status) → Concluded state left w mid status new → LeavesOnly left old mid (With (state old).streams.aside (Fits w)) → LeavesOnly left old new (CrashLeaves (state old).streams.aside w (script_lines (state old).streams.intake))
   crash_served status served leaves = record {
     each = λ t image out l. ⊎_elim (λ before. (crash_opened state left w old mid leaves).each t image out before)
         (λ here. inr (subst (λ (x : Streams). CrashLeaves x.aside w (script_lines x.intake) image out) streams here)) ((crash_in status served).each t image out l);

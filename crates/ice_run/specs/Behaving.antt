@@ -1,12 +1,14 @@
 -- What a session does on any host, whatever its image is.
 use Rattle.std.specs.Prelude.{◌≡◌, ◌⊎◌, ◌≤◌, true, ⊤}
-use Rattle.ice_base.specs.Disk.{DiskState, Rose}
+use Rattle.ice_base.specs.Disk.{DiskState, Outside, Rose}
+use Rattle.ice_base.specs.Frames.{Kept}
 use Rattle.ice_base.specs.declared.status.Status.{Status}
 use Rattle.ice_base.specs.declared.status.Status.TheVariants.{Done, Usage, Memory, Source, Sink, Disk, Volume, Script, Small}
 use Rattle.ice_layout.specs.declared.superblock.LayoutFault.{LayoutFault}
 use Rattle.ice_tables.specs.Tables.{Tables, HasTables, FirstFault}
 use Rattle.ice_tables.specs.Lots.{total}
 use Rattle.ice_system.specs.Attaching.{TooSmall}
+use Rattle.ice_run.specs.Causes.{IsOfSession}
 
 -- why a session ends with its status
 abbrev pub Cause : Status → DiskState → DiskState → Type 0
@@ -41,5 +43,5 @@ pub record Behaves (status : Status) (old new : DiskState) : Type 0 where
   pub cause : Cause status old new
   pub silent : IsSilent status → new.streams ≡ old.streams
   pub attached : old.tells ≡ true → HasAttached status → (t : Tables) × HasTables old.now t × (total t ≤ old.size)
-  pub no_block : old.size ≡ 0 → ((status ≡ Small) ⊎ (status ≡ Memory)) × (new ≡ old)
+  pub frame : Kept (Outside IsOfSession) old new
   pub faults : old.faults ≤ new.faults

@@ -1,15 +1,20 @@
 -- Why calls of a session and the making of an image end.
-use Rattle.std.specs.Prelude.{◌≡◌, ◌≤◌, ◌<◌, ⊤}
-use Rattle.ice_base.specs.Disk.{DiskState, Rose}
+use Rattle.std.specs.Prelude.{◌≡◌, ◌⊎◌, ◌≤◌, ◌<◌, ℕ, ⊤}
+use Rattle.ice_base.specs.Disk.{DiskState, Outside, Rose}
+use Rattle.ice_base.specs.Frames.{Kept}
 use Rattle.ice_base.specs.declared.status.Status.{Status}
 use Rattle.ice_base.specs.declared.status.Status.TheVariants.{Done, Usage, Memory, Source, Sink, Disk, Volume, Script, Small}
 use Rattle.ice_layout.specs.Geometry.{total_blocks}
 use Rattle.ice_layout.specs.declared.superblock.Super.{Super}
+use Rattle.ice_system.specs.Says.{IsChange}
 
--- no count of faults fell, and the disk has its size still
+-- the blocks that a session may write: the journal of the tables and the tables, the slots' areas and the groups
+abbrev pub IsOfSession : ℕ → Type 0
+IsOfSession k = IsChange k ⊎ (32 ≤ k)
+
+-- no count of faults fell, the disk is the same one, and all other blocks are as they were
 pub record GoesOn (old new : DiskState) : Type 0 where
-  pub size : new.size ≡ old.size
-  pub tells : new.tells ≡ old.tells
+  pub kept : Kept (Outside IsOfSession) old new
   pub faults : old.faults ≤ new.faults
   pub source : old.streams.source_faults ≤ new.streams.source_faults
   pub sink : old.streams.sink_faults ≤ new.streams.sink_faults

@@ -1,36 +1,23 @@
 -- The clauses of a whole session, for each world that the image opens at its start.
 use Rattle.std.specs.Prelude.{◌≡◌, ◌⊎◌, ◌≤◌, ◌<◌, ◌+◌, ℕ, ⊤, List, [], ◌∷◌, ◌++◌, length, take, Some, Err, IsOk}
-use Rattle.std.specs.Option.{option_map}
 use Rattle.ice_base.specs.Disk.{DiskState, Everywhere, Rose, RoseBy}
-use Rattle.ice_base.specs.Frames.{Every, Settled}
+use Rattle.ice_base.specs.Frames.{Every}
 use Rattle.ice_base.specs.declared.status.Status.{Status}
 use Rattle.ice_base.specs.declared.status.Status.TheVariants.{Done, Usage, Memory, Source, Sink, Disk, Volume, Script, Small}
 use Rattle.tree_spec.specs.Why as why
 use Rattle.tree_spec.specs.Lines.{Line}
 use Rattle.tree_spec.specs.Replies.{Response, Because}
 use Rattle.tree_spec.specs.Replies as reply
-use Rattle.tree_spec.specs.Records.{Cube, Content, Sound, settled}
-use Rattle.tree_spec.specs.Own.{Mount, SetOffline, SetOnline, Delete, Grow, Create}
+use Rattle.tree_spec.specs.Records.{Cube, Content, Sound}
+use Rattle.tree_spec.specs.Own.{Mount, Create}
 use Rattle.tree_spec.specs.World.{World, Aim, At, aim}
-use Rattle.tree_spec.specs.declared.reply.StateWord.{StateWord}
-use Rattle.tree_spec.specs.declared.reply.StateWord.TheVariants.{Mounted, Unmounted}
 use Rattle.ice_text.specs.Text.{text, closings}
 use Rattle.ice_images.specs.Fitting.{Fits}
-use Rattle.ice_images.specs.Opening.{Opens}
+use Rattle.ice_volume.specs.Lines.{IsTableOrder}
+use Rattle.ice_volume.specs.Sessions.{finished}
 use Rattle.ice_run.specs.Scripts.{ended_lines, script_lines, longest_script}
 use Rattle.ice_run.specs.Runs.{Answered, RunsFirst, Next, end, lines_of, reply_texts, faults_of, IsProperPrefix}
 use Rattle.ice_run.specs.Alone.{told, AllClean, orders_of, replies_of, said}
-
--- ---- the end of a session
-
--- a cube that is mounted is unmounted at the end, with all that was accepted
-abbrev pub put_away : StateWord → Content → Cube → Cube
-put_away Mounted (Sound h) c = record c { state = Unmounted; content = Sound (settled h) }
-put_away _ x c = c
-
--- the world after a session whose end was good
-abbrev pub finished : World → World
-finished w = record w { cube = λ s. option_map (λ (c : Cube). put_away c.state c.content c) (w.cube s) }
 
 -- ---- how far it came
 
@@ -46,15 +33,6 @@ pub record IsCutShort (w : World) (steps : List Answered) (tail taken left : Lis
   pub then : World
   pub next : Next w lines steps reply then
   pub part : IsProperPrefix tail (text reply)
-
--- the line is an order that changes the tables
-abbrev pub IsTableOrder : Aim → Type 0
-IsTableOrder (At s (Create p n)) = ⊤
-IsTableOrder (At s Delete) = ⊤
-IsTableOrder (At s (Grow n)) = ⊤
-IsTableOrder (At s SetOffline) = ⊤
-IsTableOrder (At s SetOnline) = ⊤
-IsTableOrder _ = ⊥
 
 -- the next of the lines that were taken is a change of the tables
 pub record StopsAtTables (w : World) (steps : List Answered) (taken left : List ℕ) : Type 0 where
@@ -155,8 +133,3 @@ pub record Ends (status : Status) (w : World) (old new : DiskState) : Type 0 whe
   pub complete : NoneRose old new → EndsWell status old × (faults_of steps ≡ 0)
   pub answers : AnswersWell w steps
   pub alone : AllAlone w steps
-
--- the disk tells and is settled, and what reads give opens the world
-pub record Starts (s : DiskState) (w : World) : Type 0 where
-  pub settled : Settled Everywhere s
-  pub opens : Opens s.now w

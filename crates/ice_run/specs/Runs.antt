@@ -1,9 +1,10 @@
 -- Runs of lines, and what they give.
-use Rattle.std.specs.Prelude.{◌≡◌, ◌<◌, ℕ, ◌+◌, List, [], ◌∷◌, ◌++◌, length, map, Ok, Err, ⊤}
+use Rattle.std.specs.Prelude.{◌≡◌, ◌<◌, ℕ, ◌+◌, List, [], ◌∷◌, ◌++◌, length, map, ⊤}
 use Rattle.tree_spec.specs.Lines.{Line}
-use Rattle.tree_spec.specs.Replies.{Response, Fault, HasNames}
+use Rattle.tree_spec.specs.Replies.{Response, HasNames}
 use Rattle.tree_spec.specs.World.{World, Step}
 use Rattle.ice_text.specs.Text.{text}
+use Rattle.ice_volume.specs.Lines.{fault_in}
 
 -- a line with its reply and the world after it
 pub record Answered : Type 0 where
@@ -29,12 +30,6 @@ lines_of steps = map (λ (a : Answered). a.line) steps
 abbrev pub reply_texts : List Answered → List ℕ
 reply_texts [] = []
 reply_texts (a ∷ rest) = text a.reply ++ reply_texts rest
-
--- whether a reply is a fault, as a number
-abbrev pub fault_in : Response → ℕ
-fault_in (Ok x) = 0
-fault_in (Err Fault) = 1
-fault_in (Err refused) = 0
 
 -- how many replies are a fault
 abbrev pub faults_of : List Answered → ℕ

@@ -9,20 +9,19 @@ use Rattle.tree_spec.specs.Replies.{Response, HasNames}
 use Rattle.tree_spec.specs.World.{World, aim}
 use Rattle.ice_text.specs.Text.{text}
 use Rattle.ice_script.specs.Reading.{Gathered}
-use Rattle.ice_system.specs.Systems.{SystemView}
+use Rattle.ice_volume.specs.Lines.{IsTableOrder}
+use Rattle.ice_volume.specs.Volumes.{VolumeView, StandsFor, HasRoom}
 use Rattle.ice_run.specs.Scripts.{cut_of, ended_lines, script_lines}
 use Rattle.ice_run.specs.Runs.{Answered, AllNamed, RunsFirst, end, lines_of, reply_texts, faults_of, IsProperPrefix, Next}
 use Rattle.ice_run.specs.Crashes.{CrashLeaves}
-use Rattle.ice_run.specs.Clauses.{IsTableOrder}
-use Rattle.ice_run.specs.Volumes.{StandsFor, HasRoom}
 
 -- no change failed late, and the disk has all blocks of the volume
-pub record IsLive (v : SystemView) (s : DiskState) : Type 0 where
-  pub live : v.failed ≡ false
+pub record IsLive (v : VolumeView) (s : DiskState) : Type 0 where
+  pub live : v.system.failed ≡ false
   pub room : HasRoom v s
 
 -- and the reader's line is not ended
-pub record IsReady (v : SystemView) (s : DiskState) (reader : Gathered) : Type 0 where
+pub record IsReady (v : VolumeView) (s : DiskState) (reader : Gathered) : Type 0 where
   pub held : IsLive v s
   pub open_line : reader.ended ≡ false
 
@@ -41,7 +40,7 @@ module _ {D : Type 0} (state : D → DiskState) (left : D → ℕ → Image → 
   CrashesSo old new = LeavesOnly left old new (CrashLeaves (state old).streams.aside w script)
 
   -- These first lines of the script are answered, the volume and the disk stand for the world after them, and each crash left what it may.
-  pub record SoFar (v : SystemView) (lines : List Line) (old new : D) : Type 0 where
+  pub record SoFar (v : VolumeView) (lines : List Line) (old new : D) : Type 0 where
     pub gave : GaveReplies w script lines [] (state old) (state new)
     pub stands : StandsFor v (state new) (end w gave.steps)
     pub crash : CrashesSo old new
@@ -83,6 +82,6 @@ module _ {D : Type 0} (state : D → DiskState) (left : D → ℕ → Image → 
 
 -- the first bytes of the input were read: the lines that ended in them are answered, and the reader holds what follows the last LF
 pub record Serving {D : Type 0} (state : D → DiskState) (left : D → ℕ → Image → List ℕ → Type 0)
-    (w : World) (v : SystemView) (input taken : List ℕ) (old new : D) (reader : Gathered) : Type 0 where
+    (w : World) (v : VolumeView) (input taken : List ℕ) (old new : D) (reader : Gathered) : Type 0 where
   pub so_far : SoFar state left w (script_lines input) v (ended_lines taken) old new
   pub holds : reader.text ≡ take 40001 (cut_of taken).rest

@@ -9,7 +9,7 @@ use Rattle.ice_layout.specs.Supers.{IsFreshImage}
 use Rattle.ice_layout.specs.declared.superblock.Super.{Super}
 use Rattle.ice_images.specs.Opening.{Opens, empty_world}
 use Rattle.ice_run.specs.Causes.{FormatCause}
-use Rattle.ice_run.specs.Clauses.{Starts}
+use Rattle.ice_volume.specs.Sessions.{Starts}
 
 -- The making of an image. It changes blocks 0 to 31 alone, takes and gives nothing, and at Done they are the fresh image and nothing is loose.
 -- So a session may start from it, in the world without cubes. Small comes exactly where there are too few blocks, and then nothing was done.

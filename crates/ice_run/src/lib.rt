@@ -6,7 +6,6 @@ mod intake;
 mod serve;
 mod session;
 mod top;
-mod volume;
 mod words;
 
 pub use top::run;

@@ -5,12 +5,12 @@ ghost use Rattle.ice_run.specs.Causes.{GoesOn, LoopCause};
 ghost use Rattle.ice_run.specs.Scripts.{longest_script};
 ghost use Rattle.ice_run.specs.Servings.{Fed, Passes, Served};
 ghost use Rattle.ice_run.specs.Sessions.{IsReady};
-ghost use Rattle.ice_run.specs.Volumes.{StandsFor};
+ghost use Rattle.ice_volume.specs.Volumes.{StandsFor};
 
 use crate::intake::{LIMIT, PIECE, take_piece};
 use crate::session::{Session, close, feed_all};
-use crate::volume::Volume;
 use ice_base::{Host, Status};
+use ice_volume::Volume;
 
 /// Takes a piece of the script and answers the lines that end in it. Says how many bytes came: 0 at the end of the input.
 /// An `Err` is how the session ends: Source, Sink, Disk, or Script where the script has a byte too many.
@@ -22,16 +22,16 @@ fn pass<H: Host>(
     taken: u32,
 ) -> Result<usize, Status>
     requires limit { taken ≤ longest_script }
-    requires ready { IsReady volume.old.system (H.state host.old) session.old.reader }
+    requires ready { IsReady volume.old (H.state host.old) session.old.reader }
     // The disk is the same one, and no count of faults falls; why the session ends.
     ensures on { GoesOn (H.state host.old) (H.state host.new) }
     ensures cause { IfErr result (λ status. LoopCause status (H.state host.old) (H.state host.new)) }
     // The session may go on, with no more bytes than a script may have.
     ensures count { IfOk result (λ n. taken + n ≤ longest_script) }
-    ensures ready { IfOk result (λ n. IsReady volume.new.system (H.state host.new) session.new.reader) }
+    ensures ready { IfOk result (λ n. IsReady volume.new (H.state host.new) session.new.reader) }
     // From any world, the lines that end in the piece are answered, or the session has ended.
-    ensures passes { (w : World) (start : H) → Fed H.state H.left w start taken host.old volume.old.system session.old.reader
-        → Passes H.state H.left w start taken result host.new volume.new.system session.new.reader }
+    ensures passes { (w : World) (start : H) → Fed H.state H.left w start taken host.old volume.old session.old.reader
+        → Passes H.state H.left w start taken result host.new volume.new session.new.reader }
 {
     let count = match take_piece(host, piece, taken) {
         Ok(count) => count,
@@ -48,13 +48,13 @@ fn pass<H: Host>(
 
 /// Takes the script to its end and answers each line of it.
 pub(crate) fn serve<H: Host>(host: &mut H, volume: &mut Volume, session: &mut Session) -> Status
-    requires { IsReady volume.old.system (H.state host.old) session.old.reader }
+    requires { IsReady volume.old (H.state host.old) session.old.reader }
     // The disk is the same one, and no count of faults falls; why the session ended.
     ensures on { GoesOn (H.state host.old) (H.state host.new) }
     ensures cause { (result ≡ Status.Done) ⊎ LoopCause result (H.state host.old) (H.state host.new) }
     // From the world that the volume and the disk stand for, how the session ended.
-    ensures served { (w : World) → StandsFor volume.old.system (H.state host.old) w → session.old.reader.text ≡ []
-        → Served H.state H.left w host.old result volume.new.system host.new }
+    ensures served { (w : World) → StandsFor volume.old (H.state host.old) w → session.old.reader.text ≡ []
+        → Served H.state H.left w host.old result volume.new host.new }
 {
     let mut piece = [0; PIECE];
     let mut taken: u32 = 0;

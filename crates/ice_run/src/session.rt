@@ -6,12 +6,13 @@ ghost use Rattle.ice_script.specs.Grammar.{line_of};
 ghost use Rattle.ice_run.specs.Causes.{GoesOn, LoopCause};
 ghost use Rattle.ice_run.specs.Scripts.{script_lines, ended_lines};
 ghost use Rattle.ice_run.specs.Sessions.{IsLive, IsReady, SoFar, BreaksOff, Serving};
-ghost use Rattle.ice_run.specs.Volumes.{AnswersLine, HasRoom};
+ghost use Rattle.ice_volume.specs.Lines.{AnswersLine};
+ghost use Rattle.ice_volume.specs.Volumes.{HasRoom};
 
-use crate::volume::{LateFault, Volume};
 use ice_base::{Disk, Host, Status, give_all};
 use ice_script::LineReader;
 use ice_text::{Out, write_reply};
+use ice_volume::{AreaFault, Volume};
 use std::alloc::{AllocError, Global};
 use tree_spec::{Reply, Room};
 
@@ -41,9 +42,9 @@ fn reply_to<D: Disk>(
     volume: &mut Volume,
     reader: &mut LineReader,
     room: &mut Room,
-) -> Result<Reply, LateFault>
-    requires { HasRoom volume.old.system (D.state disk.old) }
-    ensures { AnswersLine D.state D.left (line_of reader.old.text) volume.old.system volume.new.system room.new result disk.old disk.new }
+) -> Result<Reply, AreaFault>
+    requires { HasRoom volume.old (D.state disk.old) }
+    ensures { AnswersLine D.state D.left (line_of reader.old.text) volume.old volume.new room.new result disk.old disk.new }
 {
     room.clear();
     match reader.command() {
@@ -59,22 +60,22 @@ pub(crate) fn answer<H: Host>(
     volume: &mut Volume,
     session: &mut Session,
 ) -> Result<(), Status>
-    requires { IsLive volume.old.system (H.state host.old) }
+    requires { IsLive volume.old (H.state host.old) }
     // The disk is the same one, no count of faults falls, nothing is taken, and a fault ends the session.
     ensures on { GoesOn (H.state host.old) (H.state host.new) }
     ensures intake { (H.state host.new).streams.intake ≡ (H.state host.old).streams.intake }
     ensures cause { IfErr result (λ status. LoopCause status (H.state host.old) (H.state host.new)) }
     // The session may go on.
-    ensures ready { OnOk result (IsReady volume.new.system (H.state host.new) session.new.reader) }
+    ensures ready { OnOk result (IsReady volume.new (H.state host.new) session.new.reader) }
     ensures text { OnOk result (session.new.reader.text ≡ []) }
     // From any world, one more line of the script is answered, or it is the one that ended the session.
     ensures answered { (w : World) (script lines ahead : List Line) (start : H)
         → script ≡ lines ++ line_of session.old.reader.text ∷ ahead
-        → SoFar H.state H.left w script volume.old.system lines start host.old
-        → OnOk result (SoFar H.state H.left w script volume.new.system (lines ++ line_of session.old.reader.text ∷ []) start host.new) }
+        → SoFar H.state H.left w script volume.old lines start host.old
+        → OnOk result (SoFar H.state H.left w script volume.new (lines ++ line_of session.old.reader.text ∷ []) start host.new) }
     ensures broken { (w : World) (script lines ahead : List Line) (start : H)
         → script ≡ lines ++ line_of session.old.reader.text ∷ ahead
-        → SoFar H.state H.left w script volume.old.system lines start host.old
+        → SoFar H.state H.left w script volume.old lines start host.old
         → IfErr result (λ status. BreaksOff H.state H.left w script status (lines ++ line_of session.old.reader.text ∷ []) start host.new) }
 {
     session.out.clear();
@@ -97,19 +98,19 @@ fn feed<H: Host>(
     session: &mut Session,
     byte: u8,
 ) -> Result<(), Status>
-    requires { IsReady volume.old.system (H.state host.old) session.old.reader }
+    requires { IsReady volume.old (H.state host.old) session.old.reader }
     // The disk is the same one, no count of faults falls, nothing is taken, and a fault ends the session.
     ensures on { GoesOn (H.state host.old) (H.state host.new) }
     ensures intake { (H.state host.new).streams.intake ≡ (H.state host.old).streams.intake }
     ensures cause { IfErr result (λ status. LoopCause status (H.state host.old) (H.state host.new)) }
     // The session may go on.
-    ensures ready { OnOk result (IsReady volume.new.system (H.state host.new) session.new.reader) }
+    ensures ready { OnOk result (IsReady volume.new (H.state host.new) session.new.reader) }
     // From any world, the lines that end in these bytes are answered, or one of them ended the session.
     ensures served { (w : World) (input taken ahead : List ℕ) (start : H) → input ≡ taken ++ byte ∷ ahead
-        → Serving H.state H.left w volume.old.system input taken start host.old session.old.reader
-        → OnOk result (Serving H.state H.left w volume.new.system input (taken ++ byte ∷ []) start host.new session.new.reader) }
+        → Serving H.state H.left w volume.old input taken start host.old session.old.reader
+        → OnOk result (Serving H.state H.left w volume.new input (taken ++ byte ∷ []) start host.new session.new.reader) }
     ensures broken { (w : World) (input taken ahead : List ℕ) (start : H) → input ≡ taken ++ byte ∷ ahead
-        → Serving H.state H.left w volume.old.system input taken start host.old session.old.reader
+        → Serving H.state H.left w volume.old input taken start host.old session.old.reader
         → IfErr result (λ status. BreaksOff H.state H.left w (script_lines input) status (ended_lines (taken ++ byte ∷ [])) start host.new) }
 {
     if session.reader.push(byte) {
@@ -126,19 +127,19 @@ pub(crate) fn feed_all<H: Host>(
     session: &mut Session,
     piece: &[u8],
 ) -> Result<(), Status>
-    requires { IsReady volume.old.system (H.state host.old) session.old.reader }
+    requires { IsReady volume.old (H.state host.old) session.old.reader }
     // The disk is the same one, no count of faults falls, nothing is taken, and a fault ends the session.
     ensures on { GoesOn (H.state host.old) (H.state host.new) }
     ensures intake { (H.state host.new).streams.intake ≡ (H.state host.old).streams.intake }
     ensures cause { IfErr result (λ status. LoopCause status (H.state host.old) (H.state host.new)) }
     // The session may go on.
-    ensures ready { OnOk result (IsReady volume.new.system (H.state host.new) session.new.reader) }
+    ensures ready { OnOk result (IsReady volume.new (H.state host.new) session.new.reader) }
     // From any world, the lines that end in these bytes are answered, or one of them ended the session.
     ensures served { (w : World) (input taken ahead : List ℕ) (start : H) → input ≡ taken ++ piece.now ++ ahead
-        → Serving H.state H.left w volume.old.system input taken start host.old session.old.reader
-        → OnOk result (Serving H.state H.left w volume.new.system input (taken ++ piece.now) start host.new session.new.reader) }
+        → Serving H.state H.left w volume.old input taken start host.old session.old.reader
+        → OnOk result (Serving H.state H.left w volume.new input (taken ++ piece.now) start host.new session.new.reader) }
     ensures broken { (w : World) (input taken ahead : List ℕ) (start : H) → input ≡ taken ++ piece.now ++ ahead
-        → Serving H.state H.left w volume.old.system input taken start host.old session.old.reader
+        → Serving H.state H.left w volume.old input taken start host.old session.old.reader
         → IfErr result (λ status. BreaksOff H.state H.left w (script_lines input) status (ended_lines (taken ++ piece.now)) start host.new) }
 {
     for byte in piece {
@@ -156,17 +157,17 @@ pub(crate) fn close<H: Host>(
     volume: &mut Volume,
     session: &mut Session,
 ) -> Result<(), Status>
-    requires { IsReady volume.old.system (H.state host.old) session.old.reader }
+    requires { IsReady volume.old (H.state host.old) session.old.reader }
     // The disk is the same one, no count of faults falls, nothing is taken, and a fault ends the session.
     ensures on { GoesOn (H.state host.old) (H.state host.new) }
     ensures intake { (H.state host.new).streams.intake ≡ (H.state host.old).streams.intake }
     ensures cause { IfErr result (λ status. LoopCause status (H.state host.old) (H.state host.new)) }
     // From any world, all lines of the script are answered, or the last one ended the session.
     ensures served { (w : World) (input : List ℕ) (start : H)
-        → Serving H.state H.left w volume.old.system input input start host.old session.old.reader
-        → OnOk result (SoFar H.state H.left w (script_lines input) volume.new.system (script_lines input) start host.new) }
+        → Serving H.state H.left w volume.old input input start host.old session.old.reader
+        → OnOk result (SoFar H.state H.left w (script_lines input) volume.new (script_lines input) start host.new) }
     ensures broken { (w : World) (input : List ℕ) (start : H)
-        → Serving H.state H.left w volume.old.system input input start host.old session.old.reader
+        → Serving H.state H.left w volume.old input input start host.old session.old.reader
         → IfErr result (λ status. BreaksOff H.state H.left w (script_lines input) status (script_lines input) start host.new) }
 {
     if session.reader.finish() {

@@ -9,7 +9,12 @@ ghost use Rattle.tree_spec.specs.World.{World};
 ghost use Rattle.ice_images.specs.Opening.{Opens, empty_world};
 ghost use Rattle.ice_run.specs.Behaving.{Behaves};
 ghost use Rattle.ice_run.specs.Causes.{FormatCause};
-ghost use Rattle.ice_run.specs.Clauses.{Starts, Ends};
+ghost use Rattle.ice_volume.specs.Sessions.{Starts};
+ghost use Rattle.ice_volume.specs.Volumes.{StandsFor};
+ghost use Rattle.ice_run.specs.Causes.{GoesOn, LoopCause};
+ghost use Rattle.ice_run.specs.Clauses.{Ends};
+ghost use Rattle.ice_run.specs.Servings.{Concluded};
+ghost use Rattle.ice_run.specs.Sessions.{IsReady};
 ghost use Rattle.ice_run.specs.Crashes.{CrashLeaves, DamageLeaves};
 ghost use Rattle.ice_run.specs.Forms.{request_of, Formats, Runs};
 ghost use Rattle.ice_run.specs.Scripts.{script_lines};
@@ -18,11 +23,10 @@ ghost use Rattle.ice_run.specs.Tops.{FormatsImage};
 use crate::format::format;
 use crate::serve::serve;
 use crate::session::Session;
-use crate::volume::Volume;
 use crate::words::{Form, read_form};
 use ice_base::{Disk, Host, Status, Words};
 use ice_layout::{Super, total};
-use ice_system::{System, TablesFault};
+use ice_volume::{AttachFault, Volume};
 use std::alloc::Global;
 
 /// Makes the fresh image where the disk is large enough.
@@ -47,6 +51,29 @@ fn format_image<D: Disk>(disk: &mut D, sup: &Super) -> Status
     }
 }
 
+/// Answers the script, and unmounts every cube where it came to its end.
+fn serve_and_finish<H: Host>(
+    host: &mut H,
+    volume: &mut Volume,
+    session: &mut Session,
+) -> Status
+    requires { IsReady volume.old (H.state host.old) session.old.reader }
+    // The disk is the same one, and no count of faults falls; why the session ended.
+    ensures on { GoesOn (H.state host.old) (H.state host.new) }
+    ensures cause { (result ≡ Status.Done) ⊎ LoopCause result (H.state host.old) (H.state host.new) }
+    // From the world that the volume and the disk stand for, how the session ended.
+    ensures concluded { (w : World) → StandsFor volume.old (H.state host.old) w → session.old.reader.text ≡ []
+        → Concluded H.state H.left w host.old result host.new }
+{
+    match serve(host, volume, session) {
+        Status::Done => match volume.finish(host) {
+            Ok(()) => Status::Done,
+            Err(_) => Status::Disk,
+        },
+        status => status,
+    }
+}
+
 /// Opens the volume and answers the script.
 fn open_and_serve<H: Host>(alloc: Global, host: &mut H, session: &mut Session) -> Status
     requires text { session.old.reader.text ≡ [] }
@@ -54,20 +81,20 @@ fn open_and_serve<H: Host>(alloc: Global, host: &mut H, session: &mut Session) -
     // On any host, whatever its image is.
     ensures behaves { Behaves result (H.state host.old) (H.state host.new) }
     ensures memory { result ≡ Status.Memory → host.new ≡ host.old }
+    ensures no_block { (H.state host.old).size ≡ 0 → ((result ≡ Status.Small) ⊎ (result ≡ Status.Memory)) × (host.new ≡ host.old) }
     // From each world that the image opens: how the session ends, and what each crash leaves.
     ensures ends { (w : World) → Starts (H.state host.old) w → Ends result w (H.state host.old) (H.state host.new) }
     ensures crash { (w : World) → Starts (H.state host.old) w
         → LeavesOnly H.left host.old host.new (CrashLeaves (H.state host.old).streams.aside w (script_lines (H.state host.old).streams.intake)) }
 {
-    let system = match System::attach(alloc, host) {
-        Ok(system) => system,
-        Err(TablesFault::Small) => return Status::Small,
-        Err(TablesFault::Layout(_)) => return Status::Volume,
-        Err(TablesFault::Disk) => return Status::Disk,
-        Err(TablesFault::Memory) => return Status::Memory,
+    let mut volume = match Volume::attach(alloc, host) {
+        Ok(volume) => volume,
+        Err(AttachFault::Small) => return Status::Small,
+        Err(AttachFault::Layout(_)) => return Status::Volume,
+        Err(AttachFault::Disk) => return Status::Disk,
+        Err(AttachFault::Memory) => return Status::Memory,
     };
-    let mut volume = Volume { system };
-    serve(host, &mut volume, session)
+    serve_and_finish(host, &mut volume, session)
 }
 
 /// Makes room for a session, and runs it.
@@ -75,6 +102,7 @@ fn run_session<H: Host>(alloc: Global, host: &mut H) -> Status
     // On any host, whatever its image is.
     ensures behaves { Behaves result (H.state host.old) (H.state host.new) }
     ensures memory { result ≡ Status.Memory → host.new ≡ host.old }
+    ensures no_block { (H.state host.old).size ≡ 0 → ((result ≡ Status.Small) ⊎ (result ≡ Status.Memory)) × (host.new ≡ host.old) }
     // From each world that the image opens: how the session ends, and what each crash leaves.
     ensures ends { (w : World) → Starts (H.state host.old) w → Ends result w (H.state host.old) (H.state host.new) }
     ensures crash { (w : World) → Starts (H.state host.old) w → (crashed : Image) (out : List ℕ)
@@ -105,6 +133,8 @@ pub fn run<H: Host>(alloc: Global, words: &Words, host: &mut H) -> Status
         → FormatsImage H.state H.left sup result host.old host.new }
     // A session on any image.
     ensures behaves { (image : List ℕ) → request_of words.now ≡ Some (Runs image) → Behaves result (H.state host.old) (H.state host.new) }
+    ensures no_block { (image : List ℕ) → request_of words.now ≡ Some (Runs image) → (H.state host.old).size ≡ 0
+        → ((result ≡ Status.Small) ⊎ (result ≡ Status.Memory)) × (host.new ≡ host.old) }
     // A session from each world that the image opens: how it ends, what each crash since its start leaves,
     // and what is left where the lot of any one cube was damaged then.
     ensures ends { (image : List ℕ) (w : World) → request_of words.now ≡ Some (Runs image)

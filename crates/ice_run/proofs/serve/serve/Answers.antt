@@ -8,7 +8,7 @@ loop-count-init g c = record {
   on = goes_refl (g.H.Disk.state c.args.host.now);
   limit = omega arith;
   ready = c.requires;
-  fed = λ w stands empty. fed_none g.H.Disk.state g.H.Disk.left w c.args.host.now c.args.volume.now.system c.args.session.now.reader stands empty;
+  fed = λ w stands empty. fed_none g.H.Disk.state g.H.Disk.left w c.args.host.now c.args.volume.now c.args.session.now.reader stands empty;
 }
 
 pub returns-in-Ok-close-clause-served : goal.returns-in-Ok-close-clause-served

@@ -1,10 +1,10 @@
-use Rattle.std.proofs.Common.{◌≡◌, inl, refl, subst, arith}
+use Rattle.std.proofs.Common.{◌≡◌, ⊎_elim, inl, refl, subst, arith}
 use Rattle.ice_base.specs.Disk.{DiskState, Rose}
 use Rattle.ice_system.specs.Attaching.{RefusesDisk}
 use Rattle.ice_system.specs.declared.fault.TablesFault.{TablesFault}
 use Rattle.ice_system.specs.declared.fault.TablesFault.TheVariants as faults
 use Rattle.ice_base.specs.declared.status.Status.TheVariants.{Disk, Memory}
-use Rattle.ice_run.proofs.Attaching.{attach_leaves, attach_stands, not_short, not_refused}
+use Rattle.ice_volume.specs.Sessions.{IsOfHost}
 use Rattle.ice_run.proofs.Whole.{ends_silent, ends_served, crash_opened, crash_served}
 use Rattle.ice_run.proofs.top.open_and_serve.Goals as goal
 
@@ -17,43 +17,35 @@ returns-in-Err-Disk-clause-ends g c = λ w starts.
     (rose_of _ _ _ c.in-Err-Disk.field-0-is c.in-Err-Disk.ensures.refused) (λ quiet. absurd (quiet.disk (rose_of _ _ _ c.in-Err-Disk.field-0-is c.in-Err-Disk.ensures.refused)))
 
 pub returns-in-Err-Disk-clause-crash : goal.returns-in-Err-Disk-clause-crash
-returns-in-Err-Disk-clause-crash g c = λ w starts. let old = c.args.host.now in let mid = c.attach.new.disk in
-    crash_opened g.H.Disk.state g.H.Disk.left w old mid (attach_leaves g.H.Disk.state g.H.Disk.left w old mid (λ told. g.met.H.Disk.whole old told) starts c.attach.ensures.within c.attach.ensures.crash)
+returns-in-Err-Disk-clause-crash g c = λ w starts. crash_opened g.H.Disk.state g.H.Disk.left w c.args.host.now c.attach.new.disk (c.attach.ensures.leaves w starts)
 
 pub returns-in-Err-Memory-clause-ends : goal.returns-in-Err-Memory-clause-ends
 returns-in-Err-Memory-clause-ends g c = λ w starts. let faults = c.attach.ensures.within.faults in
     ends_silent w (g.H.Disk.state c.args.host.now) (g.H.Disk.state c.attach.new.disk) starts c.attach.ensures.within.streams Memory (refl, refl, refl) (λ is. absurd (cc is)) (omega (arith, faults)) (λ quiet. tt)
 
 pub returns-in-Err-Memory-clause-crash : goal.returns-in-Err-Memory-clause-crash
-returns-in-Err-Memory-clause-crash g c = λ w starts. let old = c.args.host.now in let mid = c.attach.new.disk in
-    crash_opened g.H.Disk.state g.H.Disk.left w old mid (attach_leaves g.H.Disk.state g.H.Disk.left w old mid (λ told. g.met.H.Disk.whole old told) starts c.attach.ensures.within c.attach.ensures.crash)
+returns-in-Err-Memory-clause-crash g c = λ w starts. crash_opened g.H.Disk.state g.H.Disk.left w c.args.host.now c.attach.new.disk (c.attach.ensures.leaves w starts)
 
 pub returns-in-Err-Small-clause-ends : goal.returns-in-Err-Small-clause-ends
-returns-in-Err-Small-clause-ends g c = λ w starts. let old = c.args.host.now in let state = g.H.Disk.state in
-    absurd (not_short (state old) w (λ told. g.met.H.Disk.whole old told) starts (subst (λ f. RefusesDisk f (state old) (state c.attach.new.disk)) c.in-Err-Small.field-0-is c.in-Err-Small.ensures.refused))
+returns-in-Err-Small-clause-ends g c = λ w starts. ⊎_elim (λ is. absurd (cc is)) (λ is. absurd (cc is)) (subst IsOfHost c.in-Err-Small.field-0-is (c.in-Err-Small.ensures.host w starts))
 
 pub returns-in-Err-Small-clause-crash : goal.returns-in-Err-Small-clause-crash
-returns-in-Err-Small-clause-crash g c = λ w starts. let old = c.args.host.now in let mid = c.attach.new.disk in
-    crash_opened g.H.Disk.state g.H.Disk.left w old mid (attach_leaves g.H.Disk.state g.H.Disk.left w old mid (λ told. g.met.H.Disk.whole old told) starts c.attach.ensures.within c.attach.ensures.crash)
+returns-in-Err-Small-clause-crash g c = λ w starts. crash_opened g.H.Disk.state g.H.Disk.left w c.args.host.now c.attach.new.disk (c.attach.ensures.leaves w starts)
 
 pub returns-in-Err-Layout-clause-ends : goal.returns-in-Err-Layout-clause-ends
-returns-in-Err-Layout-clause-ends g c = λ w starts. let old = c.args.host.now in let state = g.H.Disk.state in
-    absurd (not_refused (state old) w (λ told. g.met.H.Disk.whole old told) starts _ (subst (λ f. RefusesDisk f (state old) (state c.attach.new.disk)) c.in-Err-Layout.field-0-is c.in-Err-Layout.ensures.refused))
+returns-in-Err-Layout-clause-ends g c = λ w starts. ⊎_elim (λ is. absurd (cc is)) (λ is. absurd (cc is)) (subst IsOfHost c.in-Err-Layout.field-0-is (c.in-Err-Layout.ensures.host w starts))
 
 pub returns-in-Err-Layout-clause-crash : goal.returns-in-Err-Layout-clause-crash
-returns-in-Err-Layout-clause-crash g c = λ w starts. let old = c.args.host.now in let mid = c.attach.new.disk in
-    crash_opened g.H.Disk.state g.H.Disk.left w old mid (attach_leaves g.H.Disk.state g.H.Disk.left w old mid (λ told. g.met.H.Disk.whole old told) starts c.attach.ensures.within c.attach.ensures.crash)
+returns-in-Err-Layout-clause-crash g c = λ w starts. crash_opened g.H.Disk.state g.H.Disk.left w c.args.host.now c.attach.new.disk (c.attach.ensures.leaves w starts)
 
 pub returns-clause-ends : goal.returns-clause-ends
 returns-clause-ends g c = λ w starts.
-    let state = g.H.Disk.state in let left = g.H.Disk.left in let old = c.args.host.now in let mid = c.attach.new.disk in let v = c.in-Ok.system in
-    let stands = attach_stands state left w old mid (λ told. g.met.H.Disk.whole old told) starts c.attach.ensures.within v (c.in-Ok.ensures.attaches starts.settled.told) c.in-Ok.ensures.ready in
-    ends_served state left w old mid c.serve.new.host v c.serve.new.volume.system starts c.attach.ensures.within.streams c.attach.ensures.within.faults c.serve.ensures.on c.serve.result c.serve.ensures.cause
-    (c.serve.ensures.served w stands c.requires.text)
+    let state = g.H.Disk.state in let left = g.H.Disk.left in
+    ends_served state left w c.args.host.now c.attach.new.disk c.serve_and_finish.new.host starts c.attach.ensures.within.streams c.attach.ensures.within.faults c.serve_and_finish.ensures.on c.serve_and_finish.result
+    c.serve_and_finish.ensures.cause (c.serve_and_finish.ensures.concluded w (c.in-Ok.ensures.opens w starts) c.requires.text)
 
 pub returns-clause-crash : goal.returns-clause-crash
 returns-clause-crash g c = λ w starts.
-    let state = g.H.Disk.state in let left = g.H.Disk.left in let old = c.args.host.now in let mid = c.attach.new.disk in let v = c.in-Ok.system in
-    let stands = attach_stands state left w old mid (λ told. g.met.H.Disk.whole old told) starts c.attach.ensures.within v (c.in-Ok.ensures.attaches starts.settled.told) c.in-Ok.ensures.ready in
-    crash_served state left w old mid c.serve.new.host v c.serve.new.volume.system starts c.attach.ensures.within.streams c.attach.ensures.within.faults c.serve.result
-    (c.serve.ensures.served w stands c.requires.text) (attach_leaves state left w old mid (λ told. g.met.H.Disk.whole old told) starts c.attach.ensures.within c.attach.ensures.crash)
+    let state = g.H.Disk.state in let left = g.H.Disk.left in
+    crash_served state left w c.args.host.now c.attach.new.disk c.serve_and_finish.new.host starts c.attach.ensures.within.streams c.attach.ensures.within.faults c.serve_and_finish.result
+    (c.serve_and_finish.ensures.concluded w (c.in-Ok.ensures.opens w starts) c.requires.text) (c.attach.ensures.leaves w starts)
