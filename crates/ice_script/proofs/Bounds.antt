@@ -43,6 +43,7 @@ groups_some token n h = by (number_of token) refl h
     other false m e i =
         let same : m ≡ n = cc in
         (grind (arith, nat_tests), same)
+
     by : (o : Option ℕ) → number_of token ≡ o → some_groups o ≡ Some n → (1 ≤ n) × (n < 2 ^ 32)
     by None e i = cc
     by (Some m) e i =
@@ -58,6 +59,7 @@ cube_path_short token path h = by (path_in token) h
     other false p e i =
         let same : p ≡ path = cc in
         subst (λ q. length (text_of q) ≤ 199) same (few (length (text_of p)) longest_cube_path e)
+
     by : (o : Option (List (List ℕ))) → short_path o ≡ Some path → length (text_of path) ≤ 199
     by None i = cc
     by (Some p) i = other (nat_lt longest_cube_path (length (text_of p))) p refl i
@@ -77,13 +79,13 @@ cubes_keeps (token ∷ args) = tt
 create_keeps : (args : List (List ℕ)) → Keeps (create_of args)
 create_keeps args =
     or_bad_keeps (two_tokens args) Args _ (λ t is. or_bad_keeps (groups_of t.1) Number _ (λ groups some. or_bad_keeps (cube_path_in t.0) Path _ (λ path short.
-        let p = groups_some t.1 groups some in
-        (p.0, p.1, cube_path_short t.0 path short))))
+    let p = groups_some t.1 groups some in
+    (p.0, p.1, cube_path_short t.0 path short))))
 
 grow_keeps : (args : List (List ℕ)) → Keeps (grow_of args)
 grow_keeps args =
     or_bad_keeps (two_tokens args) Args _ (λ t is. or_bad_keeps (groups_of t.1) Number _ (λ groups some. or_bad_keeps (path_in t.0) Path _ (λ path is.
-        groups_some t.1 groups some)))
+    groups_some t.1 groups some)))
 
 trunc_keeps : (args : List (List ℕ)) → Keeps (trunc_of args)
 trunc_keeps args =
@@ -96,14 +98,14 @@ rename_keeps args =
 write_keeps : (args : List (List ℕ)) → Keeps (write_of args)
 write_keeps args =
     or_bad_keeps (three_tokens args) Args _ (λ t is. or_bad_keeps (number_of t.1) Number _ (λ at small. or_bad_keeps (bytes_of t.2) Hex _ (λ bytes is.
-        if_keeps (nat_lt most_bytes (length bytes)) (Bad Long) _ tt (λ short. or_bad_keeps (path_in t.0) Path _ (λ path is.
-            (number_small t.1 at small, few (length bytes) most_bytes short))))))
+    if_keeps (nat_lt most_bytes (length bytes)) (Bad Long) _ tt (λ short. or_bad_keeps (path_in t.0) Path _ (λ path is.
+    (number_small t.1 at small, few (length bytes) most_bytes short))))))
 
 read_keeps : (args : List (List ℕ)) → Keeps (read_of args)
 read_keeps args =
     or_bad_keeps (three_tokens args) Args _ (λ t is. or_bad_keeps (number_of t.1) Number _ (λ at small. or_bad_keeps (number_of t.2) Number _ (λ len is.
-        if_keeps (nat_lt most_bytes len) (Bad Long) _ tt (λ short. or_bad_keeps (path_in t.0) Path _ (λ path is.
-            (number_small t.1 at small, few len most_bytes short))))))
+    if_keeps (nat_lt most_bytes len) (Bad Long) _ tt (λ short. or_bad_keeps (path_in t.0) Path _ (λ path is.
+    (number_small t.1 at small, few len most_bytes short))))))
 
 -- each word before one path
 abbrev AllFree : Option (List (List ℕ) → Request) → Type 0

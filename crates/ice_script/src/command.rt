@@ -5,7 +5,10 @@ ghost use Rattle.tree_spec.specs.Lines.{asked};
 ghost use Rattle.ice_script.specs.Grammar.{tokens, words_of, word_of, path_word, path_of, create_of, grow_of, trunc_of, rename_of, write_of, read_of, cubes_of};
 ghost use Rattle.ice_script.specs.Reading.{tokens_behind, path_request, parsed_asked, Answers, AnswersFrom, IsShortBehind, IsWithin};
 
-use crate::token::{all_tokens, any_path, both_tokens, cube_path, only_token, read_groups, read_number, split_token, unhex};
+use crate::token::{
+    all_tokens, any_path, both_tokens, cube_path, only_token, read_groups, read_number,
+    split_token, unhex,
+};
 use tree_spec::{Command, Path, Refusal};
 
 const MOST_BYTES: usize = 16384;

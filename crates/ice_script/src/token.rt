@@ -18,8 +18,8 @@ fn next_blank(text: &[u8]) -> Option<usize>
     text.iter().position(|byte| *byte == b' ')
 }
 
-/// The first token, and what stands behind the blank after it.
-pub(crate) fn split_token(text: &[u8]) -> (&[u8], Option<&[u8]>)
+/// The first token of a text, and what stands behind the blank after it, if there is one.
+pub fn split_token(text: &[u8]) -> (&[u8], Option<&[u8]>)
     ensures tokens { tokens text.now ≡ result.0.now ∷ tokens_behind result.1 }
     ensures short { length result.0.now ≤ length text.now }
     ensures shorter { IfSome result.1 (λ rest. length rest.now ≤ length text.now) }
