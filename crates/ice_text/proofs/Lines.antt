@@ -1,6 +1,6 @@
 -- The tokens of closing lines.
-use Rattle.std.proofs.Common.{◌≡◌, ℕ, Bool, true, false, List, [], ◌∷◌, cond, refl}
-use Rattle.std.specs.Prelude.{Option, Some, None}
+use Rattle.std.proofs.Common.{◌≡◌, ℕ, true, false, List, [], ◌∷◌, cond, refl}
+use Rattle.std.specs.Prelude.{None}
 use Rattle.std.specs.List.{slice_split, onto_first}
 use Rattle.ice_script.specs.Grammar.{tokens, is_blank}
 use Rattle.ice_text.specs.Closing.{is_value, refusal_of}

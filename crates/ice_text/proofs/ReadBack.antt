@@ -1,7 +1,6 @@
 -- Closing lines are read back as what was written.
-use Rattle.std.proofs.Common.{◌≡◌, ◌∙◌, ◌⊎◌, ℕ, zero, suc, ◌+◌, ◌-◌, ◌*◌, ◌/◌, ◌%◌, ◌^◌, ◌<◌, ◌≤◌, Bool, true, false, List, [], ◌∷◌, ◌++◌, length, refl, sym, ap, arith, if◌then◌else◌, ◌==◌, append_assoc}
-use Rattle.std.specs.Prelude as result
-use Rattle.std.specs.Prelude.{Option, Some, None, not, ◌&&◌, ◌||◌, nat_le, nat_lt, codes, decimal, slice_index, is_some, All, get_or}
+use Rattle.std.proofs.Common.{◌≡◌, ◌∙◌, ℕ, zero, suc, ◌+◌, ◌-◌, ◌*◌, ◌/◌, ◌%◌, ◌^◌, ◌<◌, ◌≤◌, Bool, true, false, List, [], ◌∷◌, ◌++◌, length, refl, ap, arith, if◌then◌else◌, ◌==◌, append_assoc}
+use Rattle.std.specs.Prelude.{Some, None, not, ◌&&◌, ◌||◌, nat_le, nat_lt, codes, decimal, slice_index, is_some, All, get_or}
 use Rattle.std.specs.List.{fold, list_all}
 use Rattle.std.specs.Str.{bytes_eq}
 use Rattle.std.specs.Char.{is_ascii_digit}
@@ -14,13 +13,11 @@ use Rattle.std.proofs.lemmas.Str.Parse.{IsNumeralModel, numerals_by_fold}
 use Rattle.std.proofs.Common.{rules}
 use Rattle.hex.specs.Hex.{IsBytes, encode_with, lower_digits}
 use Rattle.hex.proofs.HexLemmas.{length-encode_with}
-use Rattle.tree_spec.specs.Replies.{Accepted, Plain, Number, Bytes, Dir, File, Listed, Checked, refused_of, refusal_number}
-use Rattle.tree_spec.specs.declared.reply.Refusal.{Refusal}
+use Rattle.tree_spec.specs.Replies.{Plain, Number, Bytes, Dir, File, Listed, Checked}
 use Rattle.tree_spec.specs.declared.reply.Refusal.TheVariants as code
 use Rattle.ice_script.specs.Grammar.{tokens, is_blank, value_of}
-use Rattle.ice_text.specs.Text.{closing_line, hex_token}
-use Rattle.ice_text.specs.Closing.{closing_of, closing_in, is_plain_number, count_of, is_count, is_lower_digit, is_lower_hex, is_value, is_small, refusal_of, FitsLine, FitsByte, ValuesReadBack, RefusalsReadBack}
-use Rattle.ice_text.specs.declared.closing.Closing.{Closing}
+use Rattle.ice_text.specs.Text.{hex_token}
+use Rattle.ice_text.specs.Closing.{closing_of, closing_in, is_plain_number, count_of, is_count, is_lower_digit, is_lower_hex, is_value, is_small, refusal_of, ValuesReadBack, RefusalsReadBack}
 use Rattle.ice_text.specs.declared.closing.Closing.TheVariants.{Ok, No}
 
 -- ---- words without a blank
@@ -57,13 +54,14 @@ four : (a b c d e : Bool) → a ≡ false → b ≡ true → d ≡ false → e �
 four a b true d e p q r s = rw (p, q, s) refl
 four a b false d e p q r s = rw (p, q, r, s) refl
 
+differs : (x y : ℕ) → y < x → (x == y) ≡ false
+differs x y h = grind (arith, nat_tests)
+
 plain : (t : List ℕ) → 0 < length t → length t ≤ 20 → 48 < slice_index t 0 → list_all is_ascii_digit t ≡ true → is_plain_number t ≡ true
 plain t some few first digits =
     four (length t == 0) (nat_le (length t) 20) (length t == 1) (slice_index t 0 == 48) (list_all is_ascii_digit t)
-    (other (length t) 0 some) (most (length t) 20 few) (other (slice_index t 0) 48 first) digits
+    (differs (length t) 0 some) (most (length t) 20 few) (differs (slice_index t 0) 48 first) digits
   where
-    other : (x y : ℕ) → y < x → (x == y) ≡ false
-    other x y h = grind (arith, nat_tests)
     most : (x y : ℕ) → x ≤ y → nat_le x y ≡ true
     most x y h = grind (arith, nat_tests)
 
@@ -122,7 +120,10 @@ pairs t n len digits =
     or_true (bytes_eq t (codes "-")) _ (both (not (length t == 0)) _ (some (length t) n len) (both (length t % 2 == 0) _ (even (length t) n len) digits))
   where
     some : (k n : ℕ) → k ≡ 2 * suc n → not (k == 0) ≡ true
-    some k n h = rw h refl
+    some k n h =
+        let more : 0 < k = omega arith in
+        ap not (differs k 0 more)
+
     even : (k n : ℕ) → k ≡ 2 * suc n → (k % 2 == 0) ≡ true
     even k n h =
         let e : k % 2 ≡ 0 = omega arith in
@@ -179,8 +180,8 @@ values_read_back (Listed entries rows) h = number_reads (length entries + length
 values_read_back (Checked blocks nodes done) h =
     ap (λ ws. closing_of (codes "ok" ++ ws)) (checked_words (decimal blocks) (decimal nodes) (decimal done))
     ∙ ok_reads (decimal blocks ++ 32 ∷ (decimal nodes ++ 32 ∷ decimal done)) (decimal blocks ∷ decimal nodes ∷ decimal done ∷ [])
-      (three_tokens blocks nodes done h.0 h.1 h.2)
-      (both (is_count (decimal blocks)) _ (is_count-decimal blocks h.0) (both (is_count (decimal nodes)) _ (is_count-decimal nodes h.1) (is_count-decimal done h.2)))
+    (three_tokens blocks nodes done h.0 h.1 h.2)
+    (both (is_count (decimal blocks)) _ (is_count-decimal blocks h.0) (both (is_count (decimal nodes)) _ (is_count-decimal nodes h.1) (is_count-decimal done h.2)))
 
 damage_reads : (rule : ℕ) → rule < 2 ^ 8 → refusal_of (codes "Damaged" ∷ decimal rule ∷ []) ≡ Some 15
 damage_reads rule h = ap (λ o. if is_small o then Some 15 else None) (count_of-decimal rule (omega arith)) ∙ ap (λ b. if b then Some 15 else None) (below rule (2 ^ 8) h)

@@ -2,8 +2,8 @@
 #![tactic(auto)]
 
 mod closing;
-pub mod laws;
 mod out;
+pub mod read_back;
 mod reply;
 #[cfg(test)]
 mod tests;
