@@ -6,7 +6,7 @@ use Rattle.std.proofs.lemmas.Bool.Decides.{nat_tests}
 use Rattle.tree_spec.specs.Held.{most_bytes}
 use Rattle.tree_spec.specs.Names.{text_of}
 use Rattle.tree_spec.specs.Why.{Why, Word, Args, Number, Hex, Long, Path}
-use Rattle.tree_spec.specs.Lines.{Line, Bad, Asks, Request, Create, Delete, Grow, Offline, Online, Cubes, Mount, Unmount, Check, Mkdir, Make, Write, Read, Trunc, Remove, Rename, ListDir, Stat, Sync}
+use Rattle.tree_spec.specs.Lines.{Line, Bad, Asks, Request, Delete, Offline, Online, Mount, Unmount, Check, Mkdir, Make, Remove, ListDir, Stat, Sync}
 use Rattle.ice_script.specs.Bounds.{InBounds}
 use Rattle.ice_script.specs.Grammar.{line_of, words_of, word_of, path_word, path_of, cubes_of, create_of, grow_of, trunc_of, rename_of, write_of, read_of, one_token, two_tokens, three_tokens, number_of, is_number, value_of, groups_of, some_groups, short_path, cube_path_in, path_in, bytes_of, or_bad, tokens, longest_line, longest_cube_path}
 

@@ -1,6 +1,6 @@
 -- How a line is refused.
 use Rattle.std.proofs.Common.{◌≡◌, refl, sym, ap}
-use Rattle.std.specs.Prelude.{Option, Some, None, unwrap_or}
+use Rattle.std.specs.Prelude.{Some, unwrap_or}
 use Rattle.tree_spec.specs.Lines.{Line, Bad, Asks}
 use Rattle.tree_spec.specs.Replies.{Fault, refused_of}
 use Rattle.tree_spec.specs.declared.reply.Refusal.{Refusal}

@@ -60,9 +60,11 @@ module _ {A : Type 0} (have : List (List ℕ) → Option A) (lacks : (token : Li
 pub one_more : (a text : List ℕ) → one_token (a ∷ tokens text) ≡ None
 one_more a text = some_token (λ ts. one_token (a ∷ ts)) (λ token more. refl) text
 
+-- and so is one behind two
 pub two_more : (a b text : List ℕ) → two_tokens (a ∷ b ∷ tokens text) ≡ None
 two_more a b text = some_token (λ ts. two_tokens (a ∷ b ∷ ts)) (λ token more. refl) text
 
+-- and so is one behind three
 pub three_more : (a b c text : List ℕ) → three_tokens (a ∷ b ∷ c ∷ tokens text) ≡ None
 three_more a b c text = some_token (λ ts. three_tokens (a ∷ b ∷ c ∷ ts)) (λ token more. refl) text
 

@@ -1,5 +1,5 @@
 -- What a reader of lines holds, and what its parts answer.
-use Rattle.std.specs.Prelude.{◌≡◌, ◌≤◌, ◌*◌, ℕ, List, [], Bool, Option, None, Some, Result, Ok, Err, length, take, ⊤}
+use Rattle.std.specs.Prelude.{◌≡◌, ◌≤◌, ℕ, List, [], Bool, Option, None, Some, Result, Ok, Err, length, take, ⊤}
 use denote.Bor.{Bor}
 use Rattle.tree_spec.specs.Why.{Why}
 use Rattle.tree_spec.specs.Replies.{Refused, Because, refused_of}

@@ -37,6 +37,7 @@ pub(crate) enum Parsed<'a> {
     Write { path: Path, at: u32, count: usize },
 }
 
+/// Whether the token is this word.
 fn is_word(token: &[u8], word: &[u8]) -> bool
     ensures { result ≡ bytes_eq token.now word.now }
 {

@@ -75,7 +75,13 @@ impl LineReader {
         !self.ended && !self.line.is_empty()
     }
 
-    /// The command of the line, or its refusal, the first that applies to the whole line: Long, more than 40,000 bytes; Word, the first token is no command word; Args, another number of further tokens than the word has; Number, a token that should be a number isn't one, or a number of groups is 0; Hex, the token of bytes isn't one; Long, more than 16,384 bytes to write or to read; Path, a token that should be a path isn't one, or a new cube's path has more than 199 bytes. The bytes of a command stay in the reader. What the reader holds afterwards is left open until `clear`.
+    /// The command of the line, or its refusal, the first that applies to the whole line: Long,
+    /// more than 40,000 bytes; Word, the first token is no command word; Args, another number of
+    /// further tokens than the word has; Number, a token that should be a number isn't one, or a
+    /// number of groups is 0; Hex, the token of bytes isn't one; Long, more than 16,384 bytes to
+    /// write or to read; Path, a token that should be a path isn't one, or a new cube's path has
+    /// more than 199 bytes. The bytes of a command stay in the reader. What the reader holds
+    /// afterwards is left open until `clear`.
     pub fn command(&mut self) -> Result<Command<'_>, Refusal>
         ensures asks { IfOk result (λ c. line_of self.old.text ≡ Asks (asked c)) }
         ensures bounds { IfOk result (λ c. InBounds (asked c)) }

@@ -11,6 +11,7 @@ const DIGITS: usize = 10;
 
 const CUBE_PATH: usize = 199;
 
+/// Where the first blank stands.
 fn next_blank(text: &[u8]) -> Option<usize>
     ensures first { result ≡ position is_blank text.now }
     ensures bound { IfSome result (λ i. i < length text.now) }

@@ -169,6 +169,7 @@ checked_words : (a b c : List ℕ) → codes " " ++ a ++ codes " " ++ b ++ codes
 checked_words a b c = ap (λ t. 32 ∷ t)
     (append_assoc (a ++ codes " " ++ b) (codes " ") c ∙ append_assoc (a ++ codes " ") b (32 ∷ c) ∙ append_assoc a (codes " ") (b ++ 32 ∷ c))
 
+-- the closing line of each accepted reply is read back
 pub values_read_back : ValuesReadBack
 unfolding tokens
 values_read_back Plain h = refl
@@ -186,6 +187,7 @@ values_read_back (Checked blocks nodes done) h =
 damage_reads : (rule : ℕ) → rule < 2 ^ 8 → refusal_of (codes "Damaged" ∷ decimal rule ∷ []) ≡ Some 15
 damage_reads rule h = ap (λ o. if is_small o then Some 15 else None) (count_of-decimal rule (omega arith)) ∙ ap (λ b. if b then Some 15 else None) (below rule (2 ^ 8) h)
 
+-- the closing line of each refusal is read back
 pub refusals_read_back : RefusalsReadBack
 unfolding tokens
 refusals_read_back (code.Damaged rule) h =

@@ -24,6 +24,7 @@ is_plain_number token = not (length token == 0) && nat_le (length token) 20
 abbrev pub count_of : List ℕ → Option ℕ
 count_of token = if is_plain_number token && nat_lt (value_of token) (2 ^ 64) then Some (value_of token) else None
 
+-- whether it is such a number
 abbrev pub is_count : List ℕ → Bool
 is_count token = is_some (count_of token)
 

@@ -33,18 +33,21 @@ fn read_count(token: &[u8]) -> Option<u64>
     u64::try_from(value).ok()
 }
 
+/// Whether the token is such a number.
 fn count(token: &[u8]) -> bool
     ensures { result ≡ is_count token.now }
 {
     read_count(token).is_some()
 }
 
+/// `0` to `9`, and `a` to `f`.
 fn lower_digit(digit: u8) -> bool
     ensures { result ≡ is_lower_digit digit }
 {
     (digit >= b'0' && digit <= b'9') || (digit >= b'a' && digit <= b'f')
 }
 
+/// Whether each byte is such a digit.
 fn all_lower_digits(token: &[u8]) -> bool
     ensures { result ≡ list_all is_lower_digit token.now }
 {
@@ -89,6 +92,7 @@ fn value(rest: Option<&[u8]>) -> bool
     }
 }
 
+/// Whether the token is this name.
 fn is_name(token: &[u8], name: &[u8]) -> bool
     ensures { result ≡ bytes_eq token.now name.now }
 {

@@ -153,7 +153,7 @@ fn cubes_are_listed_row_by_row(rt: HostRuntime) -> Result<(), Fail> {
 
 #[test]
 fn closing_lines_are_read(rt: HostRuntime) {
-    let table: [(&[u8], Option<Closing>); 47] = [
+    let table: [(&[u8], Option<Closing>); 51] = [
         (b"ok", Some(Closing::Ok)),
         (b"ok 5", Some(Closing::Ok)),
         (b"ok 0", Some(Closing::Ok)),
@@ -161,12 +161,14 @@ fn closing_lines_are_read(rt: HostRuntime) {
         (b"ok 3 3 4", Some(Closing::Ok)),
         (b"ok -", Some(Closing::Ok)),
         (b"ok 00ff", Some(Closing::Ok)),
-        (b"ok 00", Some(Closing::Ok)),
+        (b"ok 01", Some(Closing::Ok)),
+        (b"ok 18446744073709551616", Some(Closing::Ok)),
         (b"ok dir 3", Some(Closing::Ok)),
         (b"ok file 0", Some(Closing::Ok)),
         (b"no NameLong", Some(Closing::No(1))),
         (b"no Spent", Some(Closing::No(14))),
         (b"no Damaged 15", Some(Closing::No(15))),
+        (b"no Damaged 255", Some(Closing::No(15))),
         (b"no Fault", Some(Closing::No(16))),
         (b"no Path", Some(Closing::No(23))),
         (b"no NoCube", Some(Closing::No(24))),
@@ -177,9 +179,11 @@ fn closing_lines_are_read(rt: HostRuntime) {
         (b"ok ", None),
         (b"ok  1", None),
         (b" ok", None),
-        (b"ok 01", None),
-        (b"ok 18446744073709551616", None),
-        (b"ok 000000000000000000000000000000000000001", None),
+        (b"ok 001", None),
+        (b"ok 184467440737095516160", None),
+        (b"ok dir 01", None),
+        (b"ok file 18446744073709551616", None),
+        (b"ok 3 03 4", None),
         (b"ok 00FF", None),
         (b"ok 00f", None),
         (b"ok 0g", None),
