@@ -1,5 +1,5 @@
 -- What a line that is read keeps to.
-use Rattle.std.specs.Prelude.{ℕ, ◌≤◌, ◌<◌, ◌^◌, List, length, ⊤}
+use Rattle.std.specs.Prelude.{◌≤◌, ◌<◌, ◌^◌, length, ⊤}
 use Rattle.tree_spec.specs.Held.{most_bytes}
 use Rattle.tree_spec.specs.Names.{text_of}
 use Rattle.tree_spec.specs.Lines.{Request, Create, Delete, Grow, Offline, Online, Cubes, Mount, Unmount, Check, Mkdir, Make, Write, Read, Trunc, Remove, Rename, ListDir, Stat, Sync}
