@@ -31,6 +31,7 @@ impl Cube {
         ensures own { (c : Record) → HoldsRecord self.old (D.state disk.old) c
             → AnswersOwn self.new (D.state disk.new) c Check (meant_check result) }
     {
+        let _ = &self.lot;
         Err(CheckFault::Disk)
     }
 }

@@ -64,6 +64,7 @@ impl Cube {
         ensures crash { (f : Form) (mode : Mode) (h : History) → Holds f mode h self.old (D.state disk.old)
             → CrashStep D.state D.left (extent self.old.lot) (HasHistory self.old.lot f mode h) disk.old disk.new }
     {
+        let _ = &self.lot;
         Err(tree_spec::Refusal::Stopped)
     }
 }

@@ -6,7 +6,7 @@ use Rattle.std.proofs.lemmas.Grind.{common_steps}
 use Rattle.std.proofs.lemmas.Bool.Decides.{nat_tests}
 use Rattle.tree_spec.specs.Why.{Long}
 use Rattle.tree_spec.specs.Lines.{Bad}
-use Rattle.ice_script.specs.Grammar.{line_of, longest_line}
+use Rattle.ice_script.specs.Grammar.{line_of, words_of, tokens, longest_line}
 
 -- a line that is full stays as it is
 kept_full : (xs : List ℕ) (b n : ℕ) → length xs ≡ n → xs ≡ take n (xs ++ b ∷ [])
@@ -50,6 +50,17 @@ is_short line h =
 
 kept_long : (line : List ℕ) → longest_line < length line → 40001 ≤ length (take 40001 line)
 kept_long line h = omega (arith, length-take 40001 line)
+
+-- a line that isn't too long says what its tokens say
+pub line_of-short : (line kept : List ℕ) (len : ℕ) → kept ≡ line → len ≡ length kept → len < 40001 → line_of line ≡ words_of (tokens kept)
+line_of-short line kept len same long less =
+    let few : length line < 40001 = omega (arith, ap length same) in
+    rw (not_long line few) (ap (λ t. words_of (tokens t)) (sym same))
+  where
+    not_long : (line : List ℕ) → length line < 40001 → nat_lt longest_line (length line) ≡ false
+    not_long line h =
+        let most : length line ≤ longest_line = omega arith in
+        grind (arith, nat_tests)
 
 -- the first 40,001 bytes say all that the line says
 pub line_of-take : (line : List ℕ) → line_of (take 40001 line) ≡ line_of line

@@ -1,4 +1,4 @@
+pub mod Bounds
 pub mod Kept
-pub mod Only
+mod Refused
 mod Tokens
-mod Words

@@ -1,3 +1,3 @@
+pub mod Bounds
 pub mod Grammar
 pub mod Reading
-pub mod Bounds

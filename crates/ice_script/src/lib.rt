@@ -8,4 +8,4 @@ mod tests;
 mod token;
 
 pub use reader::LineReader;
-pub use token::read_number;
+pub use token::{read_number, split_token};

@@ -2,9 +2,10 @@
 ghost use Rattle.std.specs.Prelude.{◌≡◌, ◌==◌, ◌&&◌, ◌++◌, ◌∷◌, [], IfOk, IfErr, take, false, if◌then◌else◌, not, length};
 ghost use Rattle.tree_spec.specs.Lines.{Asks, asked};
 ghost use Rattle.ice_script.specs.Grammar.{line_of};
+ghost use Rattle.ice_script.specs.Bounds.{InBounds};
 ghost use Rattle.ice_script.specs.Reading.{IsRefusedAs};
 
-use crate::command::parse;
+use crate::command::{lend, parse};
 use std::alloc::{AllocError, Global};
 use std::marker::Model;
 use tree_spec::{Command, Refusal};
@@ -12,22 +13,26 @@ use tree_spec::{Command, Refusal};
 // One byte more than the longest line, which says that a line is too long.
 const LINE_KEPT: usize = 40001;
 
-/// The line that is gathered: its first 40,001 bytes, and whether an LF ended it, so that it stands ready.
+// The bytes that two hex digits each make, where the longest line had nothing else.
+const BYTES_KEPT: usize = 20000;
+
+/// The line that is gathered: its first 40,001 bytes, and whether an LF ended it, so that it stands ready; and room for the bytes of a `write`.
 #[derive(Drop)]
 pub struct LineReader {
     line: Vec<u8>,
+    bytes: Vec<u8>,
     ended: bool,
 }
 
 impl Model for LineReader {
-    ghost use Rattle.std.specs.Prelude.{◌≤◌, vec_len, vec_capacity};
+    ghost use Rattle.std.specs.Prelude.{◌≡◌, ◌≤◌, vec_len, vec_capacity};
     ghost use Rattle.ice_script.specs.Reading.{Gathered};
 
     ghost Value = { Gathered };
 
     ghost view = { λ r. record { text = r.line.items; ended = r.ended } };
 
-    ghost invariant = { λ r. (vec_len r.line ≤ 40001) × (40001 ≤ vec_capacity r.line) };
+    ghost invariant = { λ r. (vec_len r.line ≤ 40001) × (40001 ≤ vec_capacity r.line) × (vec_len r.bytes ≡ 20000) };
 }
 
 impl LineReader {
@@ -37,7 +42,12 @@ impl LineReader {
         ensures state { IfOk result (λ r. r.ended ≡ false) }
     {
         let line = Vec::with_capacity(alloc, LINE_KEPT)?;
-        Ok(LineReader { line, ended: false })
+        let bytes = vec![in alloc; 0; BYTES_KEPT]?;
+        Ok(LineReader {
+            line,
+            bytes,
+            ended: false,
+        })
     }
 
     /// Whether the byte was the LF that ends the line, which then stands ready.
@@ -65,15 +75,25 @@ impl LineReader {
         !self.ended && !self.line.is_empty()
     }
 
-    /// The command of the line, or its refusal, the first that applies: Long, more than 40,000 bytes; Word, the first token is no command word; Args, another number of further tokens than the word has; Path, a token that should be a path isn't one. The bytes of a command stay in the reader. What the reader holds afterwards is left open until `clear`.
+    /// The command of the line, or its refusal, the first that applies to the whole line: Long,
+    /// more than 40,000 bytes; Word, the first token is no command word; Args, another number of
+    /// further tokens than the word has; Number, a token that should be a number isn't one, or a
+    /// number of groups is 0; Hex, the token of bytes isn't one; Long, more than 16,384 bytes to
+    /// write or to read; Path, a token that should be a path isn't one, or a new cube's path has
+    /// more than 199 bytes. The bytes of a command stay in the reader. What the reader holds
+    /// afterwards is left open until `clear`.
     pub fn command(&mut self) -> Result<Command<'_>, Refusal>
         ensures asks { IfOk result (λ c. line_of self.old.text ≡ Asks (asked c)) }
+        ensures bounds { IfOk result (λ c. InBounds (asked c)) }
         ensures refuses { IfErr result (λ e. IsRefusedAs (line_of self.old.text) e) }
     {
         if self.line.len() >= LINE_KEPT {
             return Err(Refusal::Long);
         }
-        parse(&self.line)
+        match parse(&self.line, &mut self.bytes) {
+            Ok(parsed) => Ok(lend(&self.bytes, parsed)),
+            Err(refusal) => Err(refusal),
+        }
     }
 
     /// Makes it ready for the next line.

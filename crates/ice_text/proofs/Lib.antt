@@ -1,5 +1,7 @@
 pub mod Closings
 mod Endings
 mod Laws
+mod Lines
+mod ReadBack
 mod Whole
 mod Items

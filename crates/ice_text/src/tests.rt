@@ -150,3 +150,63 @@ fn cubes_are_listed_row_by_row(rt: HostRuntime) -> Result<(), Fail> {
     assert_eq!(rt; out.bytes(), text.as_slice());
     Ok(())
 }
+
+#[test]
+fn closing_lines_are_read(rt: HostRuntime) {
+    let table: [(&[u8], Option<Closing>); 51] = [
+        (b"ok", Some(Closing::Ok)),
+        (b"ok 5", Some(Closing::Ok)),
+        (b"ok 0", Some(Closing::Ok)),
+        (b"ok 18446744073709551615", Some(Closing::Ok)),
+        (b"ok 3 3 4", Some(Closing::Ok)),
+        (b"ok -", Some(Closing::Ok)),
+        (b"ok 00ff", Some(Closing::Ok)),
+        (b"ok 01", Some(Closing::Ok)),
+        (b"ok 18446744073709551616", Some(Closing::Ok)),
+        (b"ok dir 3", Some(Closing::Ok)),
+        (b"ok file 0", Some(Closing::Ok)),
+        (b"no NameLong", Some(Closing::No(1))),
+        (b"no Spent", Some(Closing::No(14))),
+        (b"no Damaged 15", Some(Closing::No(15))),
+        (b"no Damaged 255", Some(Closing::No(15))),
+        (b"no Fault", Some(Closing::No(16))),
+        (b"no Path", Some(Closing::No(23))),
+        (b"no NoCube", Some(Closing::No(24))),
+        (b"no NoGroups", Some(Closing::No(33))),
+        (b"", None),
+        (b"dir a", None),
+        (b"okay", None),
+        (b"ok ", None),
+        (b"ok  1", None),
+        (b" ok", None),
+        (b"ok 001", None),
+        (b"ok 184467440737095516160", None),
+        (b"ok dir 01", None),
+        (b"ok file 18446744073709551616", None),
+        (b"ok 3 03 4", None),
+        (b"ok 00FF", None),
+        (b"ok 00f", None),
+        (b"ok 0g", None),
+        (b"ok --", None),
+        (b"ok 1 2", None),
+        (b"ok 1 2 ", None),
+        (b"ok 1 ff 3", None),
+        (b"ok 1 2 3 4", None),
+        (b"ok dir", None),
+        (b"ok dir ff", None),
+        (b"ok dir 1 2", None),
+        (b"ok directory 3", None),
+        (b"OK", None),
+        (b"ok\n", None),
+        (b"no", None),
+        (b"no ", None),
+        (b"no Thing", None),
+        (b"no Damaged", None),
+        (b"no Damaged 256", None),
+        (b"no Damaged 1 2", None),
+        (b"no Spent 1", None),
+    ];
+    for (line, closing) in table {
+        assert_eq!(rt; read_closing(line), closing, "{line:?}");
+    }
+}

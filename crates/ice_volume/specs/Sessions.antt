@@ -1,16 +1,19 @@
 -- The start and the end of a session.
-use Rattle.std.specs.Prelude.{◌≡◌, ◌⊎◌, ℕ, List}
-use Rattle.ice_base.specs.Disk.{DiskState, Everywhere}
+use Rattle.std.specs.Prelude.{◌≡◌, ◌⊎◌, ℕ, Bool, true, nat_lt, if◌then◌else◌, List, Option}
+use Rattle.ice_base.specs.Disk.{DiskState, Everywhere, Image}
+use Rattle.ice_base.specs.Lots.{LotView}
 use Rattle.ice_base.specs.Frames.{Settled}
 use Rattle.std.specs.Option.{option_map}
 use Rattle.tree_spec.specs.Records.{Cube, Content, Sound, settled}
-use Rattle.tree_spec.specs.World.{World}
+use Rattle.tree_spec.specs.World.{World, with_slot}
 use Rattle.tree_spec.specs.declared.reply.StateWord.{StateWord}
 use Rattle.tree_spec.specs.declared.reply.StateWord.TheVariants.{Mounted, Unmounted}
+use Rattle.ice_images.specs.Fitting.{Has, cube_entry}
 use Rattle.ice_images.specs.Opening.{Opens}
 use Rattle.ice_system.specs.declared.fault.TablesFault.{TablesFault}
 use Rattle.ice_system.specs.declared.fault.TablesFault.TheVariants.{Disk, Memory}
 use Rattle.ice_volume.specs.Cells.{cell_at}
+use Rattle.ice_volume.specs.Volumes.{VolumeView, StandsFor}
 use Rattle.ice_volume.specs.declared.cell.Cell.{Cell}
 use Rattle.ice_volume.specs.declared.cell.Cell.TheVariants.{Closed}
 
@@ -36,6 +39,35 @@ abbrev pub put_away : StateWord → Content → Cube → Cube
 put_away Mounted (Sound h) c = record c { state = Unmounted; content = Sound (settled h) }
 put_away _ x c = c
 
+-- the record of a slot at the end, where it has one
+abbrev pub away_at : Option Cube → Option Cube
+away_at o = option_map (λ (c : Cube). put_away c.state c.content c) o
+
 -- the world after a session whose end was good
 abbrev pub finished : World → World
-finished w = record w { cube = λ s. option_map (λ (c : Cube). put_away c.state c.content c) (w.cube s) }
+finished w = record w { cube = λ s. away_at (w.cube s) }
+
+-- the tables show the second record like the first, and a lot that holds the second holds the first
+pub record IsAsGood (c d : Option Cube) : Type 0 where
+  pub entry : option_map cube_entry d ≡ option_map cube_entry c
+  pub has : (lot : LotView) (image : Image) → Has lot image d → Has lot image c
+
+-- The slot has a record that is as good, and where the unmount went well, the one of a cube that was put away.
+pub record PutsAway (x : ℕ) (ok : Bool) (v : VolumeView) (s : DiskState) (w : World) : Type 0 where
+  pub then : Option Cube
+  pub stands : StandsFor v s (with_slot w x then)
+  pub good : IsAsGood (w.cube x) then
+  pub away : ok ≡ true → then ≡ away_at (w.cube x)
+
+-- the first n slots' cubes were put away, or an unmount failed, and the others are as they were
+abbrev pub away_below : ℕ → (ℕ → Option Cube) → ℕ → Option Cube
+away_below n cube x = if nat_lt x n then away_at (cube x) else cube x
+
+-- The volume and the disk stand for a world that is as good, and where no unmount failed, for the one in which these slots are put away.
+pub record HasPutAway (n : ℕ) (ok : Bool) (v : VolumeView) (s : DiskState) (w : World) : Type 0 where
+  pub then : World
+  pub stands : StandsFor v s then
+  pub slots : then.slots ≡ w.slots
+  pub groups : then.groups ≡ w.groups
+  pub good : (x : ℕ) → IsAsGood (w.cube x) (then.cube x)
+  pub away : ok ≡ true → (x : ℕ) → then.cube x ≡ away_below n w.cube x

@@ -1,0 +1,42 @@
+-- The line that lists the cubes.
+use Rattle.std.proofs.Common.{◌≡◌, ◌∙◌, ◌+◌, inl, ℕ, List, [], length, Ok, refl, sym, ap, arith}
+use Rattle.ice_base.specs.Disk.{Image, DiskState}
+use Rattle.ice_base.specs.FrameLaws.{within_refl}
+use Rattle.tree_spec.specs.Held.{RoomContent}
+use Rattle.tree_spec.specs.Lines.{Asks, Cubes}
+use Rattle.tree_spec.specs.Replies.{meant}
+use Rattle.tree_spec.specs.Replies as reply
+use Rattle.tree_spec.specs.World.{World, aim, cube_rows}
+use Rattle.tree_spec.specs.declared.reply.Entry.{Entry}
+use Rattle.tree_spec.specs.declared.reply.CubeRow.{CubeRow}
+use Rattle.tree_spec.specs.declared.reply.Value.TheVariants.{Listed}
+use Rattle.ice_system.specs.Systems.{tables_of}
+use Rattle.ice_volume.specs.Lines.{Answers, AnswersLine, LineWrites}
+use Rattle.ice_volume.specs.Rows.{shown_rows}
+use Rattle.ice_volume.specs.Volumes.{VolumeView, StandsFor, IsWritable}
+use Rattle.ice_volume.proofs.Lookups.{rows_shown}
+
+module _ {D X : Type 0} (state : D → DiskState) (left : D → ℕ → Image → List ℕ → Type 0) (v : VolumeView) (room : RoomContent) (n : ℕ) (a : D)
+    (none : room.entries ≡ []) (rows : room.rows ≡ shown_rows v v.system.names.slots) (count : n ≡ length room.rows) where
+  lists : (u : World) → StandsFor v (state a) u → Answers v v (state a) (state a) (Asks Cubes) u (meant (Ok (Listed n)) room)
+  lists u stands = record {
+    then = u;
+    step = (ap (λ (es : List Entry). Ok (reply.Listed es room.rows)) none ∙ ap (λ (rs : List CubeRow). Ok (reply.Listed [] rs)) (rows ∙ rows_shown v (state a) u stands), refl);
+    stands = stands;
+    found = tt;
+  }
+
+  -- the list of the cubes is answered without a call of the disk
+  pub listed_line : AnswersLine {X = X} state left (Asks Cubes) v v room (Ok (Ok (Listed n))) a a
+  listed_line = record {
+    within = within_refl state left (IsWritable v) a;
+    size = refl;
+    cause = tt;
+    live = refl;
+    faults = omega arith;
+    tallies = omega (arith, count, ap length none);
+    leaves = λ u stands. record { each = λ m i out l. inl l };
+    goes = lists;
+    frame = λ u stands. within_refl state left (LineWrites (tables_of v.system) (aim u (Asks Cubes)) (meant (Ok (Listed n)) room)) a;
+    stops = λ u stands. tt;
+  }
