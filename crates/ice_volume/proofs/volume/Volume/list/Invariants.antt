@@ -1,6 +1,6 @@
 use Rattle.std.proofs.Common.{◌≡◌}
 use Rattle.ice_volume.specs.Rows.{shown_rows}
-use Rattle.ice_volume.proofs.list.Volume.list.Given as goal
+use Rattle.ice_volume.proofs.volume.Volume.list.Given as goal
 
 abbrev pub invariant-loop-slot : goal.invariant-loop-slot
 invariant-loop-slot l = record {

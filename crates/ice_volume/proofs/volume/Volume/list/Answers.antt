@@ -3,8 +3,8 @@ use Rattle.tree_spec.specs.Held.{RoomContent}
 use Rattle.tree_spec.specs.declared.reply.CubeRow.{CubeRow}
 use Rattle.ice_volume.specs.Rows.{shown_rows, at_most_one}
 use Rattle.ice_volume.proofs.Lookups.{shown_none, shown_more, shown_few, append_none}
-use Rattle.ice_volume.proofs.list.Volume.list.Goals as goal
-use Rattle.ice_volume.proofs.list.Volume.list.Goals.{in-Some, in_default}
+use Rattle.ice_volume.proofs.volume.Volume.list.Goals as goal
+use Rattle.ice_volume.proofs.volume.Volume.list.Goals.{in-Some, in_default}
 
 pub loop-slot-init : goal.loop-slot-init
 loop-slot-init c = record { rows = c.requires ∙ sym (shown_none c.args.self.now); entries = refl }

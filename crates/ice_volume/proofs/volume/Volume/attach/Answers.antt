@@ -1,5 +1,5 @@
 use Rattle.ice_volume.proofs.Attaching.{attach_stands, attach_leaves, host_refuses}
-use Rattle.ice_volume.proofs.attach.Volume.attach.Goals as goal
+use Rattle.ice_volume.proofs.volume.Volume.attach.Goals as goal
 
 pub returns-in-Ok-clause-opens : goal.returns-in-Ok-clause-opens
 returns-in-Ok-clause-opens g c = λ w starts.
