@@ -5,7 +5,7 @@ ghost use Rattle.ice_run.specs.Causes.{GoesOn, LoopCause};
 ghost use Rattle.ice_run.specs.Scripts.{longest_script};
 ghost use Rattle.ice_run.specs.Servings.{Fed, Passes, Served};
 ghost use Rattle.ice_run.specs.Sessions.{IsReady};
-ghost use Rattle.ice_volume.specs.Volumes.{StandsFor};
+ghost use Rattle.ice_volume.specs.Volumes.{HasRoom, StandsFor};
 
 use crate::intake::{LIMIT, PIECE, take_piece};
 use crate::session::{Session, close, feed_all};
@@ -52,6 +52,8 @@ pub(crate) fn serve<H: Host>(host: &mut H, volume: &mut Volume, session: &mut Se
     // The disk is the same one, and no count of faults falls; why the session ended.
     ensures on { GoesOn (H.state host.old) (H.state host.new) }
     ensures cause { (result ≡ Status.Done) ⊎ LoopCause result (H.state host.old) (H.state host.new) }
+    // At the end of the script the disk has all blocks of the volume still.
+    ensures room { result ≡ Status.Done → HasRoom volume.new (H.state host.new) }
     // From the world that the volume and the disk stand for, how the session ended.
     ensures served { (w : World) → StandsFor volume.old (H.state host.old) w → session.old.reader.text ≡ []
         → Served H.state H.left w host.old result volume.new host.new }

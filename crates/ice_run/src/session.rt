@@ -162,6 +162,8 @@ pub(crate) fn close<H: Host>(
     ensures on { GoesOn (H.state host.old) (H.state host.new) }
     ensures intake { (H.state host.new).streams.intake ≡ (H.state host.old).streams.intake }
     ensures cause { IfErr result (λ status. LoopCause status (H.state host.old) (H.state host.new)) }
+    // The disk has all blocks of the volume still.
+    ensures live { OnOk result (IsLive volume.new (H.state host.new)) }
     // From any world, all lines of the script are answered, or the last one ended the session.
     ensures served { (w : World) (input : List ℕ) (start : H)
         → Serving H.state H.left w volume.old input input start host.old session.old.reader

@@ -18,7 +18,7 @@ returns-in-Ok-feed_all-clause-passes g c = λ w start fed.
     let state = g.H.Disk.state in let left = g.H.Disk.left in let n = c.in-Ok.count in let piece = c.take_piece.new.piece in
     let took = c.in-Ok.ensures.bytes fed.serving.so_far.stands.tables.settled.told in
     fed_more state left w start c.args.taken c.args.host.now c.take_piece.new.host c.args.volume.now c.args.session.now.reader fed c.take_piece.ensures.disk c.take_piece.ensures.leaves c.take_piece.ensures.only
-    n piece took c.feed_all.new.host c.feed_all.new.volume.system c.feed_all.new.session.reader c.feed_all.ensures.intake
+    n piece took c.feed_all.new.host c.feed_all.new.volume c.feed_all.new.session.reader c.feed_all.ensures.intake
     (c.in-Ok-feed_all.ensures.served w (state start).streams.intake fed.taken (state c.take_piece.new.host).streams.intake start
     (took_more state left w start c.args.taken c.args.host.now c.take_piece.new.host c.args.volume.now c.args.session.now.reader fed c.take_piece.ensures.disk c.take_piece.ensures.leaves c.take_piece.ensures.only n piece took)
     (took_serving state left w start c.args.taken c.args.host.now c.take_piece.new.host c.args.volume.now c.args.session.now.reader fed c.take_piece.ensures.disk c.take_piece.ensures.leaves c.take_piece.ensures.only))
@@ -31,7 +31,7 @@ returns-in-Err-feed_all-clause-passes g c = λ w start fed.
     let state = g.H.Disk.state in let left = g.H.Disk.left in let n = c.in-Ok.count in let piece = c.take_piece.new.piece in
     let took = c.in-Ok.ensures.bytes fed.serving.so_far.stands.tables.settled.told in
     broke_off state left w start c.args.taken c.args.host.now c.take_piece.new.host c.args.volume.now c.args.session.now.reader fed c.take_piece.ensures.disk c.take_piece.ensures.leaves c.take_piece.ensures.only
-    n piece took c.feed_all.new.host c.feed_all.new.volume.system c.feed_all.new.session.reader c.feed_all.ensures.intake c.in-Err-feed_all.status
+    n piece took c.feed_all.new.host c.feed_all.new.volume c.feed_all.new.session.reader c.feed_all.ensures.intake c.in-Err-feed_all.status
     (within_limit c.args.taken n c.requires.limit c.in-Ok.ensures.count.1 c.else-count-gt0.either)
     (c.in-Err-feed_all.ensures.broken w (state start).streams.intake fed.taken (state c.take_piece.new.host).streams.intake start
     (took_more state left w start c.args.taken c.args.host.now c.take_piece.new.host c.args.volume.now c.args.session.now.reader fed c.take_piece.ensures.disk c.take_piece.ensures.leaves c.take_piece.ensures.only n piece took)

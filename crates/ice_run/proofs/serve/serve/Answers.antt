@@ -15,12 +15,12 @@ pub returns-in-Ok-close-clause-served : goal.returns-in-Ok-close-clause-served
 returns-in-Ok-close-clause-served g c = λ w stands empty.
     let state = g.H.Disk.state in let left = g.H.Disk.left in let start = c.args.host.now in let count = c.loop-count.taken + c.in-Ok-eq0.field-0 in
     let p = c.in-Ok-eq0.ensures.passes w start (c.loop-count.invariant.fed w stands empty) in
-    all_done state left w start count c.pass.new.host c.pass.new.volume.system c.pass.new.session.reader p.0 c.in-Ok-eq0.ensures.count (p.1 c.in-Ok-eq0.field-0-test) c.close.new.host c.close.new.volume.system c.close.ensures.intake
-    (c.in-Ok-close.ensures.served w (state start).streams.intake start (read_all state left w start count c.pass.new.host c.pass.new.volume.system c.pass.new.session.reader p.0 c.in-Ok-eq0.ensures.count (p.1 c.in-Ok-eq0.field-0-test)))
+    all_done state left w start count c.pass.new.host c.pass.new.volume c.pass.new.session.reader p.0 c.in-Ok-eq0.ensures.count (p.1 c.in-Ok-eq0.field-0-test) c.close.new.host c.close.new.volume c.close.ensures.intake
+    (c.in-Ok-close.ensures.served w (state start).streams.intake start (read_all state left w start count c.pass.new.host c.pass.new.volume c.pass.new.session.reader p.0 c.in-Ok-eq0.ensures.count (p.1 c.in-Ok-eq0.field-0-test)))
 
 pub returns-in-Err-close-clause-served : goal.returns-in-Err-close-clause-served
 returns-in-Err-close-clause-served g c = λ w stands empty.
     let state = g.H.Disk.state in let left = g.H.Disk.left in let start = c.args.host.now in let count = c.loop-count.taken + c.in-Ok-eq0.field-0 in
     let p = c.in-Ok-eq0.ensures.passes w start (c.loop-count.invariant.fed w stands empty) in
-    last_broke state left w start count c.pass.new.host c.pass.new.volume.system c.pass.new.session.reader p.0 c.in-Ok-eq0.ensures.count (p.1 c.in-Ok-eq0.field-0-test) c.close.new.host c.close.new.volume.system c.close.ensures.intake c.in-Err-close.status
-    (c.in-Err-close.ensures.broken w (state start).streams.intake start (read_all state left w start count c.pass.new.host c.pass.new.volume.system c.pass.new.session.reader p.0 c.in-Ok-eq0.ensures.count (p.1 c.in-Ok-eq0.field-0-test)))
+    last_broke state left w start count c.pass.new.host c.pass.new.volume c.pass.new.session.reader p.0 c.in-Ok-eq0.ensures.count (p.1 c.in-Ok-eq0.field-0-test) c.close.new.host c.close.new.volume c.close.ensures.intake c.in-Err-close.status
+    (c.in-Err-close.ensures.broken w (state start).streams.intake start (read_all state left w start count c.pass.new.host c.pass.new.volume c.pass.new.session.reader p.0 c.in-Ok-eq0.ensures.count (p.1 c.in-Ok-eq0.field-0-test)))

@@ -17,7 +17,7 @@ returns-in-Err-clause-broken g c = λ w script lines ahead start is so_far.
 
 pub returns-in-Ok-give_all-clause-answered : goal.returns-in-Ok-give_all-clause-answered
 returns-in-Ok-give_all-clause-answered g c = λ w script lines ahead start is so_far.
-    let state = g.H.Disk.state in let left = g.H.Disk.left in let b = c.reply_to.new.disk in let new = c.give_all.new.host in let z = c.reply_to.new.volume.system in
+    let state = g.H.Disk.state in let left = g.H.Disk.left in let b = c.reply_to.new.disk in let new = c.give_all.new.host in let z = c.reply_to.new.volume in
     let now = end w so_far.gave.steps in let al = c.in-Ok.ensures in let r = meant c.in-Ok.reply c.reply_to.new.room in
     let go = al.goes now so_far.stands in let told = go.stands.tables.settled.told in let whole = c.bytes.ensures ∙ c.write_reply.ensures.text in
     answered_more state left w script lines ahead (line_of c.args.session.now.reader.text) start c.args.host.now b c.args.volume.now so_far is al.within.streams (al.leaves now so_far.stands)
@@ -28,7 +28,7 @@ returns-in-Ok-give_all-clause-answered g c = λ w script lines ahead start is so
 
 pub returns-in-Err-give_all-clause-broken : goal.returns-in-Err-give_all-clause-broken
 returns-in-Err-give_all-clause-broken g c = λ w script lines ahead start is so_far.
-    let state = g.H.Disk.state in let left = g.H.Disk.left in let b = c.reply_to.new.disk in let new = c.give_all.new.host in let z = c.reply_to.new.volume.system in
+    let state = g.H.Disk.state in let left = g.H.Disk.left in let b = c.reply_to.new.disk in let new = c.give_all.new.host in let z = c.reply_to.new.volume in
     let now = end w so_far.gave.steps in let al = c.in-Ok.ensures in let r = meant c.in-Ok.reply c.reply_to.new.room in
     let go = al.goes now so_far.stands in let told = go.stands.tables.settled.told in let whole = c.bytes.ensures ∙ c.write_reply.ensures.text in
     cut_short state left w script lines ahead (line_of c.args.session.now.reader.text) start c.args.host.now b c.args.volume.now so_far is al.within.streams (al.leaves now so_far.stands)

@@ -18,13 +18,13 @@ false_of false t is was = sym was ∙ is
 
 pub returns-then-finish-clause-served : goal.returns-then-finish-clause-served
 returns-then-finish-clause-served g c = λ w input start serving.
-    closed_ok g.H.Disk.state g.H.Disk.left w input start c.args.host.now c.answer.new.host c.args.volume.now c.answer.new.volume.system c.args.session.now.reader c.finish.new.self c.answer.result serving c.finish.ensures.same
+    closed_ok g.H.Disk.state g.H.Disk.left w input start c.args.host.now c.answer.new.host c.args.volume.now c.answer.new.volume c.args.session.now.reader c.finish.new.self c.answer.result serving c.finish.ensures.same
     (true_of _ c.finish.result (open_line _ _ _ c.requires.open_line c.finish.ensures.some) c.if-finish.true)
     (λ more next. c.answer.ensures.answered w (script_lines input) (ended_lines input) more start next serving.so_far)
 
 pub returns-then-finish-clause-broken : goal.returns-then-finish-clause-broken
 returns-then-finish-clause-broken g c = λ w input start serving.
-    closed_err g.H.Disk.state g.H.Disk.left w input start c.args.host.now c.answer.new.host c.args.volume.now c.answer.new.volume.system c.args.session.now.reader c.finish.new.self c.answer.result serving c.finish.ensures.same
+    closed_err g.H.Disk.state g.H.Disk.left w input start c.args.host.now c.answer.new.host c.args.volume.now c.answer.new.volume c.args.session.now.reader c.finish.new.self c.answer.result serving c.finish.ensures.same
     (true_of _ c.finish.result (open_line _ _ _ c.requires.open_line c.finish.ensures.some) c.if-finish.true)
     (λ more next. c.answer.ensures.broken w (script_lines input) (ended_lines input) more start next serving.so_far)
 

@@ -18,11 +18,11 @@ loop-byte-preserved g c = let inv = c.loop-byte.invariant in let piece = c.args.
   intake = c.feed.ensures.intake ∙ inv.intake;
   ready = c.in-Ok.ensures.ready;
   served = λ w input taken ahead start is serving.
-      subst (λ (x : List ℕ). Serving g.H.Disk.state g.H.Disk.left w c.feed.new.volume.system input x start c.feed.new.host c.feed.new.session.reader) (sym (piece_more taken piece i (omega arith)))
+      subst (λ (x : List ℕ). Serving g.H.Disk.state g.H.Disk.left w c.feed.new.volume input x start c.feed.new.host c.feed.new.session.reader) (sym (piece_more taken piece i (omega arith)))
       (c.in-Ok.ensures.served w input (taken ++ take i piece) (drop (i + 1) piece ++ ahead) start (piece_step input taken piece ahead i (omega arith) is) (inv.served w input taken ahead start is serving));
 }
 
 pub returns-clause-served : goal.returns-clause-served
 returns-clause-served g c = λ w input taken ahead start is serving.
     let inv = c.loop-byte.invariant in let piece = c.args.piece.now in let i = c.loop-byte.byte-index in
-    subst (λ (x : List ℕ). Serving g.H.Disk.state g.H.Disk.left w c.loop-byte.volume.system input (taken ++ x) start c.loop-byte.host c.loop-byte.session.reader) (take_all i piece (omega arith)) (inv.served w input taken ahead start is serving)
+    subst (λ (x : List ℕ). Serving g.H.Disk.state g.H.Disk.left w c.loop-byte.volume input (taken ++ x) start c.loop-byte.host c.loop-byte.session.reader) (take_all i piece (omega arith)) (inv.served w input taken ahead start is serving)
