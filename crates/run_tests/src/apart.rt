@@ -85,7 +85,7 @@ enum Felt {
 
 impl Felt {
     /// What it was felt by once the reply to this line of this cube is another one; None where it may not be.
-    fn with(self, line: &str, cube: usize, reply: &[u8]) -> Option<Felt> {
+    fn after_reply(self, line: &str, cube: usize, reply: &[u8]) -> Option<Felt> {
         match self {
             Felt::Nobody if reply != b"no Fault".as_slice() => None,
             Felt::Nobody if is_look(line) => Some(Felt::Look),
@@ -97,7 +97,7 @@ impl Felt {
 }
 
 /// What the failing call was felt by, and how many replies there are.
-fn felt(output: &[u8]) -> Result<(Felt, usize), Fail> {
+fn replies_of(output: &[u8]) -> Result<(Felt, usize), Fail> {
     let mut felt = Felt::Nobody;
     let mut count: usize = 0;
     for reply in output.split(|byte| *byte == b'\n') {
@@ -107,7 +107,7 @@ fn felt(output: &[u8]) -> Result<(Felt, usize), Fail> {
         let (line, want) = LINES.get(count / 3).copied().ok_or("too many replies")?;
         if reply != want.as_bytes() {
             felt = felt
-                .with(line, count % 3, reply)
+                .after_reply(line, count % 3, reply)
                 .ok_or("a reply that should not differ")?;
         }
         count = count.saturating_add(1);
@@ -154,7 +154,7 @@ fn complaint(
     let mut host = copy_of(alloc, fresh)?;
     host.fail_at(call)?;
     let status = session(alloc, &mut host, script.as_bytes())?;
-    let (felt, count) = felt(host.output())?;
+    let (felt, count) = replies_of(host.output())?;
     let whole = status != Status::Done || are_whole(alloc, &host, felt)?;
     if whole && is_right(status, felt, count) {
         return Ok(None);
@@ -167,7 +167,7 @@ fn a_failing_call_is_felt_by_one_cube_alone(rt: HostRuntime) -> Result<(), Fail>
     let alloc = rt.alloc();
     let script = script(alloc)?;
     let good = after(alloc, script.as_bytes())?;
-    assert_eq!(rt; felt(good.output())?, (Felt::Nobody, 60));
+    assert_eq!(rt; replies_of(good.output())?, (Felt::Nobody, 60));
     let fresh = small(alloc)?;
     for call in 0..good.calls() {
         let wrong = complaint(alloc, &fresh, script.as_str(), call)?;

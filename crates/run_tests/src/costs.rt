@@ -34,7 +34,7 @@ const LINES: [(&str, &str); 22] = [
 ];
 
 /// The calls of each of the lines, where these lines came before.
-fn costs(alloc: Global, before: &str) -> Result<Vec<u64>, Fail> {
+fn line_costs(alloc: Global, before: &str) -> Result<Vec<u64>, Fail> {
     let mut script = String::from_str(alloc, before)?;
     let mut replies = String::new(alloc);
     for (line, reply) in LINES {
@@ -65,8 +65,8 @@ fn differences(alloc: Global, moments: &[u64]) -> Result<Vec<u64>, Fail> {
 #[test]
 fn a_line_costs_the_same_whatever_the_other_cubes_hold(rt: HostRuntime) -> Result<(), Fail> {
     let alloc = rt.alloc();
-    let alone = costs(alloc, EMPTY)?;
-    let beside = costs(alloc, FULL)?;
+    let alone = line_costs(alloc, EMPTY)?;
+    let beside = line_costs(alloc, FULL)?;
     assert_eq!(rt; alone.len(), LINES.len());
     for (((line, _), first), second) in LINES.iter().zip(&alone).zip(&beside) {
         assert_eq!(rt; first, second, "{line}");
