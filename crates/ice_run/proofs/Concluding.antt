@@ -16,9 +16,6 @@ use Rattle.ice_run.specs.Sessions.{SoFar, CrashesSo}
 use Rattle.ice_run.proofs.SessionLaws.{between_lines}
 
 module _ {D : Type 0} (state : D → DiskState) (left : D → ℕ → Image → List ℕ → Type 0) (w : World) (start : D) where
-  asked : List _
-  asked = script_lines (state start).streams.intake
-
   -- a session that did not come to the end of its script ends as it was served
   pub concluded_as : (status : Status) (v : VolumeView) (new : D) → (status ≢ Done) → Served state left w start status v new → Concluded state left w start status new
   concluded_as Done v new other served = absurd (other refl)
@@ -65,6 +62,7 @@ module _ {D : Type 0} (state : D → DiskState) (left : D → ℕ → Image → 
 
     -- every cube was unmounted
     pub concluded_well : (z : VolumeView) → ((u : World) → StandsFor v (state a) u → StandsFor z (state b) (finished u)) → Concluded state left w start Done b
+    unfolding all_answered
     concluded_well z closes = record {
       taken = served.taken;
       took = took_all;

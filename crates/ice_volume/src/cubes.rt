@@ -83,4 +83,31 @@ impl Volume {
         };
         check_cell(&mut self.cells[slot as usize], disk, &lot)
     }
+
+    /// Mounts the cube of a path.
+    pub(crate) fn mount<D: Disk>(&mut self, disk: &mut D, path: &Path) -> Reply {
+        let slot = match self.find(path) {
+            Some(slot) => slot,
+            None => return Err(Refusal::NoCube),
+        };
+        let lot = match self.lot(slot) {
+            Some(lot) => lot,
+            None => return Err(Refusal::NoCube),
+        };
+        match self.state(slot) {
+            tree_spec::StateWord::Mounted => return Err(Refusal::Mounted),
+            tree_spec::StateWord::Offline => return Err(Refusal::Offline),
+            _ => {}
+        }
+        match ice_cube::Cube::mount(self.alloc, disk, &lot) {
+            Ok(cube) => {
+                let done = cube.done();
+                self.cells[slot as usize] = crate::cell::Cell::Open(cube);
+                Ok(tree_spec::Value::Number(done))
+            }
+            Err(ice_cube::CubeFault::Memory) => Err(Refusal::Memory),
+            Err(ice_cube::CubeFault::Disk) => Err(Refusal::Fault),
+            Err(ice_cube::CubeFault::Damaged(rule)) => Err(Refusal::Damaged(rule as u8)),
+        }
+    }
 }

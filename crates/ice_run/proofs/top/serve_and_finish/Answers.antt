@@ -17,7 +17,7 @@ returns-in-Err-clause-concluded g c = λ w stands empty.
     let state = g.H.Disk.state in let left = g.H.Disk.left in
     let served = subst (λ (status : Status). Served state left w c.args.host.now status c.serve.new.volume c.serve.new.host) c.in-Done.is (c.serve.ensures.served w stands empty) in
     concluded_failed state left w c.args.host.now c.serve.new.volume c.serve.new.host c.finish.new.disk served c.finish.ensures.within.streams c.finish.ensures.within.faults c.finish.ensures.leaves
-    c.in-Err.ensures.cause
+    c.in-Err.ensures.cause.failed
 
 pub returns-in_default-clause-concluded : goal.returns-in_default-clause-concluded
 returns-in_default-clause-concluded g c = λ w stands empty.
