@@ -27,7 +27,7 @@ use Rattle.ice_cube.specs.Cubes.{CubeView, HasHistory, Holds, Runs}
 
 -- ---- histories
 
-after_append : (xs ys : List Operation) (t : Tree) → tree_after (xs ++ ys) t ≡ tree_after ys (tree_after xs t)
+pub after_append : (xs ys : List Operation) (t : Tree) → tree_after (xs ++ ys) t ≡ tree_after ys (tree_after xs t)
 after_append [] ys t = refl
 after_append (op ∷ xs) ys t = after_append xs ys (next_tree op t)
 
@@ -64,7 +64,7 @@ holds_kept f mode h c s t kept holds = record {
 
 -- ---- a lot at rest
 
-over_none : (map : ℕ → List ℕ) → over [] map ≡ map
+pub over_none : (map : ℕ → List ℕ) → over [] map ≡ map
 unfolding over
 over_none map = fun_ext (λ a. refl)
 

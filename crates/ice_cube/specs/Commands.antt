@@ -1,5 +1,5 @@
 -- What a mounted cube answers to its lines, in words over its record in the world.
-use Rattle.std.specs.Prelude.{◌≡◌, ◌≤◌, ℕ, Bool, List, length, Result, Ok, Err, if◌then◌else◌, ⊤}
+use Rattle.std.specs.Prelude.{◌≡◌, ◌≤◌, ℕ, Bool, List, length, Some, Result, Ok, Err, if◌then◌else◌, ⊤}
 use Rattle.ice_base.specs.Disk.{DiskState}
 use Rattle.tree_spec.specs.Held.{most_bytes}
 use Rattle.tree_spec.specs.Lines.{Request, Mkdir, Make, Write, Read, Trunc, Remove, Rename, ListDir, Stat}

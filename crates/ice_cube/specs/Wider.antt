@@ -7,7 +7,7 @@ use Rattle.ice_cube.specs.Fresh.{HasFreshGroups}
 
 -- the lot has the groups of the old one, and then others
 pub record IsWider (old lot : LotView) : Type 0 where
-  pub lot : IsLot lot
+  pub is_lot : IsLot lot
   pub slot : lot.slot ≡ old.slot
   pub base : lot.base ≡ old.base
   pub more : List ℕ

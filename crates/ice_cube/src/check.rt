@@ -31,7 +31,13 @@ impl Cube {
         ensures own { (c : Record) → HoldsRecord self.old (D.state disk.old) c
             → AnswersOwn self.new (D.state disk.new) c Check (meant_check result) }
     {
-        let _ = &self.lot;
-        Err(CheckFault::Disk)
+        match check(&mut self.keep, disk, &self.lot) {
+            Ok(summary) => Ok(summary),
+            Err(CheckFault::Disk) => Err(CheckFault::Disk),
+            Err(CheckFault::Damaged(rule)) => {
+                self.stopped = true;
+                Err(CheckFault::Damaged(rule))
+            }
+        }
     }
 }

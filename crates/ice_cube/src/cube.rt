@@ -2,15 +2,18 @@
 ghost use Rattle.std.specs.Prelude.{is_ok, ◌≡◌, ◌≤◌, ◌+◌, ◌*◌, ℕ, List, [], true, false, length, OnOk, OnErr, IfOk, IfErr, IsErrOf};
 ghost use Rattle.ice_base.specs.Counts.{Made};
 ghost use Rattle.ice_base.specs.Disk.{HasCause, Caused};
-ghost use Rattle.ice_base.specs.Frames.{CrashStep, Every, Within};
+ghost use Rattle.ice_base.specs.Frames.{CrashStep, Every, Sure, Within};
 ghost use Rattle.ice_base.specs.Lots.{extent, is_sited};
 ghost use Rattle.tree_spec.specs.Costs.{Form};
 ghost use Rattle.tree_spec.specs.Records.{History, Mode, settled};
 ghost use Rattle.tree_spec.specs.declared.reply.Refusal.TheVariants.{Fault, Stopped};
+ghost use Rattle.ice_journal.specs.Rests.{LotAtRest, RestsLot};
+ghost use Rattle.ice_txn.specs.Sets.{over};
 ghost use Rattle.ice_cube.specs.Cubes.{CubeView, HasHistory, Holds};
 
 use ice_base::{Disk, DiskFault, Lot};
 use ice_keep::JournalKeep;
+use ice_pool::BitPool;
 use std::marker::Model;
 use tree_spec::Refusal;
 
@@ -19,22 +22,39 @@ use tree_spec::Refusal;
 pub struct Cube {
     pub(crate) lot: Lot,
     pub(crate) keep: JournalKeep,
+    pub(crate) pool: BitPool,
     pub(crate) done: u64,
     pub(crate) stopped: bool,
 }
 
 impl Model for Cube {
     ghost use Rattle.std.specs.Prelude.{◌≡◌};
+    ghost use Rattle.ice_tables.specs.Journals.{lot_places};
+    ghost use Rattle.ice_journal.specs.Blocks.{AreHomes};
     ghost use Rattle.ice_cube.specs.Cubes.{CubeView};
 
     ghost Value = { CubeView };
 
     ghost view = { λ c. record { lot = c.lot; set = c.keep.entries; done = c.done; stopped = c.stopped } };
 
-    ghost invariant = { λ c. ⊥ };
+    ghost invariant = { λ c. AreHomes (lot_places c.lot) c.keep.entries };
 }
 
 impl Cube {
+    /// The cube of a lot that is at rest, with this count.
+    pub(crate) fn begin(lot: Lot, keep: JournalKeep, done: u64) -> Cube
+        requires { keep.entries ≡ [] }
+        ensures { result ≡ record { lot = lot; set = []; done = done; stopped = false } }
+    {
+        Cube {
+            lot,
+            keep,
+            pool: BitPool::new(),
+            done,
+            stopped: false,
+        }
+    }
+
     /// The number of accepted commands.
     pub fn done(&self) -> u64
         ensures { result ≡ self.now.done }
@@ -50,7 +70,7 @@ impl Cube {
     }
 
     /// Commits what the cube holds back, or stops it.
-    fn settle<D: Disk>(&mut self, disk: &mut D) -> Result<(), DiskFault>
+    pub(crate) fn settle<D: Disk>(&mut self, disk: &mut D) -> Result<(), DiskFault>
         requires live { self.old.stopped ≡ false }
         requires sited { is_sited self.old.lot (D.state disk.old).size ≡ true }
         ensures lot { self.new.lot ≡ self.old.lot }
@@ -64,6 +84,9 @@ impl Cube {
         // Only blocks of the lot may change. Faults come from the disk alone.
         ensures within { Within D.state D.left (extent self.old.lot) disk.old disk.new }
         ensures cause { HasCause (D.state disk.old) (D.state disk.new) result }
+        // From a lot at rest an Ok leaves it at rest with all changes.
+        ensures rest { (map : ℕ → List ℕ) → Sure (RestsLot self.old.lot) (LotAtRest self.old.lot map) (D.state disk.old)
+            → OnOk result (Sure (RestsLot self.old.lot) (LotAtRest self.old.lot (over self.old.set map)) (D.state disk.new)) }
         // Each crash leaves what the history has. An Ok settles it, and an Err leaves it.
         ensures crash { (f : Form) (mode : Mode) (h : History) → Holds f mode h self.old (D.state disk.old)
             → CrashStep D.state D.left (extent self.old.lot) (HasHistory self.old.lot f mode h) disk.old disk.new }

@@ -9,6 +9,7 @@ mod fresh;
 mod laws;
 mod make;
 mod mount;
+mod tree_calls;
 mod widen;
 
 pub use cube::Cube;

@@ -33,6 +33,13 @@ impl Cube {
             → IfOk result (λ c. Holds form_one Plain (fresh (Dir Nil) 0) c (D.state disk.new)) }
         ensures settled { (D.state disk.old).tells ≡ true → OnOk result (Settled Everywhere (D.state disk.new)) }
     {
-        Err(MakeFault::Memory)
+        let keep = match JournalKeep::new(alloc) {
+            Ok(keep) => keep,
+            Err(_) => return Err(MakeFault::Memory),
+        };
+        match write_fresh(disk, lot) {
+            Ok(()) => Ok(Cube::begin(lot.copy(), keep, 0)),
+            Err(_) => Err(MakeFault::Disk),
+        }
     }
 }

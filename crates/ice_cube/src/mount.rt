@@ -109,6 +109,17 @@ impl Cube {
             → Every (extent lot.now) (D.state disk.old) (HasHistory lot.now f mode h)
             → CrashStep D.state D.left (extent lot.now) (HasHistory lot.now f mode h) disk.old disk.new }
     {
-        Err(CubeFault::Memory)
+        let keep = match JournalKeep::new(alloc) {
+            Ok(keep) => keep,
+            Err(_) => return Err(CubeFault::Memory),
+        };
+        match disk.barrier() {
+            Ok(()) => {}
+            Err(_) => return Err(CubeFault::Disk),
+        }
+        match take_up(disk, lot) {
+            Ok(done) => Ok(Cube::begin(lot.copy(), keep, done)),
+            Err(fault) => Err(fault),
+        }
     }
 }

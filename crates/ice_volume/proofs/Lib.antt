@@ -1,6 +1,22 @@
 pub mod Lookups
-pub mod StandLaws
 mod Slots
+mod Found
+mod Telling
+mod Entries
+mod Asking
+mod Mounting
+mod Routing
+mod Aiming
+mod Sited
+mod Changing
+mod Orders
+mod Counting
+mod Planned
+mod Making
+mod Growing
+mod TableLines
+mod GroupLines
+pub mod StandLaws
 mod Attaching
 mod Copies
 mod Finishing

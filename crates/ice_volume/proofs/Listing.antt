@@ -16,27 +16,28 @@ use Rattle.ice_volume.specs.Rows.{shown_rows}
 use Rattle.ice_volume.specs.Volumes.{VolumeView, StandsFor, IsWritable}
 use Rattle.ice_volume.proofs.Lookups.{rows_shown}
 
-module _ {D X : Type 0} (state : D → DiskState) (left : D → ℕ → Image → List ℕ → Type 0) (v : VolumeView) (room : RoomContent) (n : ℕ) (a : D)
-    (none : room.entries ≡ []) (rows : room.rows ≡ shown_rows v v.system.names.slots) (count : n ≡ length room.rows) where
-  lists : (u : World) → StandsFor v (state a) u → Answers v v (state a) (state a) (Asks Cubes) u (meant (Ok (Listed n)) room)
+module _ (v : VolumeView) (room : RoomContent) (n : ℕ) (s : DiskState) (none : room.entries ≡ []) (rows : room.rows ≡ shown_rows v v.system.names.slots) where
+  lists : (u : World) → StandsFor v s u → Answers v v s s (Asks Cubes) u (meant (Ok (Listed n)) room)
   lists u stands = record {
     then = u;
-    step = (ap (λ (es : List Entry). Ok (reply.Listed es room.rows)) none ∙ ap (λ (rs : List CubeRow). Ok (reply.Listed [] rs)) (rows ∙ rows_shown v (state a) u stands), refl);
+    step = (ap (λ (es : List Entry). Ok (reply.Listed es room.rows)) none ∙ ap (λ (rs : List CubeRow). Ok (reply.Listed [] rs)) (rows ∙ rows_shown v s u stands), refl);
     stands = stands;
     found = tt;
   }
 
-  -- the list of the cubes is answered without a call of the disk
-  pub listed_line : AnswersLine {X = X} state left (Asks Cubes) v v room (Ok (Ok (Listed n))) a a
-  listed_line = record {
-    within = within_refl state left (IsWritable v) a;
-    size = refl;
-    cause = tt;
-    live = refl;
-    faults = omega arith;
-    tallies = omega (arith, count, ap length none);
-    leaves = λ u stands. record { each = λ m i out l. inl l };
-    goes = lists;
-    frame = λ u stands. within_refl state left (LineWrites (tables_of v.system) (aim u (Asks Cubes)) (meant (Ok (Listed n)) room)) a;
-    stops = λ u stands. tt;
-  }
+-- The list of the cubes is answered without a call of the disk.
+pub listed_line : {D X : Type 0} (state : D → DiskState) (left : D → ℕ → Image → List ℕ → Type 0) (v : VolumeView) (room : RoomContent) (n : ℕ) (a : D)
+    → room.entries ≡ [] → room.rows ≡ shown_rows v v.system.names.slots → n ≡ length room.rows
+    → AnswersLine {X = X} state left (Asks Cubes) v v room (Ok (Ok (Listed n))) a a
+listed_line state left v room n a none rows count = record {
+  within = within_refl state left (IsWritable v) a;
+  size = refl;
+  cause = tt;
+  live = refl;
+  faults = omega arith;
+  tallies = omega (arith, count, ap length none);
+  leaves = λ u stands. record { each = λ m i out l. inl l };
+  goes = lists v room n (state a) none rows;
+  frame = λ u stands. within_refl state left (LineWrites (tables_of v.system) (aim u (Asks Cubes)) (meant (Ok (Listed n)) room)) a;
+  stops = λ u stands. tt;
+}

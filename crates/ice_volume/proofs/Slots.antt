@@ -20,7 +20,7 @@ use Rattle.tree_spec.specs.declared.reply.Value.{Value}
 use Rattle.ice_rules.specs.Rules.{LotMayName}
 use Rattle.ice_tables.specs.Journals.{effective_of}
 use Rattle.ice_tables.specs.Tables.{Tables}
-use Rattle.ice_tables.specs.Lots.{IsTable, AtRest, total, lot_of}
+use Rattle.ice_tables.specs.Lots.{IsTable, AtRest, total, groups_of, lot_of}
 use Rattle.ice_tables.proofs.JournalLaws.{lot_blocks_rest}
 use Rattle.ice_tables.proofs.TableLaws.{at_rest_rests}
 use Rattle.ice_tables.proofs.LotSites.{lots_apart, lot_high}
@@ -48,7 +48,7 @@ with_other : (w : World) (x : ℕ) (d : Option Cube) (y : ℕ) → y ≢ x → (
 with_other w x d y other = let is : nat_eq y x ≡ false = grind arith in ap (λ b. cond b d (w.cube y)) is
 
 -- what holds of the record in the slot, and of the other slots' records, holds of all
-pub each_slot : (w : World) (x : ℕ) (d : Option Cube) (P : ℕ → Option Cube → Type 0) → P x d → ((y : ℕ) → y ≢ x → P y (w.cube y)) → (y : ℕ) → P y ((with_slot w x d).cube y)
+each_slot : (w : World) (x : ℕ) (d : Option Cube) (P : ℕ → Option Cube → Type 0) → P x d → ((y : ℕ) → y ≢ x → P y (w.cube y)) → (y : ℕ) → P y ((with_slot w x d).cube y)
 each_slot w x d P here others y = elim (cases_eq y x) as (λ _. P y ((with_slot w x d).cube y)) [
   | inl same ↦ subst (λ z. P z ((with_slot w x d).cube z)) (sym same) (subst (P x) (sym (with_here w x d)) here)
   | inr other ↦ subst (P y) (sym (with_other w x d y other)) (others y other)
@@ -65,6 +65,12 @@ carries_has cell lot s None carries = λ i agrees. tt
 carries_has Closed lot s (Some c) carries = carries.each
 carries_has Stopped lot s (Some c) carries = carries.each
 carries_has (Open e) lot s (Some c) carries = record_has lot e s c carries.lot_is carries.record_is
+
+-- what is known of the lot
+pub carries_known : (cell : Cell) (lot : LotView) (s : DiskState) (c : Cube) → Carries cell lot s (Some c) → IsKnown lot s.now c c.content
+carries_known Closed lot s c carries = carries.known
+carries_known Stopped lot s c carries = carries.known
+carries_known (Open e) lot s c carries = subst (λ (x : Content). IsKnown lot s.now c x) (sym carries.record_is.sound) tt
 
 -- what is known of a lot outlasts calls that keep its blocks
 pub known_kept : (lot : LotView) (a b : Image) (c : Cube) (x : Content) → effective_of lot b ≡ effective_of lot a → IsKnown lot a c x → IsKnown lot b c x
@@ -144,7 +150,7 @@ module _ {D : Type 0} (state : D → DiskState) (left : D → ℕ → Image → 
       (cases_lt y (tables_of v.system).slots)
 
   -- an image of a crash in which the lot has the record as it was fits the world
-  pub old_fits : (i : Image) → AgreesOn (Outside (extent (lot_of (tables_of v.system) x))) (state a) i → Has (lot_of (tables_of v.system) x) i (u.cube x) → Fits u i
+  old_fits : (i : Image) → AgreesOn (Outside (extent (lot_of (tables_of v.system) x))) (state a) i → Has (lot_of (tables_of v.system) x) i (u.cube x) → Fits u i
   old_fits i agrees has = record {
     tables = tables_of v.system;
     has = (at_rest_rests (tables_of v.system) (state a).now i (λ k low. agrees.same k (table_apart (tables_of v.system) x k low) (stands.tables.settled.settled k low)) stands.tables.now).has;
@@ -187,7 +193,7 @@ module _ {D : Type 0} (state : D → DiskState) (left : D → ℕ → Image → 
     };
     cubes = each_slot u x d (λ y c. Carries (cell_at (slice_set v.cells x after) y) (lot_of (tables_of v.system) y) (state b) c)
         (subst (λ (z : Cell). Carries z (lot_of (tables_of v.system) x) (state b) d) (sym (get_or-set_same v.cells x after Closed less)) carries)
-        (λ y other. subst (λ (z : Cell). Carries z (lot_of (tables_of v.system) y) (state b) (u.cube y)) (sym (get_or-set_other v.cells x y after Closed (λ same. other (sym same)))) (other_carries y other));
+        (λ y other. subst (λ (z : Cell). Carries z (lot_of (tables_of v.system) y) (state b) (u.cube y)) (sym (get_or-set_other v.cells x y after Closed other)) (other_carries y other));
   }
 
 -- ---- the line of an order
@@ -214,15 +220,13 @@ pub record IsMeant (v : VolumeView) (x : ℕ) (line : Line) (o : Order) (offline
   pub cube : Cube
   pub is : u.cube x ≡ Some cube
   pub mark : is_offline cube.state ≡ offline
+  pub groups : cube.groups ≡ length (groups_of (tables_of v.system) x)
 
-module _ {D X : Type 0} (state : D → DiskState) (left : D → ℕ → Image → List ℕ → Type 0) (v : VolumeView) (x : ℕ) (line : Line) (o : Order) (offline : Bool) (after : Cell) (room : RoomContent) (result : Result Value Refusal) (a b : D)
+module _ {D : Type 0} (state : D → DiskState) (left : D → ℕ → Image → List ℕ → Type 0) (v : VolumeView) (x : ℕ) (line : Line) (o : Order) (offline : Bool) (after : Cell) (room : RoomContent) (result : Result Value Refusal) (a b : D)
     (inside : x < (tables_of v.system).slots) (less : x < length v.cells) (below : (k : ℕ) → extent (lot_of (tables_of v.system) x) k → k < total (tables_of v.system))
     (whole : (state a).tells ≡ true → length (state a).now ≡ (state a).size)
     (meant_for : (u : World) → StandsFor v (state a) u → IsMeant v x line o offline u)
     (answers : AnswersOrder state left (lot_of (tables_of v.system) x) o offline (cell_at v.cells x) after room result a b) where
-  w : VolumeView
-  w = record { system = v.system; cells = slice_set v.cells x after }
-
   module _ (u : World) (stands : StandsFor v (state a) u) where
     for : IsMeant v x line o offline u
     for = meant_for u stands
@@ -232,6 +236,7 @@ module _ {D X : Type 0} (state : D → DiskState) (left : D → ℕ → Image �
       told = stands.tables.settled.told;
       whole = whole stands.tables.settled.told;
       mark = for.mark;
+      groups = for.groups;
       carries = subst (Carries (cell_at v.cells x) (lot_of (tables_of v.system) x) (state a)) for.is (stands.cubes x);
     })
 
@@ -257,8 +262,8 @@ module _ {D X : Type 0} (state : D → DiskState) (left : D → ℕ → Image �
         (writes_in (tables_of v.system) x o (meant result room)) becomes.frame)
 
   -- what an order to a slot's cube does is what a line does that is meant for it
-  pub order_line : AnswersLine {X = X} state left line v (record { system = v.system; cells = slice_set v.cells x after }) room (Ok result) a b
-  order_line = record {
+  pub order_line : {X : Type 0} → AnswersLine {X = X} state left line v (record { system = v.system; cells = slice_set v.cells x after }) room (Ok result) a b
+  order_line {X} = record {
     within = within_more state left (extent (lot_of (tables_of v.system) x)) (IsWritable v) a b (λ k own. lot_writable v x k (below k own) own) answers.within;
     size = refl;
     cause = tt;

@@ -12,7 +12,7 @@ use Rattle.tree_spec.specs.declared.reply.StateWord.{StateWord}
 use Rattle.ice_tables.specs.Lots.{IsTable, AtRest, total, lot_of}
 use Rattle.ice_tables.proofs.JournalLaws.{lot_blocks_rest}
 use Rattle.ice_tables.proofs.TableLaws.{at_rest_rests, tables_rest}
-use Rattle.ice_images.specs.Fitting.{Fits, Has, ShowCubes}
+use Rattle.ice_images.specs.Fitting.{Fits, Has, HasContent, ShowCubes}
 use Rattle.ice_images.specs.Opening.{OpensBroken}
 use Rattle.ice_images.specs.Recovering.{Recovers}
 use Rattle.ice_images.proofs.FittingLaws.{fits_every, has_rests}
@@ -39,10 +39,7 @@ carried_has (Open e) lot s None carries = absurd carries
 carried_has (Open e) lot s (Some c) carries =
     let h = carries.record_is in λ i agrees.
     subst (λ (l : LotView). Has l i (Some c)) carries.lot_is
-    (subst (λ (x : Content). HasOf e.lot i c x) (sym h.sound) (h.holds.lasts i (subst (λ (l : LotView). AgreesOn (extent l) s i) (sym carries.lot_is) agrees)))
-  where
-    abbrev HasOf : LotView → Image → Cube → Content → Type 0
-    HasOf lot i c x = Has lot i (Some (record c { content = x }))
+    (subst (HasContent e.lot i c.form c.mode) (sym h.sound) (h.holds.lasts i (subst (λ (l : LotView). AgreesOn (extent l) s i) (sym carries.lot_is) agrees)))
 
 -- ---- what outlasts calls that keep the lot's blocks
 

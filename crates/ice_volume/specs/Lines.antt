@@ -3,8 +3,7 @@ use Rattle.std.specs.Prelude.{◌≡◌, ◌⊎◌, ℕ, ◌+◌, ◌*◌, false
 use Rattle.ice_base.specs.Disk.{Image, DiskState, Rose, RoseBy}
 use Rattle.ice_base.specs.Frames.{Within, LeavesOnly, With}
 use Rattle.ice_base.specs.Lots.{LotView, extent}
-use Rattle.tree_spec.specs.Costs.{Form, blocks}
-use Rattle.tree_spec.specs.Costs as cost
+use Rattle.tree_spec.specs.Costs.{Form, blocks, nodes}
 use Rattle.tree_spec.specs.Held.{RoomContent}
 use Rattle.tree_spec.specs.Lines.{Line}
 use Rattle.tree_spec.specs.Operations.{is_change}
@@ -85,19 +84,19 @@ MountFound lot image (Ok (Number k)) (Some c) = (h : History) × (c.content ≡ 
 MountFound lot image (Err (Because (why.Damaged rule))) c = RecoversNothing lot image
 MountFound lot image r c = ⊤
 
--- the lot recovers a tree of this cost and so many nodes, with this count
-pub record RecoversOf (lot : LotView) (image : Image) (cost nodes k : ℕ) : Type 0 where
+-- the lot recovers a tree of this cost and so many nodes, with k accepted operations
+pub record RecoversOf (lot : LotView) (image : Image) (cost count k : ℕ) : Type 0 where
   pub form : Form
   pub mode : Mode
   pub tree : Tree
   pub recovers : Recovers lot image form mode tree k
   pub cost_is : cost ≡ blocks form tree
-  pub nodes_are : nodes ≡ cost.nodes tree
+  pub nodes_are : count ≡ nodes tree
 
 -- likewise a check of a cube that is not mounted
 abbrev pub CheckFound : StateWord → LotView → Image → Response → Type 0
 CheckFound Mounted lot image r = ⊤
-CheckFound state lot image (Ok (Checked cost nodes k)) = RecoversOf lot image cost nodes k
+CheckFound state lot image (Ok (Checked cost count k)) = RecoversOf lot image cost count k
 CheckFound state lot image (Err (Because (why.Damaged rule))) = RecoversNothing lot image
 CheckFound state lot image r = ⊤
 

@@ -52,6 +52,7 @@ pub record IsRecord (lot : LotView) (offline : Bool) (cell : Cell) (s : DiskStat
   pub told : s.tells ≡ true
   pub whole : length s.now ≡ s.size
   pub mark : is_offline c.state ≡ offline
+  pub groups : c.groups ≡ length lot.groups
   pub carries : Carries cell lot s (Some c)
 
 -- The record after an order: the reply is the record's own, the cell and the lot carry the one after it, and the tables still show it.

@@ -1,5 +1,5 @@
 -- The start and the end of a session.
-use Rattle.std.specs.Prelude.{◌≡◌, ◌⊎◌, ℕ, Bool, true, nat_lt, if◌then◌else◌, List, Option}
+use Rattle.std.specs.Prelude.{◌≡◌, ◌⊎◌, ℕ, Bool, true, cond, nat_lt, List, Option}
 use Rattle.ice_base.specs.Disk.{DiskState, Everywhere, Image}
 use Rattle.ice_base.specs.Lots.{LotView}
 use Rattle.ice_base.specs.Frames.{Settled}
@@ -54,20 +54,20 @@ pub record IsAsGood (c d : Option Cube) : Type 0 where
 
 -- The slot has a record that is as good, and where the unmount went well, the one of a cube that was put away.
 pub record PutsAway (x : ℕ) (ok : Bool) (v : VolumeView) (s : DiskState) (w : World) : Type 0 where
-  pub then : Option Cube
-  pub stands : StandsFor v s (with_slot w x then)
-  pub good : IsAsGood (w.cube x) then
-  pub away : ok ≡ true → then ≡ away_at (w.cube x)
+  pub next : Option Cube
+  pub stands : StandsFor v s (with_slot w x next)
+  pub good : IsAsGood (w.cube x) next
+  pub away : ok ≡ true → next ≡ away_at (w.cube x)
 
 -- the first n slots' cubes were put away, or an unmount failed, and the others are as they were
 abbrev pub away_below : ℕ → (ℕ → Option Cube) → ℕ → Option Cube
-away_below n cube x = if nat_lt x n then away_at (cube x) else cube x
+away_below n cube x = cond (nat_lt x n) (away_at (cube x)) (cube x)
 
 -- The volume and the disk stand for a world that is as good, and where no unmount failed, for the one in which these slots are put away.
 pub record HasPutAway (n : ℕ) (ok : Bool) (v : VolumeView) (s : DiskState) (w : World) : Type 0 where
-  pub then : World
-  pub stands : StandsFor v s then
-  pub slots : then.slots ≡ w.slots
-  pub groups : then.groups ≡ w.groups
-  pub good : (x : ℕ) → IsAsGood (w.cube x) (then.cube x)
-  pub away : ok ≡ true → (x : ℕ) → then.cube x ≡ away_below n w.cube x
+  pub next : World
+  pub stands : StandsFor v s next
+  pub slots : next.slots ≡ w.slots
+  pub groups : next.groups ≡ w.groups
+  pub good : (x : ℕ) → IsAsGood (w.cube x) (next.cube x)
+  pub away : ok ≡ true → (x : ℕ) → next.cube x ≡ away_below n w.cube x

@@ -10,9 +10,10 @@ ghost use Rattle.ice_system.specs.Systems.{tables_of};
 ghost use Rattle.ice_volume.specs.Sessions.{PutsAway, finished};
 ghost use Rattle.ice_volume.specs.Volumes.{HasRoom, IsWritable, StandsFor};
 
-use crate::cell::Cell;
+use crate::orders::unmount_cell;
 use crate::volume::Volume;
 use ice_base::{Disk, DiskFault};
+use tree_spec::Refusal;
 
 impl Volume {
     /// Unmounts the cube of a slot, where one is mounted. After an `Err` the cube is stopped.
@@ -28,18 +29,14 @@ impl Volume {
         ensures puts { (w : World) → StandsFor self.old (D.state disk.old) w
             → PutsAway slot (is_ok result) self.new (D.state disk.new) w }
     {
-        match std::mem::replace(&mut self.cells[slot as usize], Cell::Closed) {
-            Cell::Open(cube) if !cube.is_stopped() => match cube.unmount(disk) {
-                Ok(_) => Ok(()),
-                Err(_) => {
-                    self.cells[slot as usize] = Cell::Stopped;
-                    Err(DiskFault::Failed)
-                }
-            },
-            cell => {
-                self.cells[slot as usize] = cell;
-                Ok(())
-            }
+        if self.lot(slot).is_none() {
+            return Ok(());
+        }
+        let offline = self.is_offline(slot);
+        match unmount_cell(&mut self.cells[slot as usize], disk, offline) {
+            Err(Refusal::Fault) => Err(DiskFault::Failed),
+            // A count, or the refusal of a cube that isn't mounted.
+            _ => Ok(()),
         }
     }
 

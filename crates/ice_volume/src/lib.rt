@@ -3,8 +3,15 @@
 
 mod attach;
 mod cell;
+mod cubes;
 mod fault;
+mod finish;
+mod groups;
+mod line;
 mod list;
+mod orders;
+mod tables;
+mod trees;
 mod volume;
 
 pub use cell::Cell;

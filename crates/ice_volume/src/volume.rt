@@ -46,17 +46,22 @@ impl Volume {
         self.system.names().mark(slot) == Mark::Offline
     }
 
+    /// What the session has of a slot.
+    fn cell(&self, slot: u8) -> &Cell
+        requires { slot < self.now.system.names.slots }
+        ensures { result.now ≡ cell_at self.now.cells slot }
+    {
+        // This call tells the prover that there are at most 16 slots.
+        let _ = self.system.slots();
+        &self.cells[slot as usize]
+    }
+
     /// The state of the cube of a slot.
     pub(crate) fn state(&self, slot: u8) -> StateWord
         requires { slot < self.now.system.names.slots }
         ensures { result ≡ cell_state (cell_at self.now.cells slot) (is_marked (row_at self.now.system.names slot)) }
     {
-        match &self.cells[slot as usize] {
-            Cell::Closed if self.is_offline(slot) => StateWord::Offline,
-            Cell::Closed => StateWord::Unmounted,
-            Cell::Stopped => StateWord::Stopped,
-            Cell::Open(cube) if cube.is_stopped() => StateWord::Stopped,
-            Cell::Open(_) => StateWord::Mounted,
-        }
+        let offline = self.is_offline(slot);
+        self.cell(slot).state(offline)
     }
 }

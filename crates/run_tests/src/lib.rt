@@ -2,7 +2,15 @@
 #![tactic(auto)]
 
 #[cfg(test)]
+mod apart;
+#[cfg(test)]
 mod bytes;
+#[cfg(test)]
+mod costs;
+#[cfg(test)]
+mod cubes;
+#[cfg(test)]
+mod faults;
 #[cfg(test)]
 mod format;
 #[cfg(test)]

@@ -1,12 +1,10 @@
 //! Sessions over the tables of a volume with cubes.
 ghost use Rattle.std.specs.Prelude.{◌≡◌, ◌≤◌, ◌<◌};
 
-use crate::hosts::{session, status_of};
+use crate::hosts::{copy_of, session, status_of};
 use disk_mem::MemHost;
-use ice_base::{Disk, Host, Status};
+use ice_base::Status;
 use ice_layout::total;
-use ice_path::read_path;
-use ice_system::System;
 use std::alloc::Global;
 use std::process::Abort;
 use std::test::Fail;
@@ -27,29 +25,14 @@ const REPLIES: &[u8] =
 /// How many bytes have been given once `offline /a`, `delete /b` and `online /a` are answered.
 const ANSWERED: [usize; 3] = [42, 45, 68];
 
-fn create(rt: &impl Abort, system: &mut System, host: &mut MemHost, text: &[u8]) -> bool {
-    let Ok(path) = read_path(text) else {
-        return false;
-    };
-    assert!(rt; path.text().len() <= 199 && system.total() <= host.blocks());
-    match system.plan_create(&path, 1) {
-        Ok(lot) => system.create(host, &path, &lot).is_ok(),
-        Err(_) => false,
-    }
-}
-
-/// A host with an image of two slots and three groups, in which the cubes `/a` and `/b` were made by calls of `System`. No call was made yet.
+/// A host with an image of two slots and three groups, in which a session made the cubes `/a` and `/b`. No call was made yet.
 fn two_cubes(rt: &impl Abort, alloc: Global) -> Result<MemHost, Fail> {
     let mut host = MemHost::new(alloc, total(2, 3))?;
     let words = ["format", "img", "--slots", "2", "--groups", "3"];
     assert!(rt; status_of(alloc, &words, &mut host)? == Status::Done);
-    let mut system = System::attach(alloc, &mut host).ok().ok_or("no volume")?;
-    assert!(rt; create(rt, &mut system, &mut host, b"/a"));
-    assert!(rt; create(rt, &mut system, &mut host, b"/b"));
-    let calls = host.calls();
-    let mut image = host.crashed(alloc, calls, 1)?;
-    image.reserve(1000, 1000)?;
-    Ok(image)
+    let made = session(alloc, &mut host, b"create /a 1\ncreate /b 1\n")?;
+    assert!(rt; made == Status::Done && host.output() == b"ok\nok\n".as_slice());
+    copy_of(alloc, &host)
 }
 
 /// How many changes are answered where so many bytes have been given.
@@ -104,7 +87,10 @@ fn refusals_of_the_lines_of_the_tables(rt: HostRuntime) -> Result<(), Fail> {
             b"delete a\noffline /a/\nonline //\n",
             b"no Path\nno Path\nno Path\n",
         ),
-        (b"mount /a\nlist /a\n", b"no Word\nno Word\n"),
+        (
+            b"mount /a\noffline /a\nonline /a\n",
+            b"ok 0\nno Mounted\nno State\n",
+        ),
     ];
     for (script, replies) in rows {
         let mut host = two_cubes(&rt, alloc)?;
