@@ -1,8 +1,7 @@
 -- The cube that a line of one path is meant for, and the refusals before it is asked.
-use Rattle.std.proofs.Common.{◌≡◌, ◌∙◌, ◌<◌, ℕ, Bool, List, length, Option, Some, None, option_map, Result, Ok, Err, refl, sym, ap, subst, arith}
-use Rattle.std.specs.Prelude.{⊤, IsSome}
+use Rattle.std.proofs.Common.{◌≡◌, ◌∙◌, ◌<◌, ℕ, Bool, List, length, Option, Some, None, option_map, Ok, Err, refl, sym, ap, subst, arith}
+use Rattle.std.specs.Prelude.{IsSome}
 use Rattle.ice_base.specs.Disk.{Image, DiskState}
-use Rattle.ice_base.specs.FrameLaws.{within_refl}
 use Rattle.tree_spec.specs.Held.{RoomContent}
 use Rattle.tree_spec.specs.Lines.{Line}
 use Rattle.tree_spec.specs.Own.{Order}

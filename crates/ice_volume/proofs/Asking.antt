@@ -1,8 +1,8 @@
 -- What a command of a tree and a check do to the record of their cube.
-use Rattle.std.proofs.Common.{◌≡◌, ◌∙◌, inl, inr, ◌≤◌, ◌+◌, ℕ, Bool, true, false, List, [], length, Option, Some, None, Result, Ok, Err, refl, sym, ap, subst, arith}
-use Rattle.std.specs.Prelude.{⊤, IfOk, IfErr, IsErr, IsErrOf, Contains}
-use Rattle.ice_base.specs.Disk.{Image, DiskState, AgreesOn, Nowhere, Rose, RoseBy, Caused}
-use Rattle.ice_base.specs.Frames.{CrashStep, Within, LeavesOnly, With, Every, Kept}
+use Rattle.std.proofs.Common.{◌≡◌, ◌∙◌, inl, inr, ◌≤◌, ◌+◌, ℕ, Bool, true, false, List, length, Some, None, Result, Ok, Err, refl, sym, ap, subst, arith}
+use Rattle.std.specs.Prelude.{⊤, IfOk, IfErr, IsErr, IsErrOf}
+use Rattle.ice_base.specs.Disk.{Image, DiskState, Nowhere, Rose, RoseBy, Caused}
+use Rattle.ice_base.specs.Frames.{CrashStep, Within, LeavesOnly, With, Kept}
 use Rattle.ice_base.specs.FrameLaws.{within_more}
 use Rattle.ice_base.specs.Lots.{LotView, extent}
 use Rattle.ice_base.specs.Still.{Still}
@@ -33,10 +33,10 @@ use Rattle.ice_check.specs.declared.fault.CheckFault.TheVariants as check
 use Rattle.ice_check.specs.declared.fault.Summary.{Summary}
 use Rattle.ice_images.specs.Fitting.{Has, HasContent}
 use Rattle.ice_images.specs.Opening.{closed_state}
-use Rattle.ice_images.specs.Recovering.{Recovers, RecoversNothing}
+use Rattle.ice_images.specs.Recovering.{RecoversNothing}
 use Rattle.ice_cube.specs.Commands.{AnswersOwn, HoldsRecord, meant_check, open_state}
 use Rattle.ice_cube.specs.Cubes.{CubeView, HasHistory, Holds}
-use Rattle.ice_volume.specs.Cells.{Carries, IsKnown, cell_state}
+use Rattle.ice_volume.specs.Cells.{Carries, IsKnown}
 use Rattle.ice_volume.specs.Lines.{CheckFound, RecoversOf, fault_in}
 use Rattle.ice_volume.specs.Orders.{AnswersOrder, Becomes, IsCellOf, IsRecord, WritesIn, told_check}
 use Rattle.ice_volume.specs.declared.cell.Cell.{Cell}
@@ -213,17 +213,23 @@ module _ {D : Type 0} (state : D → DiskState) (left : D → ℕ → Image → 
         → (t : Tree) × (k : ℕ) × CheckFinds c x c.state (on_check c t k) × (Checked q.blocks q.nodes q.done ≡ Checked (blocks c.form t) (nodes t) k)
     finds_tree q of (Sound h) has known =
         let j = has.0 in
-        let one = recovers_alike lot (state a).now of.form c.form of.mode c.mode of.tree (tree_at h j) q.done (floor h + j) of.recovers has.2 in
-        (tree_at h j, floor h + j, check_sound c h j c.state (idle_state lot offline cell (state a) c idle rec) has.1,
+        let one = recovers_alike lot (state a).now of.form c.form of.mode c.mode of.tree (tree_at h j) q.done (floor h + j) of.recovers has.2 in (
+          tree_at h j,
+          floor h + j,
+          check_sound c h j c.state (idle_state lot offline cell (state a) c idle rec) has.1,
           let cost : q.blocks ≡ blocks c.form (tree_at h j) = of.cost_is ∙ ap (λ (g : Form). blocks g of.tree) one.0 ∙ ap (λ (t : Tree). blocks c.form t) one.1 in
-          let number : q.nodes ≡ nodes (tree_at h j) = of.nodes_are ∙ ap nodes one.1 in
-          ap (λ (n : ℕ). Checked n q.nodes q.done) cost ∙ ap (λ (n : ℕ). Checked (blocks c.form (tree_at h j)) n q.done) number
-          ∙ ap (λ (n : ℕ). Checked (blocks c.form (tree_at h j)) (nodes (tree_at h j)) n) one.2)
+              let number : q.nodes ≡ nodes (tree_at h j) = of.nodes_are ∙ ap nodes one.1 in
+              ap (λ (n : ℕ). Checked n q.nodes q.done) cost ∙ ap (λ (n : ℕ). Checked (blocks c.form (tree_at h j)) n q.done) number
+              ∙ ap (λ (n : ℕ). Checked (blocks c.form (tree_at h j)) (nodes (tree_at h j)) n) one.2,
+        )
     finds_tree q of (Broken rules) has known = absurd (known.nothing of.form of.mode of.tree q.done of.recovers)
     finds_tree q of Unread has known =
-        let form : of.form ≡ c.form = (recovers_first lot (state a).now of.form of.mode of.tree q.done of.recovers).0 ∙ sym known.0 in
-        (of.tree, q.done, inr (of.tree, q.done, refl),
-          ap (λ (n : ℕ). Checked n q.nodes q.done) (of.cost_is ∙ ap (λ (g : Form). blocks g of.tree) form) ∙ ap (λ (n : ℕ). Checked (blocks c.form of.tree) n q.done) of.nodes_are)
+        let form : of.form ≡ c.form = (recovers_first lot (state a).now of.form of.mode of.tree q.done of.recovers).0 ∙ sym known.0 in (
+          of.tree,
+          q.done,
+          inr (of.tree, q.done, refl),
+          ap (λ (n : ℕ). Checked n q.nodes q.done) (of.cost_is ∙ ap (λ (g : Form). blocks g of.tree) form) ∙ ap (λ (n : ℕ). Checked (blocks c.form of.tree) n q.done) of.nodes_are,
+        )
 
     finds_damage : (y : Rule) → RecoversNothing lot (state a).now × LotMayName lot (effective_of lot (state a).now) y → (x : Content) → HasContent lot (state a).now c.form c.mode x → IsKnown lot (state a).now c x
         → CheckFinds c x c.state (No (why.Damaged (rule_number y)))

@@ -1,16 +1,16 @@
 -- A change of the tables: what it leaves of the cells and the lots, and the world that is stood for after it.
 use Rattle.std.proofs.Common.{◌≡◌, ◌≢◌, ◌∙◌, inl, inr, ⊎_elim, ◌<◌, ◌≤◌, ◌+◌, ◌*◌, ℕ, true, false, cond, nat_eq, List, length, Option, Some, None, option_map, Result, Ok, Err, OnOk, OnErr, IfOk, refl, sym, ap, subst, arith}
-use Rattle.std.specs.Prelude.{◌⊎◌, ⊤, IsSome}
+use Rattle.std.specs.Prelude.{◌⊎◌, IsSome}
 use Rattle.std.proofs.lemmas.Bool.{cases_eq}
 use Rattle.ice_base.specs.Disk.{Image, DiskState, block, AgreesOn, Outside, Rose, RoseBy, Streams}
-use Rattle.ice_base.specs.Frames.{Within, LeavesOnly, With, Sure, Every, Kept}
+use Rattle.ice_base.specs.Frames.{Within, LeavesOnly, With, Sure, Kept}
 use Rattle.ice_base.specs.FrameLaws.{within_refl, within_more, within_next}
 use Rattle.ice_base.specs.Lots.{LotView, extent}
 use Rattle.ice_base.proofs.LotLaws.{extent_cases}
 use Rattle.ice_base.proofs.Kept.{sure_kept, every_kept, kept_within}
 use Rattle.tree_spec.specs.Held.{RoomContent}
 use Rattle.tree_spec.specs.Lines.{Line}
-use Rattle.tree_spec.specs.Records.{Cube, Content, Sound, Broken, Unread, History, is_offline}
+use Rattle.tree_spec.specs.Records.{Cube, Content, Sound, Broken, Unread}
 use Rattle.tree_spec.specs.Replies.{Response, Tallies, meant}
 use Rattle.tree_spec.specs.Replies as reply
 use Rattle.tree_spec.specs.Own.{Order, Own}
@@ -26,8 +26,7 @@ use Rattle.ice_tables.proofs.TableLaws.{at_rest_rests}
 use Rattle.ice_tables.proofs.LotSites.{lot_high}
 use Rattle.ice_images.specs.Fitting.{Entry, entry_at, cube_entry, ShowCubes, HasContent, Has, Fits}
 use Rattle.ice_images.proofs.OpeningLaws.{named_rests}
-use Rattle.ice_cube.specs.Cubes.{CubeView, HasHistory}
-use Rattle.ice_cube.specs.Commands.{HoldsRecord}
+use Rattle.ice_cube.specs.Cubes.{CubeView}
 use Rattle.ice_cube.proofs.CubeLaws.{holds_kept}
 use Rattle.ice_system.specs.Systems.{SystemView, tables_of}
 use Rattle.ice_system.specs.Says.{IsChange, EitherTables}
@@ -40,7 +39,6 @@ use Rattle.ice_volume.specs.Lines.{AnswersLine, Answers, IsTableOrder, LineFound
 use Rattle.ice_volume.specs.Told.{told_of, CellBecomes}
 use Rattle.ice_volume.specs.declared.cell.Cell.{Cell}
 use Rattle.ice_volume.specs.declared.cell.Cell.TheVariants.{Closed, Stopped, Open}
-use Rattle.ice_volume.specs.declared.fault.AreaFault.{AreaFault}
 
 -- ---- what a cell and its lot carry
 
@@ -216,7 +214,7 @@ module _ {D : Type 0} (state : D → DiskState) (left : D → ℕ → Image → 
   early_fits i agrees = record {
     tables = tables_of v.system;
     has = (at_rest_rests (tables_of v.system) (state a).now i
-    (λ k low. agrees.same k (λ here. table_low k low (spare.high k here)) (stands.tables.settled.settled k low)) stands.tables.now).has;
+        (λ k low. agrees.same k (λ here. table_low k low (spare.high k here)) (stands.tables.settled.settled k low)) stands.tables.now).has;
     room = subst (λ n. total (tables_of v.system) ≤ n) (sym agrees.count) stands.room;
     shows = stands.shows;
     cubes = λ y here. has_where (lot_of (tables_of v.system) y) i (w.cube y)
@@ -291,14 +289,19 @@ module _ {D : Type 0} (state : D → DiskState) (left : D → ℕ → Image → 
       → LeavesOnly left a c (With (state a).streams.aside (MayFit w line))
   change_leaves t becomes leaves = record {
     each = λ m i out l. ⊎_elim (λ before. (early_leaves state left v w P a b stands spare early line).each m i out before) (λ here.
-    ⊎_elim (λ before. (early_leaves state left v w P a b stands spare early line).each m i out before) (λ there. inr (
-      ⊎_elim
-          (λ old. inl (fits_with (tables_of v.system) w i here.0 old mid.room stands.shows each_old))
-          (λ new. inr (Ok reply.Plain, with_slot w x to.then, step_by (Ok reply.Plain) to.then to.says, refl,
-          fits_with t (with_slot w x to.then) i here.0 new (room_new t becomes) (shows_new t becomes) (each_new t becomes)))
-          there.0,
-      there.1 ∙ aside_same,
-    )) (leaves.each m i out l)) (within.left_new m i out l);
+        ⊎_elim (λ before. (early_leaves state left v w P a b stands spare early line).each m i out before) (λ there. inr (
+          ⊎_elim
+              (λ old. inl (fits_with (tables_of v.system) w i here.0 old mid.room stands.shows each_old))
+              (λ new. inr (
+                Ok reply.Plain,
+                with_slot w x to.then,
+                step_by (Ok reply.Plain) to.then to.says,
+                refl,
+                fits_with t (with_slot w x to.then) i here.0 new (room_new t becomes) (shows_new t becomes) (each_new t becomes),
+              ))
+              there.0,
+          there.1 ∙ aside_same,
+        )) (leaves.each m i out l)) (within.left_new m i out l);
   }
 
   kept_lot : (t : Tables) (y : ℕ) → Kept (extent (lot_of t y)) (state b) (state c)

@@ -1,6 +1,6 @@
 -- As many groups are free by the tables as by the world that they show.
-use Rattle.std.proofs.Common.{◌≡◌, ◌≢◌, ◌∙◌, ⊎_elim, ◌≤◌, ◌<◌, ◌+◌, ◌-◌, ◌&&◌, ◌==◌, ℕ, zero, suc, Bool, true, false, cond, List, [], ◌∷◌, ◌++◌, length, length-append, Option, Some, None, option_map, refl, sym, ap, subst, arith}
-use Rattle.std.specs.Prelude.{nat_lt, filter, flat_map, is_some, is_none, IsSome, slice_index}
+use Rattle.std.proofs.Common.{◌≡◌, ◌≢◌, ◌∙◌, ⊎_elim, ◌≤◌, ◌<◌, ◌+◌, ◌&&◌, ◌==◌, ℕ, zero, suc, Bool, true, false, cond, List, [], ◌∷◌, length, length-append, Option, Some, None, option_map, refl, sym, ap, arith}
+use Rattle.std.specs.Prelude.{nat_lt, filter, flat_map, is_some, is_none, slice_index}
 use Rattle.std.specs.List.{range_with_len, sum_by}
 use Rattle.std.proofs.lemmas.Bool.{cases_eq}
 use Rattle.std.proofs.lemmas.Bool.Decides.{nat_tests}
@@ -9,11 +9,11 @@ use Rattle.ice_base.specs.Disk.{Image}
 use Rattle.tree_spec.specs.Records.{Cube}
 use Rattle.tree_spec.specs.World.{World, groups_at}
 use Rattle.tree_spec.specs.World as world
-use Rattle.ice_tables.specs.Tables.{Tables, Row, HasTables, HasGroups}
+use Rattle.ice_tables.specs.Tables.{Tables, Row, HasTables}
 use Rattle.ice_tables.specs.Lots.{is_slot, groups_of}
 use Rattle.ice_tables.proofs.LotSites.{is_slot-some, group_held}
 use Rattle.ice_tables.proofs.TableLaws.{row_low}
-use Rattle.ice_images.specs.Fitting.{Entry, ShowCubes, cube_entry, entry_at}
+use Rattle.ice_images.specs.Fitting.{Entry, ShowCubes, cube_entry}
 use Rattle.ice_system.specs.Plans.{free_groups}
 use Rattle.ice_volume.proofs.Changing.{entry_with}
 

@@ -1,5 +1,5 @@
 -- A command and a check leave what the tables show of a cube.
-use Rattle.std.proofs.Common.{◌≡◌, ◌∙◌, inl, inr, ◌&&◌, ℕ, Bool, true, false, cond, Option, Some, None, option_map, Ok, Err, refl, sym, ap, subst}
+use Rattle.std.proofs.Common.{◌≡◌, ◌∙◌, inl, inr, ◌&&◌, Bool, true, false, cond, Option, Some, None, option_map, refl, sym, ap, subst}
 use Rattle.std.specs.Prelude.{⊤}
 use Rattle.tree_spec.specs.Operations.{Operation, is_change}
 use Rattle.tree_spec.specs.Why.{Why}

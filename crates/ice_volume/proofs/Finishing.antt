@@ -1,9 +1,10 @@
 -- Cubes that are unmounted at the end of a session.
-use Rattle.std.proofs.Common.{◌≡◌, ◌≢◌, ◌∙◌, ⊎_elim, ◌<◌, ◌≤◌, ◌+◌, ◌++◌, ℕ, Bool, true, false, cond, nat_lt, List, [], ◌∷◌, length, take, Option, None, Some, option_map, Err, refl, sym, ap, subst, length-append, arith}
+use Rattle.std.proofs.Common.{◌≡◌, ◌≢◌, ◌∙◌, inl, inr, ⊎_elim, ◌<◌, ◌≤◌, ◌+◌, ◌++◌, ℕ, Bool, true, false, cond, nat_lt, List, [], ◌∷◌, length, take, Option, None, Some, option_map, Err, refl, sym, ap, subst, length-append, arith}
 use Rattle.std.specs.Prelude.{◌&&◌}
 use Rattle.std.proofs.lemmas.Bool.Decides.{nat_tests}
 use Rattle.std.proofs.Math.Seq.{take-length}
 use Rattle.ice_base.specs.Disk.{Image, DiskState}
+use Rattle.ice_base.specs.Frames.{LeavesOnly, With}
 use Rattle.ice_base.specs.Lots.{LotView}
 use Rattle.tree_spec.specs.Why.{Why}
 use Rattle.tree_spec.specs.Trees.{Tree}
@@ -14,18 +15,23 @@ use Rattle.tree_spec.specs.Replies.{Response}
 use Rattle.tree_spec.specs.Replies as reply
 use Rattle.tree_spec.specs.Records.{Cube, Content, Sound, Broken, Unread, History, Mode, floor, is_mounted, is_offline, settled, tree_at, with_state, with_history, mode_after}
 use Rattle.tree_spec.specs.Own.{Unmount, Verdict, No, Says, Own, IfMounted, OfSound, on_sync}
-use Rattle.tree_spec.specs.World.{World, with_slot}
+use Rattle.tree_spec.specs.Lines.{Asks}
+use Rattle.tree_spec.specs.Lines as line
+use Rattle.tree_spec.specs.World.{World, Aim, At, Goes, Step, aim, to_cube, with_slot}
 use Rattle.tree_spec.specs.declared.reply.StateWord.{StateWord}
 use Rattle.tree_spec.specs.declared.reply.StateWord.TheVariants as word
 use Rattle.ice_images.specs.Fitting.{Fits, Has, HasContent, cube_entry, entry_at}
 use Rattle.ice_images.proofs.FittingLaws.{no_cube}
 use Rattle.ice_images.specs.Recovering.{Recovers}
 use Rattle.ice_tables.specs.Lots.{lot_of}
+use Rattle.ice_names.specs.Names.{path_at}
 use Rattle.ice_system.specs.Systems.{tables_of}
 use Rattle.ice_cube.specs.Cubes.{HasHistory}
 use Rattle.ice_volume.specs.Cells.{Carries, cell_at}
 use Rattle.ice_volume.specs.Sessions.{HasPutAway, IsAsGood, PutsAway, away_at, away_below, finished, put_away}
+use Rattle.ice_volume.specs.Lines.{Answers, MayFit}
 use Rattle.ice_volume.specs.Volumes.{VolumeView, StandsFor}
+use Rattle.ice_volume.proofs.Lookups.{row_path, slot_found}
 use Rattle.ice_volume.proofs.Slots.{each_slot}
 
 -- ---- histories
@@ -67,13 +73,13 @@ away_mounted c h mounted sound = ap (λ s. put_away s c.content c) mounted ∙ a
 -- ---- the cube of a slot
 
 -- the record after an unmount is as good, and where it was no fault, that of a cube that was put away
-pub record GoesAway (c : Cube) (r : Response) (d : Cube) : Type 0 where
-  pub good : IsAsGood (Some c) (Some d)
-  pub away : r ≢ Err reply.Fault → Some d ≡ away_at (Some c)
+pub record GoesAway (c : Option Cube) (r : Response) (d : Option Cube) : Type 0 where
+  pub good : IsAsGood c d
+  pub away : r ≢ Err reply.Fault → d ≡ away_at c
 
-same_away : (c d : Cube) (r : Response) → Some d ≡ Some c → c.state ≢ word.Mounted → GoesAway c r d
+same_away : (c : Cube) (d : Option Cube) (r : Response) → d ≡ Some c → c.state ≢ word.Mounted → GoesAway (Some c) r d
 same_away c d r same other = record {
-  good = same_good (Some c) (Some d) same;
+  good = same_good (Some c) d same;
   away = λ none. same ∙ ap (λ (x : Cube). Some x) (sym (away_other c other));
 }
 
@@ -89,28 +95,28 @@ stopped_good c mounted = record {
   has = λ lot i had. had;
 }
 
-goes_as : (c d e : Cube) (r : Response) → Some d ≡ Some e → GoesAway c r e → GoesAway c r d
+goes_as : (c d e : Option Cube) (r : Response) → d ≡ e → GoesAway c r e → GoesAway c r d
 goes_as c d e r same goes = record {
-  good = good_then (Some c) (Some e) (Some d) goes.good (same_good (Some e) (Some d) same);
+  good = good_then c e d goes.good (same_good e d same);
   away = λ none. same ∙ goes.away none;
 }
 
 -- a refusal leaves the record
-refused_away : (c d : Cube) (r : Response) (why : Why) (v : Verdict) → v ≡ No why → c.state ≢ word.Mounted → Says v (Some c) r (Some d) → GoesAway c r d
-refused_away c d r why v is other says = same_away c d r (subst (λ (x : Verdict). Says x (Some c) r (Some d)) is says).1 other
+refused_away : (c : Cube) (d : Option Cube) (r : Response) (why : Why) (v : Verdict) → v ≡ No why → c.state ≢ word.Mounted → Says v (Some c) r d → GoesAway (Some c) r d
+refused_away c d r why v is other says = same_away c d r (subst (λ (x : Verdict). Says x (Some c) r d) is says).1 other
 
-plain_away : (c d : Cube) (r : Response) (v : Verdict) (s : StateWord) (x : Content) → c.state ≡ s → c.content ≡ x → IfMounted s (OfSound x (on_sync c word.Unmounted)) v → Says v (Some c) r (Some d) → GoesAway c r d
+plain_away : (c : Cube) (d : Option Cube) (r : Response) (v : Verdict) (s : StateWord) (x : Content) → c.state ≡ s → c.content ≡ x → IfMounted s (OfSound x (on_sync c word.Unmounted)) v → Says v (Some c) r d → GoesAway (Some c) r d
 plain_away c d r v word.Unmounted x state content is says = refused_away c d r _ v is (λ mounted. absurd (cc (sym mounted ∙ state))) says
 plain_away c d r v word.Stopped x state content is says = refused_away c d r _ v is (λ mounted. absurd (cc (sym mounted ∙ state))) says
 plain_away c d r v word.Offline x state content is says = refused_away c d r _ v is (λ mounted. absurd (cc (sym mounted ∙ state))) says
 plain_away c d r v word.Mounted (Sound h) state content is says =
-    goes_as c d (with_state word.Unmounted (with_history (settled h) c)) r (subst (λ (x : Verdict). Says x (Some c) r (Some d)) is says).1
+    goes_as (Some c) d (Some (with_state word.Unmounted (with_history (settled h) c))) r (subst (λ (x : Verdict). Says x (Some c) r d) is says).1
     (record { good = settled_good c h state content; away = λ none. ap (λ (x : Cube). Some x) (sym (away_mounted c h state content)) })
 plain_away c d r v word.Mounted (Broken rules) state content is says = absurd is
 plain_away c d r v word.Mounted Unread state content is says = absurd is
 
-fault_away : (c d : Cube) (r : Response) → c.state ≡ word.Mounted → r ≡ Err reply.Fault → Some d ≡ Some (with_state word.Stopped c) → GoesAway c r d
-fault_away c d r mounted fault same = goes_as c d (with_state word.Stopped c) r same (record { good = stopped_good c mounted; away = λ none. absurd (none fault) })
+fault_away : (c : Cube) (d : Option Cube) (r : Response) → c.state ≡ word.Mounted → r ≡ Err reply.Fault → d ≡ Some (with_state word.Stopped c) → GoesAway (Some c) r d
+fault_away c d r mounted fault same = goes_as (Some c) d (Some (with_state word.Stopped c)) r same (record { good = stopped_good c mounted; away = λ none. absurd (none fault) })
 
 mounted_if : (s : StateWord) → is_mounted s ≡ true → s ≡ word.Mounted
 mounted_if word.Mounted p = refl
@@ -119,8 +125,9 @@ mounted_if word.Stopped p = absurd (cc p)
 mounted_if word.Offline p = absurd (cc p)
 
 -- what an unmount answers and leaves of a record
-pub own_away : (c d : Cube) (r : Response) → Own (Some c) Unmount r (Some d) → GoesAway c r d
-own_away c d r own = ⊎_elim
+own_away : (c d : Option Cube) (r : Response) → Own c Unmount r d → GoesAway c r d
+own_away None d r own = ⊎_elim (λ p. absurd p.1) (λ q. ⊎_elim (λ f. absurd (cc f.0)) (λ m. absurd (cc m.0)) q) own
+own_away (Some c) d r own = ⊎_elim
     (λ p. plain_away c d r p.0 c.state c.content refl refl p.1 p.2)
     (λ q. ⊎_elim (λ f. fault_away c d r (mounted_if c.state f.0) f.1 f.2) (λ m. absurd (cc m.0)) q)
     own
@@ -154,6 +161,50 @@ puts_none v s w x free stands = record {
   good = same_good (w.cube x) (w.cube x) refl;
   away = λ ok. free ∙ sym (ap away_at free);
 }
+
+-- a slot past those of the image is free
+pub no_slot : (v : VolumeView) (s : DiskState) (w : World) (x : ℕ) → v.system.names.slots ≤ x → StandsFor v s w → w.cube x ≡ None
+no_slot v s w x high stands = no_cube s.now (tables_of v.system) w x stands.tables.now.has stands.shows high
+
+-- a slot without a path is free
+pub free_cube : (v : VolumeView) (s : DiskState) (w : World) (x : ℕ) → path_at v.system.names x ≡ None → StandsFor v s w → w.cube x ≡ None
+free_cube v s w x none stands = by (w.cube x) (sym (row_path v s w stands x) ∙ none)
+  where
+    by : (o : Option Cube) → option_map (λ (c : Cube). c.path) o ≡ None → o ≡ None
+    by None is = refl
+    by (Some c) is = absurd (cc is)
+
+-- the slot of a path is put away by the line that unmounts its cube
+module _ (v : VolumeView) (s : DiskState) (w : World) (stands : StandsFor v s w) (p : List (List ℕ)) (x : ℕ) (less : x < v.system.names.slots) (at : path_at v.system.names x ≡ Some p) where
+  -- the world after the line
+  pub record StepsAway (r : Response) (u : World) : Type 0 where
+    pub next : Option Cube
+    pub is : u ≡ with_slot w x next
+    pub goes : GoesAway (w.cube x) r next
+
+  pub step_away : (r : Response) (u : World) → Step w (Asks (line.Unmount p)) r u → StepsAway r u
+  step_away r u step =
+      let aims : aim w (Asks (line.Unmount p)) ≡ At x Unmount = ap (λ (q : Option ℕ). to_cube q Unmount) (slot_found v s w stands p x less at) in
+      let g : Goes w (At x Unmount) r u = subst (λ (a : Aim). Goes w a r u) aims step in
+      record { next = g.0; is = g.2; goes = own_away (w.cube x) g.0 r g.1 }
+
+  -- each crash leaves an image that fits the world
+  pub leaves_fit : {D : Type 0} (left : D → ℕ → Image → List ℕ → Type 0) (a b : D) (aside : List ℕ) → LeavesOnly left a b (With aside (MayFit w (Asks (line.Unmount p)))) → LeavesOnly left a b (With aside (Fits w))
+  leaves_fit left a b aside leaves = record {
+    each = λ m i out l. ⊎_elim (λ before. inl before)
+        (λ here. inr (⊎_elim (λ fits. fits) (λ gone. let away = step_away gone.0 gone.1 gone.2 in good_fits w x away.next i away.goes.good (subst (λ (z : World). Fits z i) away.is gone.4)) here.0, here.1))
+        (leaves.each m i out l);
+  }
+
+  -- the cube was put away, or its unmount failed
+  pub line_puts : (z : VolumeView) (new : DiskState) (r : Response) (ok : Bool) → (ok ≡ true → r ≢ Err reply.Fault) → Answers v z s new (Asks (line.Unmount p)) w r → PutsAway x ok z new w
+  line_puts z new r ok fine answers =
+      let away = step_away r answers.then answers.step in record {
+        next = away.next;
+        stands = subst (StandsFor z new) away.is answers.stands;
+        good = away.goes.good;
+        away = λ is. away.goes.away (fine is);
+      }
 
 -- ---- all slots
 
@@ -199,8 +250,8 @@ away_fits n ok v s w so i fits = record {
 }
 
 -- every slot was put away
-pub away_all : (v : VolumeView) (s : DiskState) (w : World) (so : HasPutAway v.system.names.slots true v s w) → StandsFor v s (finished w)
-away_all v s w so = record {
+pub away_all : (n : ℕ) (v : VolumeView) (s : DiskState) (w : World) → v.system.names.slots ≤ n → (so : HasPutAway n true v s w) → StandsFor v s (finished w)
+away_all n v s w few so = record {
   live = so.stands.live;
   tables = so.stands.tables;
   room = so.stands.room;
@@ -212,12 +263,12 @@ away_all v s w so = record {
   cubes = λ x. subst (Carries (cell_at v.cells x) (lot_of (tables_of v.system) x) s) (all x) (so.stands.cubes x);
 }
   where
-    below : (x : ℕ) → (b : Bool) → nat_lt x v.system.names.slots ≡ b → away_below v.system.names.slots w.cube x ≡ away_at (w.cube x)
+    below : (x : ℕ) → (b : Bool) → nat_lt x n ≡ b → away_below n w.cube x ≡ away_at (w.cube x)
     below x true is = ap (λ b. cond b (away_at (w.cube x)) (w.cube x)) is
     below x false is =
-        let none : so.next.cube x ≡ None = no_cube s.now (tables_of v.system) so.next x so.stands.tables.now.has so.stands.shows (grind (arith, nat_tests, is)) in
+        let none : so.next.cube x ≡ None = no_cube s.now (tables_of v.system) so.next x so.stands.tables.now.has so.stands.shows (grind (arith, nat_tests, is, few)) in
         let here : w.cube x ≡ None = sym (ap (λ b. cond b (away_at (w.cube x)) (w.cube x)) is) ∙ sym (so.away refl x) ∙ none in
         ap (λ b. cond b (away_at (w.cube x)) (w.cube x)) is ∙ here ∙ sym (ap away_at here)
 
     all : (x : ℕ) → so.next.cube x ≡ away_at (w.cube x)
-    all x = so.away refl x ∙ below x (nat_lt x v.system.names.slots) refl
+    all x = so.away refl x ∙ below x (nat_lt x n) refl

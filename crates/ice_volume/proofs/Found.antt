@@ -1,19 +1,18 @@
 -- What a lot recovers is one tree, in version 1; what a check and a mount find of it.
-use Rattle.std.proofs.Common.{◌≡◌, ◌∙◌, ◌+◌, ◌≤◌, ◌==◌, nat_lt, ℕ, Bool, true, false, List, length, slice_index, Option, Some, None, Result, Ok, Err, refl, sym, ap, subst, arith}
-use Rattle.std.specs.Prelude.{⊤, if◌then◌else◌, not, unwrap_or, ◌^◌, IfOk, IfErr, IsErr, Contains}
+use Rattle.std.proofs.Common.{◌≡◌, ◌∙◌, ◌==◌, nat_lt, ℕ, Bool, true, false, List, slice_index, Option, Some, None, Result, Ok, Err, refl, sym, ap, subst, arith}
+use Rattle.std.specs.Prelude.{if◌then◌else◌, not, unwrap_or, ◌^◌, IfOk, IfErr, IsErr}
 use Rattle.std.proofs.lemmas.Bool.Decides.{nat_tests}
-use Rattle.ice_base.specs.Disk.{Image, DiskState}
+use Rattle.ice_base.specs.Disk.{Image}
 use Rattle.ice_base.specs.Fields.{long_at, word_at}
-use Rattle.ice_base.specs.Frames.{Every}
-use Rattle.ice_base.specs.Lots.{LotView, extent, sub_address}
+use Rattle.ice_base.specs.Lots.{LotView, sub_address}
 use Rattle.ice_base.specs.declared.fault.Rule.{Rule}
 use Rattle.ice_base.specs.declared.fault.Rule.TheVariants as rule
-use Rattle.tree_spec.specs.Costs.{Form, form_of, form_one, blocks, nodes}
+use Rattle.tree_spec.specs.Costs.{Form, form_of, form_one}
 use Rattle.tree_spec.specs.Records.{Mode, Plain, Strict}
 use Rattle.tree_spec.specs.Trees.{Tree}
 use Rattle.ice_layout.specs.Subs.{sub_magic, sub_of, sub_rule}
 use Rattle.ice_tables.specs.Journals.{effective_of}
-use Rattle.ice_reads.specs.Recovers.{MapRecovers, SubSays}
+use Rattle.ice_reads.specs.Recovers.{MapRecovers}
 use Rattle.ice_reads.proofs.Recovering.{recovers_one}
 use Rattle.ice_rules.specs.Rules.{LotMayName, form_in}
 use Rattle.ice_check.specs.Shown.{IsDisk, LotNamed, Sums}

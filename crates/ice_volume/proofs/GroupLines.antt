@@ -1,6 +1,6 @@
 -- The lines that make a cube and give one further groups, from what the calls that they make promise.
-use Rattle.std.proofs.Common.{◌≡◌, ◌∙◌, ◌<◌, ◌≤◌, ◌+◌, ◌*◌, ℕ, true, false, List, length, Option, Some, Result, Ok, Err, OnOk, OnErr, refl, sym, ap, subst, arith}
-use Rattle.std.specs.Prelude.{⊤, IsSome, is_some, take}
+use Rattle.std.proofs.Common.{◌≡◌, ◌∙◌, ◌<◌, ◌≤◌, ℕ, true, false, List, length, Option, Some, Result, Ok, Err, OnOk, OnErr, refl, sym, ap, subst, arith}
+use Rattle.std.specs.Prelude.{⊤, IsSome, is_some}
 use Rattle.std.proofs.lemmas.List.{length-take-le}
 use Rattle.ice_base.specs.Disk.{Image, DiskState, Everywhere, Rose}
 use Rattle.ice_base.specs.Frames.{Kept, Settled, Within}
@@ -39,7 +39,7 @@ use Rattle.ice_volume.proofs.Lookups.{slot_none}
 use Rattle.ice_volume.proofs.Changing.{IsEarly, carries_kept, changed, early_stands, faulted, lot_here, unchanged}
 use Rattle.ice_volume.proofs.Making.{answers_refused, create_because, create_fault, create_finds, create_may, create_memory, create_spare, groups_because, made_carries, makes, makes_aim, refused_aim}
 use Rattle.ice_volume.proofs.Growing.{WiderHas, grow_fault, grow_finds, grow_may, grow_refused, grow_spare, grows, head_new, new_groups_kept, plan_lot, plan_more, plan_wider, widened_session}
-use Rattle.ice_volume.proofs.Planned.{IsOfImage, IsPlanned, free_is, planned_below, planned_high, planned_is, planned_sited}
+use Rattle.ice_volume.proofs.Planned.{IsPlanned, free_is, planned_below, planned_high, planned_is, planned_sited}
 use Rattle.ice_volume.proofs.TableLines.{always, lot_kept}
 
 -- ---- refusals

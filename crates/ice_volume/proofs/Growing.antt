@@ -1,17 +1,17 @@
 -- Further groups of a cube: the order, its refusals, and what the cell and the lot carry then.
-use Rattle.std.proofs.Common.{◌≡◌, ◌≢◌, ◌∙◌, inl, inr, ⊎_elim, ◌≤◌, ◌<◌, ◌+◌, ◌*◌, ℕ, zero, suc, Bool, true, false, List, [], ◌∷◌, ◌++◌, length, length-append, Option, Some, None, option_map, Ok, Err, refl, sym, ap, subst, arith}
+use Rattle.std.proofs.Common.{◌≡◌, ◌∙◌, inl, inr, ⊎_elim, ◌<◌, ◌+◌, ◌*◌, ℕ, List, length, length-append, Option, Some, None, option_map, Ok, Err, refl, sym, ap, subst, arith}
 use Rattle.std.specs.Prelude.{IsSome, take}
 use Rattle.std.proofs.lemmas.Bool.{cases_eq}
 use Rattle.std.proofs.lemmas.List.{length-take-le}
-use Rattle.ice_base.specs.Disk.{DiskState, Image, Everywhere, block}
-use Rattle.ice_base.specs.Frames.{Every, Kept, Settled, Within}
+use Rattle.ice_base.specs.Disk.{DiskState}
+use Rattle.ice_base.specs.Frames.{Every, Kept}
 use Rattle.ice_base.specs.Lots.{LotView, IsLot, extent, place}
 use Rattle.ice_base.proofs.LotLaws.{is_address_at, place-in}
 use Rattle.tree_spec.specs.Costs.{Form}
-use Rattle.tree_spec.specs.Lines.{Line, Asks, Grow}
+use Rattle.tree_spec.specs.Lines.{Asks, Grow}
 use Rattle.tree_spec.specs.Own as order
 use Rattle.tree_spec.specs.Own.{Own, Yes}
-use Rattle.tree_spec.specs.Records.{Cube, Content, Sound, Broken, Unread, History, Mode, grown, mended, is_offline}
+use Rattle.tree_spec.specs.Records.{Cube, Content, Sound, Broken, Unread, History, Mode, grown, mended}
 use Rattle.tree_spec.specs.Replies.{Because, refused_of}
 use Rattle.tree_spec.specs.Replies as reply
 use Rattle.tree_spec.specs.Why as why
@@ -39,7 +39,7 @@ use Rattle.ice_volume.proofs.Lookups.{slot_found}
 use Rattle.ice_volume.proofs.Changing.{Becomes, FindsNothing, IsSpare, OrderMayWrite, carries_each, entry_with, lot_with}
 use Rattle.ice_volume.proofs.Counting.{free_shown, groups_shown}
 use Rattle.ice_volume.proofs.Making.{can_aim, cannot_aim, slot_of_cube}
-use Rattle.ice_volume.proofs.Orders.{here, entry_here, carries_here}
+use Rattle.ice_volume.proofs.TableOrders.{here, entry_here}
 use Rattle.ice_volume.proofs.Planned.{IsPlanned, planned_apart, planned_high, planned_is}
 
 -- ---- the blocks of further groups

@@ -8,8 +8,10 @@ mod Mounting
 mod Routing
 mod Aiming
 mod Sited
+mod Sessions
+mod Refusing
 mod Changing
-mod Orders
+mod TableOrders
 mod Counting
 mod Planned
 mod Making

@@ -1,6 +1,6 @@
 -- A new cube: the order, its refusals, and the cell that has the cube.
-use Rattle.std.proofs.Common.{◌≡◌, ◌≢◌, ◌∙◌, inl, inr, ⊎_elim, ◌≤◌, ◌<◌, ◌+◌, ◌*◌, ℕ, zero, suc, Bool, true, false, cond, List, [], ◌∷◌, ◌++◌, length, Option, Some, None, option_map, Ok, Err, refl, sym, ap, subst, arith}
-use Rattle.std.specs.Prelude.{⊤, nat_lt, not, is_some, IsSome, take, if◌then◌else◌}
+use Rattle.std.proofs.Common.{◌≡◌, ◌≢◌, ◌∙◌, inl, inr, ⊎_elim, ◌≤◌, ◌<◌, ◌+◌, ◌*◌, ℕ, zero, suc, Bool, true, false, cond, List, ◌++◌, length, Option, Some, None, option_map, Ok, Err, refl, sym, ap, subst, arith}
+use Rattle.std.specs.Prelude.{⊤, nat_lt, not, is_some, IsSome, take}
 use Rattle.std.specs.List.{range_with_len, find}
 use Rattle.std.proofs.lemmas.Bool.{cases_eq, cases_lt}
 use Rattle.std.proofs.lemmas.Bool.Decides.{nat_tests}
@@ -9,7 +9,6 @@ use Rattle.ice_base.specs.Disk.{DiskState}
 use Rattle.ice_base.specs.Frames.{Kept}
 use Rattle.ice_base.specs.Lots.{LotView, extent}
 use Rattle.tree_spec.specs.Costs.{form_one}
-use Rattle.tree_spec.specs.Held.{RoomContent}
 use Rattle.tree_spec.specs.Lines.{Line, Asks, Create}
 use Rattle.tree_spec.specs.Own as order
 use Rattle.tree_spec.specs.Own.{Own, Yes}
@@ -22,26 +21,24 @@ use Rattle.tree_spec.specs.World as world
 use Rattle.tree_spec.specs.World.{World, Aim, Refuse, At, aim, Goes, refuse_if, to_free, with_groups, slot_with_path, free_slot, with_slot}
 use Rattle.tree_spec.specs.declared.reply.Refusal.{Refusal}
 use Rattle.tree_spec.specs.declared.reply.Refusal.TheVariants as code
-use Rattle.tree_spec.specs.declared.reply.StateWord.TheVariants.{Mounted}
 use Rattle.ice_tables.specs.Tables.{Tables, Row}
-use Rattle.ice_tables.specs.Lots.{groups_of, lot_of}
+use Rattle.ice_tables.specs.Lots.{groups_of}
 use Rattle.ice_tables.proofs.TableLaws.{row_low}
-use Rattle.ice_images.specs.Fitting.{Entry, cube_entry}
+use Rattle.ice_images.specs.Fitting.{cube_entry}
 use Rattle.ice_images.proofs.FittingLaws.{no_cube}
-use Rattle.ice_names.specs.Names.{NoneHas, path_at, path_of}
+use Rattle.ice_names.specs.Names.{path_of}
 use Rattle.ice_cube.specs.Cubes.{CubeView, Holds}
 use Rattle.ice_cube.specs.Commands.{open_state}
 use Rattle.ice_system.specs.Plans.{CanHave, HasPath, IsFreeSlot, NoneFree, PlansCreate, RefusesCreate, RefusesGroups, free_groups}
-use Rattle.ice_system.specs.Says.{IsChange}
 use Rattle.ice_system.specs.Systems.{tables_of}
 use Rattle.ice_volume.specs.Cells.{Carries, EachHas}
-use Rattle.ice_volume.specs.Lines.{Answers, LineFound, OrderWrites, planned_lot}
+use Rattle.ice_volume.specs.Lines.{Answers, LineFound, planned_lot}
 use Rattle.ice_volume.specs.Volumes.{VolumeView, StandsFor}
 use Rattle.ice_volume.specs.declared.cell.Cell.TheVariants.{Open}
 use Rattle.ice_volume.proofs.Lookups.{slot_found, slot_none}
-use Rattle.ice_volume.proofs.Changing.{Becomes, FindsNothing, IsEarly, IsSpare, OrderMayWrite, carries_each, carries_kept, lot_with, put_again}
+use Rattle.ice_volume.proofs.Changing.{Becomes, FindsNothing, IsSpare, OrderMayWrite, carries_each, carries_kept, lot_with, put_again}
 use Rattle.ice_volume.proofs.Counting.{free_shown, none_has}
-use Rattle.ice_volume.proofs.Planned.{IsPlanned, free_is, planned_apart, planned_below, planned_high}
+use Rattle.ice_volume.proofs.Planned.{IsPlanned, free_is, planned_apart, planned_high}
 
 -- ---- groups that can be had
 

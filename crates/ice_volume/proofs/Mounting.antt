@@ -1,9 +1,9 @@
 -- What a mount does to the record of its cube.
 use Rattle.std.proofs.Common.{◌≡◌, ◌∙◌, inl, inr, ⊎_elim, ◌≤◌, ◌+◌, ℕ, Bool, true, false, List, [], ◌∷◌, ◌++◌, length, take, Option, Some, None, Result, Ok, Err, refl, sym, ap, subst, arith}
-use Rattle.std.specs.Prelude.{⊤, IfOk, IfErr, IsErrOf, Contains}
+use Rattle.std.specs.Prelude.{⊤, IfOk, IfErr, IsErrOf}
 use Rattle.ice_base.specs.Disk.{Image, DiskState, Nowhere, Rose, RoseBy, Caused}
 use Rattle.ice_base.specs.Frames.{CrashStep, Within, LeavesOnly, With, Every}
-use Rattle.ice_base.specs.FrameLaws.{within_refl, within_more}
+use Rattle.ice_base.specs.FrameLaws.{within_more}
 use Rattle.ice_base.specs.Lots.{LotView, extent}
 use Rattle.ice_base.specs.declared.fault.Rule.{Rule}
 use Rattle.ice_base.proofs.Kept.{kept_within}
@@ -16,7 +16,7 @@ use Rattle.tree_spec.specs.Why as why
 use Rattle.tree_spec.specs.Why.{Why}
 use Rattle.tree_spec.specs.Own as order
 use Rattle.tree_spec.specs.Own.{Own, Verdict, No, MountFinds, IfMountable, on_mount}
-use Rattle.tree_spec.specs.Records.{Cube, Content, Sound, Broken, Unread, History, Mode, cut_to, done, floor, fresh, tree_at, tree_now, is_mountable, is_offline, with_history, with_state}
+use Rattle.tree_spec.specs.Records.{Cube, Content, Sound, Broken, Unread, History, Mode, cut_to, floor, fresh, tree_at, tree_now, is_mountable, is_offline, with_history, with_state}
 use Rattle.tree_spec.specs.Replies.{Response, Because, Tallies, meant, refused_of}
 use Rattle.tree_spec.specs.Replies as reply
 use Rattle.tree_spec.specs.declared.reply.Refusal.{Refusal}
@@ -24,8 +24,7 @@ use Rattle.tree_spec.specs.declared.reply.Refusal.TheVariants as code
 use Rattle.tree_spec.specs.declared.reply.StateWord.{StateWord}
 use Rattle.tree_spec.specs.declared.reply.StateWord.TheVariants as word
 use Rattle.ice_rules.specs.Rules.{rule_number}
-use Rattle.ice_txn.specs.declared.set.Entry.{Entry}
-use Rattle.ice_images.specs.Fitting.{Has, HasContent, cube_entry}
+use Rattle.ice_images.specs.Fitting.{Has, HasContent}
 use Rattle.ice_images.specs.Opening.{closed_state}
 use Rattle.ice_images.specs.Recovering.{Recovers, RecoversNothing}
 use Rattle.ice_cube.specs.Commands.{open_state}
@@ -35,8 +34,8 @@ use Rattle.ice_cube.specs.declared.fault.CubeFault.{CubeFault}
 use Rattle.ice_cube.specs.declared.fault.CubeFault.TheVariants as cube
 use Rattle.ice_cube.proofs.CubeLaws.{holds_cut}
 use Rattle.ice_volume.specs.Cells.{Carries, EachHas, IsKnown, cell_state}
-use Rattle.ice_volume.specs.Lines.{MountFound, UnlessRefused, fault_in}
-use Rattle.ice_volume.specs.Orders.{AnswersOrder, Becomes, IsCellOf, IsRecord, WritesIn, cell_with, fault_refusal, mount_refusal, told_mount}
+use Rattle.ice_volume.specs.Lines.{MountFound, fault_in}
+use Rattle.ice_volume.specs.Orders.{AnswersOrder, Becomes, IsCellOf, IsRecord, WritesIn, cell_with, mount_refusal, told_mount}
 use Rattle.ice_volume.specs.declared.cell.Cell.{Cell}
 use Rattle.ice_volume.specs.declared.cell.Cell.TheVariants.{Closed, Stopped, Open}
 use Rattle.ice_volume.proofs.Asking.{record_now}
@@ -211,7 +210,7 @@ module _ {D : Type 0} (state : D → DiskState) (left : D → ℕ → Image → 
     mount_found e is h j few found finds =
         let starts : (e.lot ≡ lot) × (e.set ≡ []) × (e.stopped ≡ false) = subst (λ q. IfOk q (λ (x : CubeView). (x.lot ≡ lot) × (x.set ≡ []) × (x.stopped ≡ false))) is s.starts in
         let holds : Holds c.form c.mode (fresh (tree_at h j) (floor h + j)) e (state b) =
-            subst (λ q. IfOk q (λ (x : CubeView). Holds c.form c.mode (fresh (tree_at h j) (floor h + j)) x (state b))) is (s.mounted c.form c.mode (tree_at h j) (floor h + j) rec.told found) in
+        subst (λ q. IfOk q (λ (x : CubeView). Holds c.form c.mode (fresh (tree_at h j) (floor h + j)) x (state b))) is (s.mounted c.form c.mode (tree_at h j) (floor h + j) rec.told found) in
         let count : e.done ≡ floor h + j = (let n = (holds.runs starts.2).count in omega (arith, n)) in
         record {
           then = with_state word.Mounted (with_history (cut_to h j) c);
@@ -227,8 +226,12 @@ module _ {D : Type 0} (state : D → DiskState) (left : D → ℕ → Image → 
             };
           };
           entry = ap (λ (o : Bool). record { path = c.path; groups = c.groups; offline = o }) (sym (mountable_mark c.state can_mount));
-          found = (cut_to h j, refl, same_count lot (state a).now c.form c.mode (tree_now (cut_to h j)) (floor h + j) e.done (sym count)
-              (subst (λ (t : Tree). Recovers lot (state a).now c.form c.mode t (floor h + j)) (sym (after_append h.sure (take j h.since) h.base)) found));
+          found = (
+            cut_to h j,
+            refl,
+            same_count lot (state a).now c.form c.mode (tree_now (cut_to h j)) (floor h + j) e.done (sym count)
+                (subst (λ (t : Tree). Recovers lot (state a).now c.form c.mode t (floor h + j)) (sym (after_append h.sure (take j h.since) h.base)) found),
+          );
           leaves = leaves_by c.content refl;
           frame = s.within;
         }
@@ -243,11 +246,11 @@ module _ {D : Type 0} (state : D → DiskState) (left : D → ℕ → Image → 
         let some : RecoversSome lot (state a).now e.done = subst (λ q. IfOk q (λ (x : CubeView). RecoversSome lot (state a).now x.done)) is (s.recovered rec.told) in
         let first = recovers_first lot (state a).now some.form some.mode some.tree e.done some.recovers in
         let found : Recovers lot (state a).now c.form c.mode some.tree e.done =
-            subst (λ (g : Form). Recovers lot (state a).now g c.mode some.tree e.done) (first.0 ∙ sym known.0) (subst (λ (m : Mode). Recovers lot (state a).now some.form m some.tree e.done) (first.1 ∙ sym known.1) some.recovers) in
+        subst (λ (g : Form). Recovers lot (state a).now g c.mode some.tree e.done) (first.0 ∙ sym known.0) (subst (λ (m : Mode). Recovers lot (state a).now some.form m some.tree e.done) (first.1 ∙ sym known.1) some.recovers) in
         let h = fresh some.tree e.done in
         let count : e.done ≡ floor h + 0 = omega arith in
         mount_found e is h 0 (omega arith) (same_count lot (state a).now c.form c.mode some.tree e.done (floor h + 0) count found)
-            (subst (λ (x : Content). MountFinds c x (on_mount c h 0)) (sym content) (inr (some.tree, e.done, refl)))
+        (subst (λ (x : Content). MountFinds c x (on_mount c h 0)) (sym content) (inr (some.tree, e.done, refl)))
 
     damage_finds : (y : Rule) → TellsDamage lot (state a).now (cube.Damaged y) → (x : Content) → HasContent lot (state a).now c.form c.mode x → IsKnown lot (state a).now c x
         → MountFinds c x (No (why.Damaged (rule_number y)))
@@ -279,8 +282,11 @@ module _ {D : Type 0} (state : D → DiskState) (left : D → ℕ → Image → 
         let damage : TellsDamage lot (state a).now (cube.Damaged y) = subst (λ q. IfErr q (TellsDamage lot (state a).now)) is (s.damaged rec.told) in
         let still : UnwrittenIfDamaged state left a b (cube.Damaged y) = subst (λ q. IfErr q (UnwrittenIfDamaged state left a b)) is s.unwritten in record {
           then = c;
-          own = inl (No (why.Damaged (rule_number y)),
-            mount_plain (No (why.Damaged (rule_number y))) (damage_finds y damage c.content (record_now lot offline cell (state a) c rec) (carries_known cell lot (state a) c rec.carries)), (refl, refl));
+          own = inl (
+            No (why.Damaged (rule_number y)),
+            mount_plain (No (why.Damaged (rule_number y))) (damage_finds y damage c.content (record_now lot offline cell (state a) c rec) (carries_known cell lot (state a) c rec.carries)),
+            (refl, refl),
+          );
           carries = still_carries still.within;
           entry = refl;
           found = damage.0;

@@ -1,26 +1,26 @@
 -- The cube that a command of a tree is meant for, in the world as in the tables.
-use Rattle.std.proofs.Common.{◌≡◌, ◌≢◌, ◌∙◌, ◌≤◌, ◌<◌, ◌+◌, ℕ, Bool, true, false, cond, List, [], ◌∷◌, map, length, Option, Some, None, option_map, Result, Ok, Err, refl, sym, ap, subst, arith}
+use Rattle.std.proofs.Common.{◌≡◌, ◌≢◌, ◌∙◌, ℕ, Bool, true, false, cond, List, [], ◌∷◌, map, length, Option, Some, None, option_map, Ok, Err, refl, sym, ap, subst}
 use Rattle.std.specs.Prelude.{⊤, nat_eq, IsSome}
 use Rattle.std.proofs.Math.Path.{fun_ext}
-use Rattle.std.proofs.lemmas.Bool.Decides.{nat_tests}
 use Rattle.ice_base.specs.Disk.{DiskState}
 use Rattle.tree_spec.specs.Lines.{Line, Asks, Request}
 use Rattle.tree_spec.specs.Lines as line
 use Rattle.tree_spec.specs.Operations.{Operation, Mkdir, Make, Write, Read, Trunc, Remove, Rename, ListDir, Stat, operation, below, paths}
 use Rattle.tree_spec.specs.Own as order
 use Rattle.tree_spec.specs.Records.{Cube}
-use Rattle.tree_spec.specs.Replies.{Because, refused_of}
+use Rattle.tree_spec.specs.Replies.{Because, Refused, refused_of}
+use Rattle.ice_volume.specs.Lines.{fault_in}
 use Rattle.tree_spec.specs.Routes.{route}
 use Rattle.tree_spec.specs.Why as why
 use Rattle.tree_spec.specs.Why.{Why}
-use Rattle.tree_spec.specs.World.{World, Aim, Refuse, At, aim, aim_of, in_cube, to_one, to_tree, paths_of, depth_at}
+use Rattle.tree_spec.specs.World.{World, Refuse, At, aim_of, in_cube, to_one, to_tree, paths_of, depth_at}
 use Rattle.tree_spec.specs.declared.reply.Refusal.{Refusal}
 use Rattle.tree_spec.specs.declared.reply.Refusal.TheVariants as code
 use Rattle.ice_script.specs.Bounds.{InBounds}
 use Rattle.ice_cube.specs.Commands.{IsCommand}
 use Rattle.ice_names.specs.Names.{NamesView, Catches, path_at, row_at, path_of}
 use Rattle.ice_tables.specs.Tables.{Row}
-use Rattle.ice_volume.specs.Targets.{AllCatch, one_slot, paths_asked, routed, slot_of}
+use Rattle.ice_volume.specs.Targets.{AllCatch, one_slot, paths_asked, routed}
 use Rattle.ice_volume.specs.Volumes.{VolumeView, StandsFor}
 use Rattle.ice_volume.proofs.Lookups.{row_path}
 
@@ -76,8 +76,8 @@ commands v s n (line.Unmount p) some bounds all = absurd (some refl)
 commands v s n (line.Check p) some bounds all = absurd (some refl)
 commands v s n (line.Sync p) some bounds all = absurd (some refl)
 
--- such a request has a path
-first_caught : (v : NamesView) (s n : ℕ) (req : Request) → operation 0 req ≢ None → AllCatch v s n (paths_asked req) → (p : List (List ℕ)) × Catches v p s n
+-- such a request has a path, which begins with those names
+pub first_caught : (v : NamesView) (s n : ℕ) (req : Request) → operation 0 req ≢ None → AllCatch v s n (paths_asked req) → (p : List (List ℕ)) × Catches v p s n
 first_caught v s n (line.Mkdir p) some all = (p, all.0)
 first_caught v s n (line.Make p) some all = (p, all.0)
 first_caught v s n (line.Write p at bytes) some all = (p, all.0)
@@ -134,6 +134,10 @@ to_none (Some s ∷ Some t ∷ []) r is = by (nat_eq s t) refl is
       aims = λ u op. ap (λ (b : Bool). cond b (in_cube u op s) (Refuse why.CrossCube)) other;
     }
 to_none (Some s ∷ Some t ∷ o ∷ os) r is = let same : code.NoCube ≡ r = cc is in record { why_is = why.NoCube; because = sym (ap refused_of same); aims = λ u op. refl }
+
+-- such a refusal is no fault
+pub no_fault : (os : List (Option ℕ)) (r : Refusal) → one_slot os ≡ Err r → fault_in (Err (refused_of r)) ≡ 0
+no_fault os r is = ap (λ (q : Refused). fault_in (Err q)) (to_none os r is).because
 
 map_same : (f g : List (List ℕ) → Option ℕ) → ((p : List (List ℕ)) → f p ≡ g p) → (ps : List (List (List ℕ))) → map f ps ≡ map g ps
 map_same f g same [] = refl

@@ -1,10 +1,10 @@
 -- The lot of a slot lies on a disk that has all blocks of the volume.
-use Rattle.std.proofs.Common.{◌≡◌, ◌∙◌, ◌≤◌, ◌<◌, ◌+◌, ◌*◌, ◌&&◌, ◌==◌, nat_lt, nat_le, ℕ, zero, suc, Bool, true, false, cond, List, [], ◌∷◌, ◌++◌, length, refl, sym, ap, arith}
-use Rattle.std.specs.Prelude.{⊤, filter, flat_map}
+use Rattle.std.proofs.Common.{◌≡◌, ◌∙◌, ◌≤◌, ◌<◌, ◌+◌, ◌*◌, ◌&&◌, ◌==◌, nat_le, ℕ, zero, suc, Bool, true, false, cond, List, [], ◌∷◌, length, refl, ap, arith}
+use Rattle.std.specs.Prelude.{filter, flat_map}
 use Rattle.std.specs.List.{range_with_len, list_all}
 use Rattle.std.proofs.lemmas.Bool.Decides.{nat_tests}
 use Rattle.ice_base.specs.Lots.{LotView, extent, is_sited, lies_below}
-use Rattle.ice_base.proofs.LotLaws.{extent_below, sited-below}
+use Rattle.ice_base.proofs.LotLaws.{extent_below}
 use Rattle.ice_tables.specs.Tables.{Tables}
 use Rattle.ice_tables.specs.Lots.{groups_of, is_slot, lot_of, total}
 use Rattle.ice_tables.proofs.LotSites.{Each, each-append}
@@ -40,7 +40,7 @@ lot_below t s n low room =
     let first : nat_le (32 + 256 * s + 256) n ≡ true = (let le : 32 + 256 * s + 256 ≤ n = omega (arith, low, room) in grind (arith, nat_tests)) in
     ap (λ b. cond b (list_all (λ g. nat_le (32 + 256 * t.slots + 256 * g + 256) n) (groups_of t s)) false) first
     ∙ all_pass (λ g. nat_le (32 + 256 * t.slots + 256 * g + 256) n) (λ g. g < t.groups) (groups_of t s)
-        (λ g less. let le : 32 + 256 * t.slots + 256 * g + 256 ≤ n = omega (arith, less, room) in grind (arith, nat_tests)) (groups_low t s)
+    (λ g less. let le : 32 + 256 * t.slots + 256 * g + 256 ≤ n = omega (arith, less, room) in grind (arith, nat_tests)) (groups_low t s)
 
 -- a slot's lot that has a group lies on a disk that has all blocks
 pub lot_sited : (t : Tables) (s n : ℕ) → s < t.slots → total t ≤ n → 1 ≤ length (groups_of t s) → length (groups_of t s) ≤ 64 → is_sited (lot_of t s) n ≡ true

@@ -1,20 +1,20 @@
 -- What an order to the cube of one slot does to the world that a volume and its disk stand for.
-use Rattle.std.proofs.Common.{◌≡◌, ◌≢◌, ◌∙◌, inl, inr, ⊎_elim, ◌≤◌, ◌<◌, ◌+◌, ◌*◌, ℕ, Bool, true, false, cond, nat_eq, List, length, Option, Some, None, option_map, Result, Ok, Err, refl, sym, ap, subst, arith}
-use Rattle.std.specs.Prelude.{⊤, slice_set, IsSome}
+use Rattle.std.proofs.Common.{◌≡◌, ◌≢◌, ◌∙◌, inl, inr, ⊎_elim, ◌≤◌, ◌<◌, ℕ, Bool, true, false, cond, nat_eq, List, length, Option, Some, None, option_map, Result, Ok, Err, refl, sym, ap, subst, arith}
+use Rattle.std.specs.Prelude.{slice_set}
 use Rattle.std.proofs.lemmas.List.{get_or-set_same, get_or-set_other}
 use Rattle.std.proofs.lemmas.Bool.{cases_eq, cases_lt}
-use Rattle.ice_base.specs.Disk.{Image, DiskState, AgreesOn, Everywhere, Outside, RoseBy}
-use Rattle.ice_base.specs.Frames.{Within, LeavesOnly, With, Sure, Every, Kept}
+use Rattle.ice_base.specs.Disk.{Image, DiskState, AgreesOn, Outside}
+use Rattle.ice_base.specs.Frames.{Within, LeavesOnly, With, Kept}
 use Rattle.ice_base.specs.FrameLaws.{within_refl, within_more}
 use Rattle.ice_base.specs.Lots.{LotView, extent}
 use Rattle.ice_base.proofs.Kept.{sure_kept, every_kept, kept_within}
 use Rattle.tree_spec.specs.Held.{RoomContent}
 use Rattle.tree_spec.specs.Lines.{Line}
 use Rattle.tree_spec.specs.Records.{Cube, Content, Sound, Broken, Unread, is_offline}
-use Rattle.tree_spec.specs.Replies.{Response, Tallies, meant}
+use Rattle.tree_spec.specs.Replies.{Response, meant}
 use Rattle.tree_spec.specs.Own as order
 use Rattle.tree_spec.specs.Own.{Order, Own}
-use Rattle.tree_spec.specs.World.{World, Aim, At, aim, Step, Goes, with_slot}
+use Rattle.tree_spec.specs.World.{World, Aim, At, aim, Goes, with_slot}
 use Rattle.tree_spec.specs.declared.reply.Refusal.{Refusal}
 use Rattle.tree_spec.specs.declared.reply.Value.{Value}
 use Rattle.ice_rules.specs.Rules.{LotMayName}
@@ -24,17 +24,15 @@ use Rattle.ice_tables.specs.Lots.{IsTable, AtRest, total, groups_of, lot_of}
 use Rattle.ice_tables.proofs.JournalLaws.{lot_blocks_rest}
 use Rattle.ice_tables.proofs.TableLaws.{at_rest_rests}
 use Rattle.ice_tables.proofs.LotSites.{lots_apart, lot_high}
-use Rattle.ice_images.specs.Fitting.{entry_at, cube_entry, ShowCubes, HasContent, Has, Fits}
-use Rattle.ice_images.specs.Opening.{OpensBroken}
-use Rattle.ice_images.proofs.FittingLaws.{has_rests, no_cube}
-use Rattle.ice_images.proofs.OpeningLaws.{named_rests}
+use Rattle.ice_images.specs.Fitting.{entry_at, cube_entry, HasContent, Has, Fits}
+use Rattle.ice_images.proofs.FittingLaws.{no_cube}
 use Rattle.ice_cube.specs.Commands.{HoldsRecord}
 use Rattle.ice_cube.specs.Cubes.{CubeView}
 use Rattle.ice_cube.proofs.CubeLaws.{holds_kept}
 use Rattle.ice_system.specs.Systems.{tables_of}
 use Rattle.ice_volume.specs.Cells.{Carries, EachHas, IsKnown, Rests, HasOpen, cell_at}
 use Rattle.ice_volume.specs.Lines.{AnswersLine, Answers, OrderFound, LineFound, LineWrites, OrderWrites, MayFit, fault_in}
-use Rattle.ice_volume.specs.Orders.{AnswersOrder, Becomes, IsRecord, WritesIn}
+use Rattle.ice_volume.specs.Orders.{AnswersOrder, Becomes, WritesIn}
 use Rattle.ice_volume.specs.Volumes.{VolumeView, StandsFor, IsWritable}
 use Rattle.ice_volume.specs.declared.cell.Cell.{Cell}
 use Rattle.ice_volume.specs.declared.cell.Cell.TheVariants.{Closed, Stopped, Open}

@@ -1,5 +1,5 @@
 -- The lines that change the tables, from what the calls that they make promise.
-use Rattle.std.proofs.Common.{◌≡◌, ◌≢◌, ◌∙◌, inl, inr, ◌<◌, ℕ, true, List, [], length, Option, Some, None, Result, Ok, Err, OnOk, OnErr, refl, sym, ap, subst}
+use Rattle.std.proofs.Common.{◌≡◌, ◌≢◌, ◌∙◌, inl, inr, ◌<◌, ℕ, true, List, [], length, Option, Some, None, Result, Ok, Err, OnOk, OnErr, refl, sym, ap}
 use Rattle.std.specs.Prelude.{◌⊎◌, ⊤}
 use Rattle.ice_base.specs.Disk.{Image, DiskState}
 use Rattle.ice_base.specs.Frames.{Kept, Within}
@@ -30,12 +30,19 @@ use Rattle.ice_volume.specs.Told.{CellBecomes, told_of}
 use Rattle.ice_volume.specs.declared.cell.Cell.{Cell}
 use Rattle.ice_volume.specs.declared.cell.Cell.TheVariants.{Closed}
 use Rattle.ice_volume.proofs.Changing.{OrderMayWrite, changed, low_apart, none_early, none_spare, sessions_become, sessions_same, unchanged}
-use Rattle.ice_volume.proofs.Orders.{delete_finds, deletes, goes_offline, goes_online, offline_closed, offline_finds, online_finds, refused, stays_mounted, stays_offline, stays_online}
+use Rattle.ice_volume.proofs.TableOrders.{delete_finds, deletes, goes_offline, goes_online, offline_closed, offline_finds, online_finds, refused, stays_mounted, stays_offline, stays_online}
 
--- what always holds, holds where a result is Ok
+-- what holds, holds where a result is Ok, and where it is Err
+pub where_ok : {T E : Type 0} (r : Result T E) {P : Type 0} → P → OnOk r P
+where_ok (Ok x) {P} holds = holds
+where_ok (Err e) {P} holds = tt
+
+where_err : {T E : Type 0} (r : Result T E) {P : Type 0} → P → OnErr r P
+where_err (Ok x) {P} holds = tt
+where_err (Err e) {P} holds = holds
+
 pub always : {T E : Type 0} (r : Result T E) → OnOk r ⊤
-always (Ok x) = tt
-always (Err e) = tt
+always r = where_ok r tt
 
 -- orders that write no block but those of the tables
 tables_alone : (k : ℕ) → IsChange k ⊎ ⊥ → IsChange k
@@ -80,21 +87,13 @@ module _ {D A : Type 0} (state : D → DiskState) (left : D → ℕ → Image �
           changed state left x (marked mark.Online (row_at v.system.names x)) (groups_of (tables_of v.system) x) Closed ⊤ (Asks (Online p)) order.SetOnline tt online_finds room v z (λ k. ⊥) a a b
           (within_refl state left (λ k. ⊥) a)
           (λ w stands. goes_online v (state a) w stands p x less at s is off (state b) (lot_kept state left (tables_of v.system) x a b ch.within))
-          (λ w stands. none_spare v w) (none_early v) (λ w stands. online_may (tables_of v.system) x) r ch (on_ok r kept) (on_err r cells) (always r)
+          (λ w stands. none_spare v w) (none_early v) (λ w stands. online_may (tables_of v.system) x) r ch (where_ok r kept) (where_err r cells) (always r)
         where
           kept : CellBecomes x Closed v.cells z.cells
           kept = record {
             here = ap (λ (cs : List Cell). cell_at cs x) cells ∙ offline_closed (cell_at v.cells x) (is_marked (row_at v.system.names x)) (sym is ∙ off);
             others = λ y other. ap (λ (cs : List Cell). cell_at cs y) cells;
           }
-
-          on_ok : (q : Result A SystemFault) {P : Type 0} → P → OnOk q P
-          on_ok (Ok y) {P} h = h
-          on_ok (Err e) {P} h = tt
-
-          on_err : (q : Result A SystemFault) {P : Type 0} → P → OnErr q P
-          on_err (Ok y) {P} h = tt
-          on_err (Err e) {P} h = h
 
 -- ---- refusals
 
@@ -130,8 +129,3 @@ pub sessions_after : {D A : Type 0} (state : D → DiskState) (left : D → ℕ 
 sessions_after state left v z x row groups cell a b (Ok y) are ch cells same count is = sessions_become v z x row groups cell are ch.done cells count (is ch.done)
 sessions_after state left v z x row groups cell a b (Err Before) are ch cells same count is = sessions_same v z (ap (λ (s : SystemView). tables_of s) (ch.before refl).0) same are
 sessions_after state left v z x row groups cell a b (Err After) are ch cells same count is = sessions_same v z (ap (λ (s : SystemView). tables_of s) (ch.after refl).0) same are
-
--- what holds where the result is Ok
-pub where_ok : {T E : Type 0} (r : Result T E) {P : Type 0} → P → OnOk r P
-where_ok (Ok x) {P} holds = holds
-where_ok (Err e) {P} holds = tt

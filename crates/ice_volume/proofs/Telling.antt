@@ -1,21 +1,17 @@
 -- What a cube answers to an order, and its record after it.
-use Rattle.std.proofs.Common.{◌≡◌, ◌∙◌, inl, inr, ◌≤◌, ◌+◌, ℕ, Bool, true, false, List, [], ◌∷◌, ◌++◌, length, take, Option, Some, None, Result, Ok, Err, OnOk, OnErr, IfOk, refl, sym, ap, subst, arith}
-use Rattle.std.specs.Prelude.{⊤, IfErr, IsErr, IsErrOf, Contains}
-use Rattle.ice_base.specs.Disk.{Image, DiskState, AgreesOn, Nowhere, Rose, RoseBy, Caused}
+use Rattle.std.proofs.Common.{◌≡◌, ◌∙◌, inl, inr, ◌≤◌, ℕ, Bool, true, false, List, length, Option, Some, Result, Ok, Err, OnOk, OnErr, IfOk, refl, sym, ap, subst, arith}
+use Rattle.std.specs.Prelude.{⊤, IfErr, IsErrOf}
+use Rattle.ice_base.specs.Disk.{Image, DiskState, Rose, RoseBy, Caused}
 use Rattle.ice_base.specs.Frames.{CrashStep, Within, LeavesOnly, With, Every}
-use Rattle.ice_base.specs.FrameLaws.{within_refl, within_more}
+use Rattle.ice_base.specs.FrameLaws.{within_refl}
 use Rattle.ice_base.specs.Lots.{LotView, extent}
-use Rattle.ice_base.specs.Still.{Still}
-use Rattle.ice_base.proofs.Frame.{leaves_apart, every_apart}
-use Rattle.ice_base.proofs.Kept.{kept_within}
 use Rattle.tree_spec.specs.Costs.{Form}
 use Rattle.tree_spec.specs.Held.{RoomContent}
-use Rattle.tree_spec.specs.Operations.{Operation, is_change}
 use Rattle.tree_spec.specs.Why as why
 use Rattle.tree_spec.specs.Why.{Why}
 use Rattle.tree_spec.specs.Own as order
 use Rattle.tree_spec.specs.Own.{Order, Own, Verdict, No, Yes, Plainly, IfMounted, OfSound, on_sync, on_tree}
-use Rattle.tree_spec.specs.Records.{Cube, Content, Sound, Broken, Unread, History, Mode, done, settled, is_mounted, is_offline, with_history, with_state}
+use Rattle.tree_spec.specs.Records.{Cube, Content, Sound, History, Mode, done, settled, is_mounted, is_offline, with_history, with_state}
 use Rattle.tree_spec.specs.Replies.{Response, Because, Tallies, meant, refused_of}
 use Rattle.tree_spec.specs.Replies as reply
 use Rattle.tree_spec.specs.declared.reply.Refusal.{Refusal}
@@ -23,11 +19,11 @@ use Rattle.tree_spec.specs.declared.reply.Refusal.TheVariants as code
 use Rattle.tree_spec.specs.declared.reply.StateWord.{StateWord}
 use Rattle.tree_spec.specs.declared.reply.StateWord.TheVariants as word
 use Rattle.tree_spec.specs.declared.reply.Value.{Value}
-use Rattle.ice_images.specs.Fitting.{Has, HasContent, Entry, cube_entry}
+use Rattle.ice_images.specs.Fitting.{Has, HasContent, cube_entry}
 use Rattle.ice_images.specs.Opening.{closed_state}
-use Rattle.ice_cube.specs.Commands.{HoldsRecord, AnswersOwn, open_state}
+use Rattle.ice_cube.specs.Commands.{HoldsRecord, open_state}
 use Rattle.ice_cube.specs.Cubes.{CubeView, HasHistory, Holds}
-use Rattle.ice_volume.specs.Cells.{Carries, EachHas, IsKnown, Rests, HasOpen}
+use Rattle.ice_volume.specs.Cells.{EachHas, IsKnown, Rests}
 use Rattle.ice_volume.specs.Lines.{OrderFound, fault_in}
 use Rattle.ice_volume.specs.Orders.{AnswersOrder, Becomes, IsCellOf, IsRecord, WritesIn, closed_refusal, told_number, cell_without}
 use Rattle.ice_volume.specs.declared.cell.Cell.{Cell}

@@ -1,5 +1,5 @@
 -- The cube that a command of a tree is meant for, by the tables.
-use Rattle.std.specs.Prelude.{ℕ, ⊤, nat_eq, List, [], ◌∷◌, map, Option, None, Some, Result, Ok, Err, if◌then◌else◌}
+use Rattle.std.specs.Prelude.{ℕ, ⊤, nat_eq, List, [], ◌∷◌, Option, Some, Result, Ok, Err, if◌then◌else◌}
 use Rattle.tree_spec.specs.Lines.{Request, Mkdir, Make, Write, Read, Trunc, Remove, Rename, ListDir, Stat}
 use Rattle.tree_spec.specs.Routes.{route}
 use Rattle.tree_spec.specs.declared.reply.Refusal.{Refusal}

@@ -10,7 +10,7 @@ use Rattle.tree_spec.specs.declared.reply.Value.{Value}
 use Rattle.tree_spec.specs.declared.reply.Value.TheVariants.{Plain}
 use Rattle.ice_system.specs.declared.fault.SystemFault.{SystemFault}
 use Rattle.ice_system.specs.declared.fault.SystemFault.TheVariants.{Before, After}
-use Rattle.ice_cube.specs.Cubes.{CubeView, Holds}
+use Rattle.ice_cube.specs.Cubes.{Holds}
 use Rattle.ice_cube.specs.Wider.{HasNewGroups, IsWider}
 use Rattle.ice_volume.specs.Cells.{cell_at}
 use Rattle.ice_volume.specs.declared.cell.Cell.{Cell}

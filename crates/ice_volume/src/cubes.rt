@@ -3,7 +3,7 @@ ghost use Rattle.std.specs.Prelude.{◌≡◌, ◌≤◌, ◌<◌, ℕ, true, No
 ghost use Rattle.ice_base.specs.Disk.{DiskState};
 ghost use Rattle.ice_base.specs.Lots.{is_sited};
 ghost use Rattle.tree_spec.specs.Held.{RoomContent};
-ghost use Rattle.tree_spec.specs.Lines.{Asks, Sync, Unmount, Check};
+ghost use Rattle.tree_spec.specs.Lines.{Asks, Sync, Unmount, Mount, Check};
 ghost use Rattle.tree_spec.specs.World.{World};
 ghost use Rattle.ice_tables.specs.Lots.{lot_of, total};
 ghost use Rattle.ice_system.specs.Systems.{tables_of};
@@ -11,7 +11,7 @@ ghost use Rattle.ice_volume.specs.Lines.{AnswersLine};
 ghost use Rattle.ice_volume.specs.Volumes.{HasRoom, StandsFor};
 ghost use Rattle.ice_volume.specs.declared.fault.AreaFault.{AreaFault};
 
-use crate::orders::{check_cell, sync_cell, unmount_cell};
+use crate::orders::{check_cell, mount_cell, sync_cell, unmount_cell};
 use crate::volume::Volume;
 use ice_base::{Disk, Lot};
 use tree_spec::{Path, Refusal, Reply};
@@ -45,9 +45,10 @@ impl Volume {
             Some(slot) => slot,
             None => return Err(Refusal::NoCube),
         };
-        if self.lot(slot).is_none() {
-            return Err(Refusal::NoCube);
-        }
+        let _lot = match self.lot(slot) {
+            Some(lot) => lot,
+            None => return Err(Refusal::NoCube),
+        };
         let offline = self.is_offline(slot);
         sync_cell(&mut self.cells[slot as usize], disk, offline)
     }
@@ -61,11 +62,35 @@ impl Volume {
             Some(slot) => slot,
             None => return Err(Refusal::NoCube),
         };
-        if self.lot(slot).is_none() {
-            return Err(Refusal::NoCube);
-        }
+        let _lot = match self.lot(slot) {
+            Some(lot) => lot,
+            None => return Err(Refusal::NoCube),
+        };
         let offline = self.is_offline(slot);
         unmount_cell(&mut self.cells[slot as usize], disk, offline)
+    }
+
+    /// Mounts the cube of a path.
+    pub(crate) fn mount<D: Disk>(&mut self, disk: &mut D, path: &Path) -> Reply
+        requires { HasRoom self.old (D.state disk.old) }
+        ensures { (room : RoomContent) → AnswersLine {X = AreaFault} D.state D.left (Asks (Mount path.now)) self.old self.new room (Ok result) disk.old disk.new }
+    {
+        let slot = match self.find(path) {
+            Some(slot) => slot,
+            None => return Err(Refusal::NoCube),
+        };
+        let lot = match self.lot(slot) {
+            Some(lot) => lot,
+            None => return Err(Refusal::NoCube),
+        };
+        let state = self.state(slot);
+        mount_cell(
+            &mut self.cells[slot as usize],
+            self.alloc,
+            disk,
+            &lot,
+            state,
+        )
     }
 
     /// Checks the cube of a path.
@@ -82,32 +107,5 @@ impl Volume {
             None => return Err(Refusal::NoCube),
         };
         check_cell(&mut self.cells[slot as usize], disk, &lot)
-    }
-
-    /// Mounts the cube of a path.
-    pub(crate) fn mount<D: Disk>(&mut self, disk: &mut D, path: &Path) -> Reply {
-        let slot = match self.find(path) {
-            Some(slot) => slot,
-            None => return Err(Refusal::NoCube),
-        };
-        let lot = match self.lot(slot) {
-            Some(lot) => lot,
-            None => return Err(Refusal::NoCube),
-        };
-        match self.state(slot) {
-            tree_spec::StateWord::Mounted => return Err(Refusal::Mounted),
-            tree_spec::StateWord::Offline => return Err(Refusal::Offline),
-            _ => {}
-        }
-        match ice_cube::Cube::mount(self.alloc, disk, &lot) {
-            Ok(cube) => {
-                let done = cube.done();
-                self.cells[slot as usize] = crate::cell::Cell::Open(cube);
-                Ok(tree_spec::Value::Number(done))
-            }
-            Err(ice_cube::CubeFault::Memory) => Err(Refusal::Memory),
-            Err(ice_cube::CubeFault::Disk) => Err(Refusal::Fault),
-            Err(ice_cube::CubeFault::Damaged(rule)) => Err(Refusal::Damaged(rule as u8)),
-        }
     }
 }

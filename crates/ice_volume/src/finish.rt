@@ -1,16 +1,15 @@
 //! The end of a session.
-ghost use Rattle.std.specs.Prelude.{◌≡◌, ◌<◌, OnOk, is_ok};
+ghost use Rattle.std.specs.Prelude.{◌≡◌, OnOk, is_ok};
 ghost use Rattle.ice_base.specs.Disk.{HasCause};
 ghost use Rattle.ice_base.specs.Frames.{LeavesOnly, With, Within};
-ghost use Rattle.ice_base.specs.Lots.{extent};
-ghost use Rattle.tree_spec.specs.World.{World, with_slot};
+ghost use Rattle.tree_spec.specs.World.{World};
 ghost use Rattle.ice_images.specs.Fitting.{Fits};
-ghost use Rattle.ice_tables.specs.Lots.{lot_of};
+ghost use Rattle.ice_tables.specs.Lots.{total};
 ghost use Rattle.ice_system.specs.Systems.{tables_of};
 ghost use Rattle.ice_volume.specs.Sessions.{PutsAway, finished};
 ghost use Rattle.ice_volume.specs.Volumes.{HasRoom, IsWritable, StandsFor};
 
-use crate::orders::unmount_cell;
+use crate::list::copy_path;
 use crate::volume::Volume;
 use ice_base::{Disk, DiskFault};
 use tree_spec::Refusal;
@@ -19,9 +18,8 @@ impl Volume {
     /// Unmounts the cube of a slot, where one is mounted. After an `Err` the cube is stopped.
     fn put_away<D: Disk>(&mut self, disk: &mut D, slot: u8) -> Result<(), DiskFault>
         requires room { HasRoom self.old (D.state disk.old) }
-        requires slot { slot < self.old.system.names.slots }
-        ensures system { self.new.system ≡ self.old.system }
-        ensures within { Within D.state D.left (extent (lot_of (tables_of self.old.system) slot)) disk.old disk.new }
+        ensures within { Within D.state D.left (IsWritable self.old) disk.old disk.new }
+        ensures size { total (tables_of self.new.system) ≡ total (tables_of self.old.system) }
         ensures cause { HasCause (D.state disk.old) (D.state disk.new) result }
         // From each world: each crash leaves an image that fits it, and the slot's record becomes that of a cube that was put away.
         ensures leaves { (w : World) → StandsFor self.old (D.state disk.old) w
@@ -29,11 +27,14 @@ impl Volume {
         ensures puts { (w : World) → StandsFor self.old (D.state disk.old) w
             → PutsAway slot (is_ok result) self.new (D.state disk.new) w }
     {
-        if self.lot(slot).is_none() {
+        if slot >= self.system.slots() {
             return Ok(());
         }
-        let offline = self.is_offline(slot);
-        match unmount_cell(&mut self.cells[slot as usize], disk, offline) {
+        let path = match self.system.names().path(slot) {
+            Some(path) => copy_path(path),
+            None => return Ok(()),
+        };
+        match self.unmount(disk, &path) {
             Err(Refusal::Fault) => Err(DiskFault::Failed),
             // A count, or the refusal of a cube that isn't mounted.
             _ => Ok(()),
@@ -53,8 +54,10 @@ impl Volume {
         ensures closes { (w : World) → StandsFor self.old (D.state disk.old) w
             → OnOk result (StandsFor self.new (D.state disk.new) (finished w)) }
     {
+        // This call tells the prover that the image has at most 16 slots.
+        let _ = self.system.slots();
         let mut result = Ok(());
-        for slot in 0..self.system.slots() {
+        for slot in 0..16 {
             if self.put_away(disk, slot).is_err() {
                 result = Err(DiskFault::Failed);
             }

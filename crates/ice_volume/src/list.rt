@@ -9,7 +9,7 @@ use tree_spec::{CubeRow, Path, Room};
 
 /// Another path of the same names.
 #[tactic(auto, using(crate::proofs::Copies::names_again, crate::proofs::Copies::text_accepted))]
-fn copy_path(path: &Path) -> Path
+pub(crate) fn copy_path(path: &Path) -> Path
     ensures { result ≡ path.now }
 {
     match read_path(path.text()) {

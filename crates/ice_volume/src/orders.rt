@@ -1,18 +1,21 @@
 //! Orders to the cube of one slot, by what the session has of it.
-ghost use Rattle.std.specs.Prelude.{◌≡◌, Bool, true, Some, []};
+ghost use Rattle.std.specs.Prelude.{◌≡◌, Bool, true, None, Some, []};
 ghost use Rattle.ice_base.specs.Lots.{LotView, is_sited};
 ghost use Rattle.tree_spec.specs.Held.{RoomContent};
 ghost use Rattle.tree_spec.specs.Lines.{asked};
 ghost use Rattle.tree_spec.specs.Operations.{Operation, operation};
-ghost use Rattle.tree_spec.specs.Own.{OnTree, Sync, Unmount, Check};
+ghost use Rattle.tree_spec.specs.Own.{OnTree, Sync, Unmount, Mount, Check};
 ghost use Rattle.ice_cube.specs.Commands.{IsCommand};
-ghost use Rattle.ice_volume.specs.Orders.{AnswersOrder, IsCellOf, IsSited, cell_without, closed_refusal, told_check, told_number};
+ghost use Rattle.ice_volume.specs.Cells.{cell_state};
+ghost use Rattle.ice_volume.specs.Orders.{AnswersOrder, IsCellOf, IsSited, cell_without, closed_refusal, fault_refusal, mount_refusal, told_check, told_number};
 
 use crate::cell::Cell;
 use ice_base::{Disk, Lot};
 use ice_check::{CheckFault, Summary, check_lot};
+use ice_cube::{Cube, CubeFault};
+use std::alloc::Global;
 use std::mem;
-use tree_spec::{Command, Refusal, Reply, Room, Value};
+use tree_spec::{Command, Refusal, Reply, Room, StateWord, Value};
 
 /// The refusal of a cube that no session has mounted.
 fn closed_refusal(offline: bool) -> Refusal
@@ -60,6 +63,28 @@ fn told_check(checked: Result<Summary, CheckFault>) -> Reply
     }
 }
 
+/// The refusal of a mount that failed.
+fn fault_refusal(fault: CubeFault) -> Refusal
+    ensures { result ≡ fault_refusal fault }
+{
+    match fault {
+        CubeFault::Memory => Refusal::Memory,
+        CubeFault::Disk => Refusal::Fault,
+        CubeFault::Damaged(rule) => Refusal::Damaged(rule as u8),
+    }
+}
+
+/// Why a cube in this state is not mounted.
+fn mount_refusal(state: StateWord) -> Option<Refusal>
+    ensures { result ≡ mount_refusal state }
+{
+    match state {
+        StateWord::Mounted => Some(Refusal::Mounted),
+        StateWord::Offline => Some(Refusal::Offline),
+        StateWord::Unmounted | StateWord::Stopped => None,
+    }
+}
+
 /// Syncs the cube of a slot. Offline, Unmounted, Stopped: it isn't mounted.
 pub(crate) fn sync_cell<D: Disk>(cell: &mut Cell, disk: &mut D, offline: bool) -> Reply
     requires sited { IsSited cell.old (D.state disk.old).size }
@@ -90,6 +115,40 @@ pub(crate) fn unmount_cell<D: Disk>(cell: &mut Cell, disk: &mut D, offline: bool
             *cell = cell_without(&unmounted);
             told_number(unmounted)
         }
+    }
+}
+
+/// Mounts the lot of a slot whose cube can be mounted. After a failure the slot is as it was.
+fn mount_lot<D: Disk>(cell: &mut Cell, alloc: Global, disk: &mut D, lot: &Lot) -> Reply
+    requires sited { is_sited lot.now (D.state disk.old).size ≡ true }
+    ensures { (offline : Bool) (room : RoomContent) → IsCellOf lot.now cell.old → mount_refusal (cell_state cell.old offline) ≡ None
+        → AnswersOrder D.state D.left lot.now Mount offline cell.old cell.new room result disk.old disk.new }
+{
+    match Cube::mount(alloc, disk, lot) {
+        Ok(cube) => {
+            let done = cube.done();
+            *cell = Cell::Open(cube);
+            Ok(Value::Number(done))
+        }
+        Err(fault) => Err(fault_refusal(fault)),
+    }
+}
+
+/// Mounts the lot of a slot whose cube is in this state. Mounted, Offline: it can't be mounted.
+pub(crate) fn mount_cell<D: Disk>(
+    cell: &mut Cell,
+    alloc: Global,
+    disk: &mut D,
+    lot: &Lot,
+    state: StateWord,
+) -> Reply
+    requires sited { is_sited lot.now (D.state disk.old).size ≡ true }
+    ensures { (offline : Bool) (room : RoomContent) → IsCellOf lot.now cell.old → state ≡ cell_state cell.old offline
+        → AnswersOrder D.state D.left lot.now Mount offline cell.old cell.new room result disk.old disk.new }
+{
+    match mount_refusal(state) {
+        Some(refusal) => Err(refusal),
+        None => mount_lot(cell, alloc, disk, lot),
     }
 }
 

@@ -50,11 +50,7 @@ pub(crate) fn settle(
 
 impl Volume {
     /// Deletes the cube of a path, whatever its state: its row, its groups' owner, and its session.
-    pub(crate) fn delete<D: Disk>(
-        &mut self,
-        disk: &mut D,
-        path: &Path,
-    ) -> Result<Reply, AreaFault>
+    pub(crate) fn delete<D: Disk>(&mut self, disk: &mut D, path: &Path) -> Result<Reply, AreaFault>
         requires { HasRoom self.old (D.state disk.old) }
         ensures { (room : RoomContent)
             → AnswersLine D.state D.left (Asks (Delete path.now)) self.old self.new room result disk.old disk.new }
@@ -70,11 +66,7 @@ impl Volume {
     }
 
     /// Sets the mark of a cube that is neither offline nor mounted. One that was stopped is so no longer.
-    pub(crate) fn offline<D: Disk>(
-        &mut self,
-        disk: &mut D,
-        path: &Path,
-    ) -> Result<Reply, AreaFault>
+    pub(crate) fn offline<D: Disk>(&mut self, disk: &mut D, path: &Path) -> Result<Reply, AreaFault>
         requires { HasRoom self.old (D.state disk.old) }
         ensures { (room : RoomContent)
             → AnswersLine D.state D.left (Asks (Offline path.now)) self.old self.new room result disk.old disk.new }
@@ -95,11 +87,7 @@ impl Volume {
     }
 
     /// Takes away the mark of a cube that is offline.
-    pub(crate) fn online<D: Disk>(
-        &mut self,
-        disk: &mut D,
-        path: &Path,
-    ) -> Result<Reply, AreaFault>
+    pub(crate) fn online<D: Disk>(&mut self, disk: &mut D, path: &Path) -> Result<Reply, AreaFault>
         requires { HasRoom self.old (D.state disk.old) }
         ensures { (room : RoomContent)
             → AnswersLine D.state D.left (Asks (Online path.now)) self.old self.new room result disk.old disk.new }

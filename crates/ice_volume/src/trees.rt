@@ -85,9 +85,10 @@ impl Volume {
             Ok(target) => target,
             Err(refusal) => return Err(refusal),
         };
-        if self.lot(slot).is_none() {
-            return Err(Refusal::NoCube);
-        }
+        let _lot = match self.lot(slot) {
+            Some(lot) => lot,
+            None => return Err(Refusal::NoCube),
+        };
         let offline = self.is_offline(slot);
         tree_cell(
             &mut self.cells[slot as usize],

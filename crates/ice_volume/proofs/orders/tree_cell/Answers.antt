@@ -1,13 +1,11 @@
-use Rattle.std.proofs.Common.{◌≡◌, ◌∙◌, Err, refl, sym, ap, subst}
+use Rattle.std.proofs.Common.{Err, sym, subst}
 use Rattle.tree_spec.specs.Own as order
 use Rattle.tree_spec.specs.declared.reply.Refusal.{Refusal}
 use Rattle.tree_spec.specs.declared.reply.Refusal.TheVariants as code
 use Rattle.ice_base.specs.Lots.{LotView}
-use Rattle.ice_cube.specs.Cubes.{CubeView}
-use Rattle.ice_volume.specs.Orders.{AnswersOrder, IsCellOf, cell_without, told_number}
+use Rattle.ice_volume.specs.Orders.{AnswersOrder, IsCellOf}
 use Rattle.ice_volume.specs.declared.cell.Cell.{Cell}
-use Rattle.ice_volume.specs.declared.cell.Cell.TheVariants.{Closed, Stopped, Open}
-
+use Rattle.ice_volume.specs.declared.cell.Cell.TheVariants.{Closed, Open}
 use Rattle.ice_volume.proofs.Telling.{closed_order, stopped_order}
 use Rattle.ice_volume.proofs.Asking.{command_order}
 use Rattle.ice_volume.proofs.orders.tree_cell.Goals as goal

@@ -1,10 +1,9 @@
-use Rattle.std.proofs.Common.{◌≡◌, ◌∙◌, Err, refl, sym, ap, subst}
+use Rattle.std.proofs.Common.{◌∙◌, Err, refl, sym, ap, subst}
 use Rattle.tree_spec.specs.Own as order
 use Rattle.tree_spec.specs.declared.reply.Refusal.{Refusal}
 use Rattle.tree_spec.specs.declared.reply.Refusal.TheVariants as code
-use Rattle.ice_volume.specs.Orders.{IsCellOf, cell_with, cell_without, closed_refusal, fault_refusal, told_check, told_mount, told_number}
+use Rattle.ice_volume.specs.Orders.{IsCellOf, cell_without, closed_refusal, told_number}
 use Rattle.ice_volume.specs.declared.cell.Cell.TheVariants.{Closed, Stopped, Open}
-
 use Rattle.ice_volume.proofs.Telling.{closed_order, stopped_order, unmount_order, order_as}
 use Rattle.ice_volume.proofs.orders.unmount_cell.Goals as goal
 

@@ -1,4 +1,3 @@
-use Rattle.std.proofs.Common.{sym}
 use Rattle.ice_volume.proofs.Routing.{both_catch}
 use Rattle.ice_volume.proofs.trees.route_two.Goals as goal
 

@@ -1,4 +1,4 @@
-use Rattle.std.proofs.Common.{◌≡◌, ◌≤◌, ◌∙◌, ℕ, Some, false, OnOk, OnErr, ap, sym, subst, arith, length}
+use Rattle.std.proofs.Common.{◌≡◌, ◌≤◌, ℕ, Some, false, OnOk, OnErr, sym, subst, arith}
 use Rattle.tree_spec.specs.Lines.{Asks, Create}
 use Rattle.ice_tables.specs.Lots.{total}
 use Rattle.ice_system.specs.Changes.{Changes}

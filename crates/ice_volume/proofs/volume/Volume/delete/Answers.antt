@@ -1,4 +1,4 @@
-use Rattle.std.proofs.Common.{◌≡◌, ◌≤◌, ◌∙◌, ℕ, [], None, OnOk, OnErr, ap, sym, subst, arith, length}
+use Rattle.std.proofs.Common.{◌≡◌, [], None, OnOk, OnErr, ap, sym, subst, arith}
 use Rattle.tree_spec.specs.Lines.{Asks, Delete}
 use Rattle.ice_system.specs.Changes.{Changes}
 use Rattle.ice_volume.specs.Lines.{AnswersLine}

@@ -1,4 +1,4 @@
-use Rattle.std.proofs.Common.{◌≡◌, ◌≤◌, ◌<◌, ◌∙◌, ℕ, Some, OnOk, OnErr, ap, sym, subst, arith, length, refl}
+use Rattle.std.proofs.Common.{◌≡◌, ◌≤◌, ◌<◌, ◌∙◌, Some, OnOk, OnErr, ap, sym, subst, arith, length}
 use Rattle.ice_base.specs.Lots.{LotView}
 use Rattle.tree_spec.specs.Lines.{Asks, Grow}
 use Rattle.ice_tables.specs.Lots.{groups_of, lot_of, total}
@@ -11,7 +11,7 @@ use Rattle.ice_volume.specs.Lines.{AnswersLine}
 use Rattle.ice_volume.specs.Told.{CellBecomes, IsWidened}
 use Rattle.ice_volume.specs.Volumes.{VolumeView}
 use Rattle.ice_volume.proofs.GroupLines.{grow_answers, grow_faulted, grow_new, grow_none, grow_refuses, grow_session_on, grow_sited, grow_within}
-use Rattle.ice_volume.proofs.Orders.{path_some}
+use Rattle.ice_volume.proofs.TableOrders.{path_some}
 use Rattle.ice_volume.proofs.TableLines.{sessions_after}
 use Rattle.ice_volume.proofs.volume.Volume.grow.Goals as goal
 

@@ -1,5 +1,4 @@
 use Rattle.std.proofs.Common.{◌∙◌, ap, arith}
-use Rattle.ice_base.specs.Lots.{LotView}
 use Rattle.ice_system.specs.Systems.{tables_of}
 use Rattle.ice_tables.specs.Lots.{lot_of}
 use Rattle.ice_volume.specs.Volumes.{VolumeView}

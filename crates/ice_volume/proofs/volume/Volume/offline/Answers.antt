@@ -1,4 +1,4 @@
-use Rattle.std.proofs.Common.{◌≡◌, ◌≤◌, ◌∙◌, ℕ, OnOk, OnErr, ap, sym, subst, arith, length}
+use Rattle.std.proofs.Common.{◌≡◌, OnOk, OnErr, ap, sym, subst, arith}
 use Rattle.tree_spec.specs.Lines.{Asks, Offline}
 use Rattle.ice_tables.specs.Lots.{groups_of}
 use Rattle.ice_names.specs.Names.{marked, row_at}
@@ -9,7 +9,7 @@ use Rattle.ice_volume.specs.Lines.{AnswersLine}
 use Rattle.ice_volume.specs.Told.{CellBecomes}
 use Rattle.ice_volume.specs.Volumes.{VolumeView}
 use Rattle.ice_volume.specs.declared.cell.Cell.TheVariants.{Closed}
-use Rattle.ice_volume.proofs.Orders.{other_state}
+use Rattle.ice_volume.proofs.TableOrders.{other_state}
 use Rattle.ice_volume.proofs.TableLines.{mounted_stays, offline_answers, offline_none, offline_stays, sessions_after, where_ok}
 use Rattle.ice_volume.proofs.volume.Volume.offline.Goals as goal
 

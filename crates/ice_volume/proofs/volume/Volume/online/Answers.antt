@@ -1,4 +1,4 @@
-use Rattle.std.proofs.Common.{◌≡◌, ◌∙◌, ℕ, OnOk, OnErr, ap, sym, subst, arith, refl}
+use Rattle.std.proofs.Common.{ap, sym, subst}
 use Rattle.tree_spec.specs.Lines.{Asks, Online}
 use Rattle.ice_tables.specs.Lots.{groups_of}
 use Rattle.ice_names.specs.Names.{marked, row_at}

@@ -1,32 +1,40 @@
-use Rattle.std.proofs.Common.{rules, ◌≡◌, ◌≤◌, ◌<◌, ℕ, true, None, Ok, IfNone, IfSome, length, ◌+◌, ◌-◌, ◌*◌, ◌/◌, ◌%◌, Bool, false, nat_eq, nat_lt, List, [], ◌∷◌, ◌++◌, slice_index_or, slice_set, bit_and, bit_or, Fits, w8, w32, w64, Bor, MutBor}
-use Rattle.ice_base.specs.Disk.{DiskState}
-use Rattle.ice_base.specs.Lots.{is_sited}
-use Rattle.tree_spec.specs.Held.{RoomContent}
-use Rattle.tree_spec.specs.Lines.{Asks, Sync, Unmount, Check}
-use Rattle.tree_spec.specs.World.{World}
-use Rattle.ice_tables.specs.Lots.{lot_of, total}
+use Rattle.std.proofs.Common.{◌∙◌, [], refl, sym, ap, subst}
+use Rattle.std.specs.Prelude.{slice_index_or}
+use Rattle.tree_spec.specs.Lines.{Asks, Sync}
+use Rattle.tree_spec.specs.Own as order
+use Rattle.ice_tables.specs.Lots.{lot_of}
+use Rattle.ice_names.specs.Names.{row_at, path_at}
 use Rattle.ice_system.specs.Systems.{tables_of}
-use Rattle.ice_volume.specs.Lines.{AnswersLine}
-use Rattle.ice_volume.specs.Volumes.{HasRoom, StandsFor}
+use Rattle.ice_volume.specs.Orders.{IsCellOf}
+use Rattle.ice_volume.specs.Volumes.{VolumeView}
 use Rattle.ice_volume.specs.declared.fault.AreaFault.{AreaFault}
+use Rattle.ice_volume.proofs.Aiming.{none_line, free_line}
+use Rattle.ice_volume.proofs.Sessions.{here_lot, here_sited, path_row, path_line, set_sessions}
 use Rattle.ice_volume.proofs.volume.Volume.sync.Goals as goal
 
--- src/cubes.rt:46:21
 pub returns-in-None : goal.returns-in-None
-returns-in-None g c = ?
+returns-in-None g c = λ room. none_line {X = AreaFault} g.D.Disk.state g.D.Disk.left (Asks (Sync c.args.path.now)) c.args.self.now room c.args.disk.now c.args.path.now order.Sync (λ u. refl) c.in-None.ensures.found
 
--- src/cubes.rt:49:13
-pub returns-then-is_none : goal.returns-then-is_none
-returns-then-is_none g c = ?
+pub returns-in-None-lot : goal.returns-in-None-lot
+returns-in-None-lot g c = λ room. free_line {X = AreaFault} g.D.Disk.state g.D.Disk.left (Asks (Sync c.args.path.now)) c.args.self.now room c.args.disk.now c.in-Some.slot c.args.path.now c.in-Some.ensures.slot c.in-Some.ensures.found c.in-None-lot.ensures.none
 
--- src/cubes.rt:52:9
 pub sync_cell-requires : goal.sync_cell-requires
-sync_cell-requires g c = ?
+sync_cell-requires g c = record {
+  sited = here_sited (record { system = c.self.inside.system; cells = c.self.inside.cells }) c.self.invariant c.in-Some.slot c.lot.ensures.low c.index-self-slot.result c.in-Some-lot.lot (g.D.Disk.state c.args.disk.now).size
+      (c.in-Some-lot.ensures.lot ∙ sym (ap (λ (v : VolumeView). lot_of (tables_of v.system) c.in-Some.slot) c.self.view_is)) (c.in-Some-lot.ensures.sited (g.D.Disk.state c.args.disk.now).size c.requires) c.in-Some-lot.ensures.some;
+}
 
--- src/cubes.rt:40:5
 pub invariant_of-self : goal.invariant_of-self
-invariant_of-self g c = ?
+invariant_of-self g c =
+    let v : VolumeView = record { system = c.self.inside.system; cells = c.self.inside.cells } in
+    set_sessions v c.self.invariant c.in-Some.slot c.lot.ensures.low c.sync_cell.new.cell
+    (path_row (row_at v.system.names c.in-Some.slot) c.args.path.now (ap (λ (y : VolumeView). path_at y.system.names c.in-Some.slot) c.self.view_is ∙ c.in-Some.ensures.found))
+    (c.sync_cell.ensures (lot_of (tables_of v.system) c.in-Some.slot) (record { bytes = []; entries = []; rows = [] }) (here_lot v c.self.invariant c.in-Some.slot c.lot.ensures.low c.index-self-slot.result)).cell
 
--- src/cubes.rt:40:5
 pub returns : goal.returns
-returns g c = ?
+returns g c = λ room.
+    let v : VolumeView = record { system = c.self.inside.system; cells = c.self.inside.cells } in let w = c.args.self.now in let x = c.in-Some.slot in
+    path_line g.D.Disk.state g.D.Disk.left v w c.self.view_is c.self.invariant x c.lot.ensures.low c.in-Some.ensures.slot (Asks (Sync c.args.path.now)) order.Sync c.is_offline-offline.result c.index-self-slot.result c.sync_cell.new.cell room c.sync_cell.result
+    c.args.disk.now c.sync_cell.new.disk (λ told. g.met.D.Disk.whole c.args.disk.now told)
+    (c.sync_cell.ensures (lot_of (tables_of w.system) x) room (subst (λ (y : VolumeView). IsCellOf (lot_of (tables_of y.system) x) (slice_index_or c.self.inside.cells x c.index-self-slot.result)) c.self.view_is (here_lot v c.self.invariant x c.lot.ensures.low c.index-self-slot.result)))
+    c.args.path.now c.in-Some.ensures.found (sym c.is_offline-offline.ensures) (λ u. refl)

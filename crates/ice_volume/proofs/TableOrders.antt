@@ -11,18 +11,18 @@ use Rattle.tree_spec.specs.Replies.{Response, Because}
 use Rattle.tree_spec.specs.Replies as reply
 use Rattle.tree_spec.specs.Own as order
 use Rattle.tree_spec.specs.Own.{Own, No, Yes, on_offline, on_online}
-use Rattle.tree_spec.specs.World.{World, Aim, At, aim, Step, Goes, to_cube, slot_with_path, with_slot}
+use Rattle.tree_spec.specs.World.{World, Aim, At, aim, Goes, to_cube, slot_with_path, with_slot}
 use Rattle.tree_spec.specs.declared.reply.StateWord.{StateWord}
 use Rattle.tree_spec.specs.declared.reply.StateWord.TheVariants as word
 use Rattle.ice_tables.specs.Tables.{Row}
 use Rattle.ice_tables.specs.Lots.{groups_of, lot_of}
-use Rattle.ice_images.specs.Fitting.{Entry, cube_entry, Has}
+use Rattle.ice_images.specs.Fitting.{Entry, cube_entry}
 use Rattle.ice_images.specs.Opening.{closed_state}
 use Rattle.ice_names.specs.Names.{row_at, path_at, NoneHas, marked}
 use Rattle.ice_names.specs.declared.mark.Mark.TheVariants as mark
 use Rattle.ice_cube.specs.Commands.{open_state}
-use Rattle.ice_system.specs.Systems.{SystemView, tables_of}
-use Rattle.ice_volume.specs.Cells.{cell_at, cell_state, EachHas, IsKnown, Rests, Carries}
+use Rattle.ice_system.specs.Systems.{tables_of}
+use Rattle.ice_volume.specs.Cells.{cell_at, cell_state, IsKnown, Carries}
 use Rattle.ice_volume.specs.Volumes.{VolumeView, StandsFor}
 use Rattle.ice_volume.specs.Lines.{Answers, LineFound}
 use Rattle.ice_volume.specs.Rows.{is_marked}
