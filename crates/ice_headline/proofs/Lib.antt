@@ -3,6 +3,7 @@ mod Acknowledged
 mod Including
 mod Slots
 mod Finding
+mod Saying
 mod Resting
 mod Ending
 mod Containing

@@ -18,7 +18,7 @@ use Rattle.ice_run.specs.Runs.{Answered, Runs, end}
 use Rattle.ice_run.specs.Alone.{Told, told, told_at, while_live, orders_of, said}
 use Rattle.ice_headline.specs.Acknowledged.{LivesOn}
 use Rattle.ice_headline.specs.Later.{IsMounting, NoneMounted, added_by, added, MountsAs, IsOff, Serves}
-use Rattle.ice_run.proofs.Said.{run_said}
+use Rattle.ice_headline.proofs.Saying.{run_said}
 
 -- neither mounted nor stopped
 abbrev pub IsClosed : StateWord → Type 0

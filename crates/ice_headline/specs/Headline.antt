@@ -54,4 +54,4 @@ After state left later late last old new before after =
     → (s : ℕ) (damaged : Image) → Harms image damaged s
     → Settled Everywhere (later before) → (later before).now ≡ damaged
     → ((out : List ℕ) × (given ≡ (state old).streams.aside ++ out) × Contains w (script_lines (state old).streams.intake) out s damaged)
-      × ((u : World) → Opens damaged u → Keeps later late last u before after)
+    × ((u : World) → Opens damaged u → Keeps later late last u before after)
