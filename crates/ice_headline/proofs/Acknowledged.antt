@@ -21,6 +21,7 @@ CoversIn n (Sound h) = n ≤ floor h
 CoversIn n (Broken rules) = n ≡ 0
 CoversIn n Unread = n ≡ 0
 
+-- the same of a slot; a free one has acknowledged nothing
 abbrev pub Covers : ℕ → Option Cube → Type 0
 Covers n None = n ≡ 0
 Covers n (Some c) = CoversIn n c.content
@@ -103,7 +104,8 @@ new_gives _ v is = absurd is
 abbrev CoversAfter : ℕ → Response → Option Cube → Type 0
 CoversAfter n r d = Covers (if_live d (max n (count_in r))) d
 
-says_gives : (c : Option Cube) (v : Verdict) (r : Response) (d : Option Cube) → CoversAfter 0 (Err value.Fault) c → Gives v → Says v c r d → CoversAfter 0 r d
+says_gives : (c : Option Cube) (v : Verdict) (r : Response) (d : Option Cube) → CoversAfter 0 (Err value.Fault) c → Gives v → Says v c r d
+    → CoversAfter 0 r d
 says_gives c (No why) r d same gives s = subst (λ x. CoversAfter 0 x d) (sym s.0) (subst (CoversAfter 0 (Err value.Fault)) (sym s.1) same)
 says_gives c (Yes x e) r d same gives s =
     let is : count_of x ≡ max 0 (count_of x) = omega arith in
@@ -132,10 +134,12 @@ on_covers n m h (Some d) le on =
     let both : max n m ≤ floor on.0 = omega (arith, le, more, reached) in
     subst (CoversIn (max n m)) (sym on.1) both
 
-sound_covers : (n : ℕ) (c : Cube) (h : History) (o : Order) (r : Response) (d : Option Cube) → c.content ≡ Sound h → n ≤ floor h → Own (Some c) o r d → CoversAfter n r d
+sound_covers : (n : ℕ) (c : Cube) (h : History) (o : Order) (r : Response) (d : Option Cube) → c.content ≡ Sound h → n ≤ floor h → Own (Some c) o r d
+    → CoversAfter n r d
 sound_covers n c h o r d is le own = on_covers n (count_in r) h d le (own_goes_on c h is o r d own)
 
-other_covers : (n : ℕ) (c : Cube) (o : Order) (r : Response) (d : Option Cube) → ¬ IsSound c.content → CoversIn n c.content → Own (Some c) o r d → CoversAfter n r d
+other_covers : (n : ℕ) (c : Cube) (o : Order) (r : Response) (d : Option Cube) → ¬ IsSound c.content → CoversIn n c.content → Own (Some c) o r d
+    → CoversAfter n r d
 other_covers n c o r d not p own =
     let none : 0 ≡ n = sym (none_in n c.content not p) in
     subst (λ m. CoversAfter m r d) none
@@ -161,7 +165,8 @@ keeps_covers : (n : ℕ) (d : Option Cube) → Covers n d → Covers (if_live d 
 keeps_covers n None p = refl
 keeps_covers n (Some d) p = p
 
-goes_covers : (n s : ℕ) (a : Aim) (w v : World) (r : Response) → Covers n (w.cube s) → Goes w a r v → Covers (if_live (v.cube s) (acknowledged_at s a r n)) (v.cube s)
+goes_covers : (n s : ℕ) (a : Aim) (w v : World) (r : Response) → Covers n (w.cube s) → Goes w a r v
+    → Covers (if_live (v.cube s) (acknowledged_at s a r n)) (v.cube s)
 goes_covers n s (Refuse why) w v r p g = keeps_covers n (v.cube s) (subst (λ (x : World). Covers n (x.cube s)) (sym g.1) p)
 goes_covers n s Listing w v r p g = keeps_covers n (v.cube s) (subst (λ (x : World). Covers n (x.cube s)) (sym g.1) p)
 goes_covers n s (At x o) w v r p g = elim (cases_eq x s) as (λ _. Covers (if_live (v.cube s) (acknowledged_at s (At x o) r n)) (v.cube s)) [
@@ -181,10 +186,13 @@ goes_covers n s (At x o) w v r p g = elim (cases_eq x s) as (λ _. Covers (if_li
 ]
 
 -- at the end of a run the slot's cube covers what it has acknowledged
-pub run_covers : (n s : ℕ) (w : World) (steps : List Answered) → Covers n (w.cube s) → Runs w steps → Covers (acknowledged_from n s w steps) ((end w steps).cube s)
+pub run_covers : (n s : ℕ) (w : World) (steps : List Answered) → Covers n (w.cube s) → Runs w steps
+    → Covers (acknowledged_from n s w steps) ((end w steps).cube s)
 run_covers n s w [] p runs = p
-run_covers n s w (a ∷ rest) p runs = run_covers (if_live (a.then.cube s) (acknowledged_at s (aim w a.line) a.reply n)) s a.then rest (goes_covers n s (aim w a.line) w a.then a.reply p runs.0) runs.1
+run_covers n s w (a ∷ rest) p runs =
+    run_covers (if_live (a.then.cube s) (acknowledged_at s (aim w a.line) a.reply n)) s a.then rest (goes_covers n s (aim w a.line) w a.then a.reply p runs.0) runs.1
 
+-- nothing is always covered
 pub zero_covers : (c : Option Cube) → Covers 0 c
 zero_covers None = refl
 zero_covers (Some c) = zero_in c.content
@@ -206,7 +214,8 @@ pub sound_reached : (n : ℕ) (d : Option Cube) (c : Cube) (h : History) → Cov
 sound_reached n d c h p there is = covers_low n n c h is (omega arith) (subst (Covers n) there p)
 
 -- and so it is after one line more
-pub step_reached : (n s : ℕ) (w v : World) (line : Line) (r : Response) (c : Cube) (h : History) → Covers n (w.cube s) → Step w line r v → v.cube s ≡ Some c → c.content ≡ Sound h → n ≤ floor h
+pub step_reached : (n s : ℕ) (w v : World) (line : Line) (r : Response) (c : Cube) (h : History) → Covers n (w.cube s) → Step w line r v
+    → v.cube s ≡ Some c → c.content ≡ Sound h → n ≤ floor h
 step_reached n s w v line r c h p step there is =
     covers_low n (acknowledged_at s (aim w line) r n) c h is (more_at n s (aim w line) r)
     (subst (λ d. Covers (if_live d (acknowledged_at s (aim w line) r n)) d) there (goes_covers n s (aim w line) w v r p step))

@@ -32,7 +32,8 @@ fits_but v image damaged s same fits =
     subst (FitsBut s v) (sym same) (record { tables = fits.tables; has = fits.has; room = fits.room; shows = fits.shows; cubes = λ x other. fits.cubes x tt })
 
 -- what one sense of fitting gives, a weaker one gives too
-after_more : (P Q : World → Type 0) (w : World) (script : List Line) (out : List ℕ) → ((v : World) → P v → Q v) → run.After P w script out → run.After Q w script out
+after_more : (P Q : World → Type 0) (w : World) (script : List Line) (out : List ℕ) → ((v : World) → P v → Q v) → run.After P w script out
+    → run.After Q w script out
 after_more P Q w script out more a = record {
   steps = a.steps;
   runs = a.runs;
@@ -46,7 +47,8 @@ after_more P Q w script out more a = record {
 }
 
 -- the floor of a sound cube has reached what the slot's cube acknowledged in the lines that were answered
-pub floor_reached : (x : ℕ) (w : World) (script : List Line) (steps : List Answered) (tail : List ℕ) (v : World) (c : Cube) (h : History) → Runs w steps → Reached w script steps tail v → v.cube x ≡ Some c → c.content ≡ Sound h
+pub floor_reached : (x : ℕ) (w : World) (script : List Line) (steps : List Answered) (tail : List ℕ) (v : World) (c : Cube) (h : History)
+    → Runs w steps → Reached w script steps tail v → v.cube x ≡ Some c → c.content ≡ Sound h
     → acknowledged_from 0 x w steps ≤ floor h
 floor_reached x w script steps tail v c h runs reached there is =
     let covers = run_covers 0 x w steps (zero_covers (w.cube x)) runs in
@@ -69,7 +71,8 @@ not_off : (s t : StateWord) → s ≡ closed_state (is_offline t) → is_offline
 not_off s t is on off = absurd (cc (off, is ∙ ap closed_state on))
 
 -- a mount that is the first line
-first_mount : (x k : ℕ) (t : Tree) (c d : Cube) (u : World) (a : Answered) (rest : List Answered) → u.cube x ≡ Some d → IsFound c t k d → aim u (Asks (line.Mount c.path)) ≡ At x Mount → Serves x k t d u (a ∷ rest)
+first_mount : (x k : ℕ) (t : Tree) (c d : Cube) (u : World) (a : Answered) (rest : List Answered) → u.cube x ≡ Some d → IsFound c t k d
+    → aim u (Asks (line.Mount c.path)) ≡ At x Mount → Serves x k t d u (a ∷ rest)
     → a.line ≡ Asks (line.Mount c.path) → is_offline c.state ≡ false → IsClean a.reply → MountsAs x k t d 0 a rest
 first_mount x k t c d u a rest there found told serves is on clean = ⊎_elim
     (λ off. absurd (not_off d.state c.state found.state on (subst IsOff there off.0)))
@@ -105,13 +108,15 @@ ImagesReopen = ((i : Image) (w : World) (s : ℕ) → FitsBut s w i → (u : Wor
     × ((i : Image) (w u : World) (s : ℕ) → FitsBut s w i → Opens i u → ReopensBut s w u)
 
 module _ (law : ImagesReopen) where
-  contains : (w : World) (script : List Line) (out : List ℕ) (s : ℕ) (i : Image) → run.After (λ v. FitsBut s v i) w script out → Contains w script out s i
+  contains : (w : World) (script : List Line) (out : List ℕ) (s : ℕ) (i : Image) → run.After (λ v. FitsBut s v i) w script out
+      → Contains w script out s i
   contains w script out s i a = record {
     steps = a.steps;
     runs = a.runs;
     tail = a.tail;
     gives = a.gives;
     count = a.count;
+    front = a.front;
     world = a.world;
     reached = a.reached;
     includes = λ x c h there is. includes x w script a.steps a.tail a.world c h a.runs.runs a.reached there is;

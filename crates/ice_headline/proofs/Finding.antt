@@ -36,22 +36,27 @@ pub record FoundAt (x : ℕ) (c : Cube) (h : History) (i : Image) (u : World) : 
   pub records : Recovers (lot_of tables x) i c.form cube.mode (tree_at h more) (floor h + more)
   pub slot : slot_with_path u c.path ≡ Some x
 
-sound_reopens : (o : Option Cube) (p : Option Cube) (c : Cube) (h : History) → CubeReopens o p → o ≡ Some c → c.content ≡ Sound h → (d : Cube) × (p ≡ Some d) × Reopened c h d
+sound_reopens : (o : Option Cube) (p : Option Cube) (c : Cube) (h : History) → CubeReopens o p → o ≡ Some c → c.content ≡ Sound h
+    → (d : Cube) × (p ≡ Some d) × Reopened c h d
 sound_reopens o p c h r there is = subst (λ x. ContentReopens c x p) is (subst (λ y. CubeReopens y p) there r)
 
-same_entry : (p o : Option Cube) (d c : Cube) → option_map cube_entry p ≡ option_map cube_entry o → p ≡ Some d → o ≡ Some c → cube_entry d ≡ cube_entry c
+same_entry : (p o : Option Cube) (d c : Cube) → option_map cube_entry p ≡ option_map cube_entry o → p ≡ Some d → o ≡ Some c
+    → cube_entry d ≡ cube_entry c
 same_entry p o d c same here there =
     let is : Some (cube_entry d) ≡ Some (cube_entry c) = sym (ap (option_map cube_entry) here) ∙ same ∙ ap (option_map cube_entry) there in
     ap (λ (e : Option Entry). unwrap_or e (cube_entry c)) is
 
 -- the lot recovers what the record has
-opened_recovers : (lot : LotView) (i : Image) (o : Option Cube) (d : Cube) (t : Tree) (k : ℕ) → OpensCube lot i o → o ≡ Some d → d.content ≡ Sound (fresh t k) → Recovers lot i d.form d.mode t k
+opened_recovers : (lot : LotView) (i : Image) (o : Option Cube) (d : Cube) (t : Tree) (k : ℕ) → OpensCube lot i o → o ≡ Some d
+    → d.content ≡ Sound (fresh t k) → Recovers lot i d.form d.mode t k
 opened_recovers lot i o d t k opens there is =
     let cube : OpensCube lot i (Some d) = subst (OpensCube lot i) there opens in
     let content : OpensContent lot i d (Sound (fresh t k)) = subst (OpensContent lot i d) is cube.1 in
     content.2
 
-pub found_at : (s : ℕ) (v u : World) (i : Image) (x : ℕ) (c : Cube) (h : History) → ReopensBut s v u → Opens i u → x ≢ s → v.cube x ≡ Some c → c.content ≡ Sound h → FoundAt x c h i u
+-- a sound cube of the world that was reached, but for that of one slot, is found
+pub found_at : (s : ℕ) (v u : World) (i : Image) (x : ℕ) (c : Cube) (h : History) → ReopensBut s v u → Opens i u → x ≢ s → v.cube x ≡ Some c
+    → c.content ≡ Sound h → FoundAt x c h i u
 found_at s v u i x c h reopens opens other there is =
     let d = sound_reopens (v.cube x) (u.cube x) c h (reopens.cubes x other) there is in
     let entry = same_entry (u.cube x) (v.cube x) d.0 c (reopens.entries x) d.1 there in

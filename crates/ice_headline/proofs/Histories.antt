@@ -21,10 +21,12 @@ use Rattle.ice_headline.specs.Acknowledged.{LivesOn, Extends}
 
 -- ---- histories
 
+-- operations one list after another
 pub tree_after-append : (xs ys : List Operation) (t : Tree) → tree_after (xs ++ ys) t ≡ tree_after ys (tree_after xs t)
 tree_after-append [] ys t = refl
 tree_after-append (op ∷ xs) ys t = tree_after-append xs ys (next_tree op t)
 
+-- the first of two lists, and some of the second
 pub take_more : (xs ys : List Operation) (j : ℕ) → take (length xs + j) (xs ++ ys) ≡ xs ++ take j ys
 take_more [] ys j = let is : 0 + j ≡ j = omega arith in ap (λ n. take n ys) is
 take_more (x ∷ xs) ys j =
@@ -33,8 +35,10 @@ take_more (x ∷ xs) ys j =
 
 -- the tree of a count from the floor on is that after so many of the first accepted commands
 pub tree_first : (h : History) (j : ℕ) → tree_at h j ≡ tree_after (take (length h.sure + j) (h.sure ++ h.since)) h.base
-tree_first h j = sym (ap (λ (ops : List Operation). tree_after ops h.base) (take_more h.sure h.since j) ∙ tree_after-append h.sure (take j h.since) h.base)
+tree_first h j =
+    sym (ap (λ (ops : List Operation). tree_after ops h.base) (take_more h.sure h.since j) ∙ tree_after-append h.sure (take j h.since) h.base)
 
+-- settling makes all that was accepted sure
 pub floor_settled : (h : History) → floor (settled h) ≡ done h
 floor_settled h = let long = length-append h.sure h.since in omega (arith, long)
 
@@ -42,6 +46,7 @@ nothing_more : (xs : List Operation) → xs ≡ xs ++ []
 nothing_more [] = refl
 nothing_more (x ∷ xs) = ap (λ (ys : List Operation). x ∷ ys) (nothing_more xs)
 
+-- a history goes on from itself
 pub extends_same : (h : History) → Extends h h
 extends_same h = record { base = refl; from = refl; more = []; sure = nothing_more h.sure }
 
@@ -53,6 +58,7 @@ extends_then f g h a b = record {
   sure = b.sure ∙ ap (λ (xs : List Operation). xs ++ b.more) a.sure ∙ append_assoc f.sure a.more b.more;
 }
 
+-- a floor never falls
 pub floor_grows : (g h : History) → Extends g h → floor g ≤ floor h
 floor_grows g h on =
     let long : length h.sure ≡ length g.sure + length on.more = ap (λ (xs : List Operation). length xs) on.sure ∙ length-append g.sure on.more in
@@ -104,7 +110,8 @@ module _ (c : Cube) (h : History) (is : c.content ≡ Sound h) where
 
   tree_leads : (op : Operation) (w : Option Why) → Leads h (tree_verdict c h op w)
   tree_leads op (Some why) = tt
-  tree_leads op None = subst (λ n. OnFrom h n (Some (if is_change op then with_history (accepts h op) c else c))) (sym (value_none op (tree_now h))) (by (is_change op))
+  tree_leads op None =
+      subst (λ n. OnFrom h n (Some (if is_change op then with_history (accepts h op) c else c))) (sym (value_none op (tree_now h))) (by (is_change op))
     where
       by : (b : Bool) → OnFrom h 0 (Some (if b then with_history (accepts h op) c else c))
       by true = (accepts h op, refl, record { base = refl; from = refl; more = []; sure = nothing_more h.sure }, omega arith)
@@ -185,7 +192,8 @@ module _ (c : Cube) (h : History) (is : c.content ≡ Sound h) where
 
 -- ---- runs
 
-goes_on_from : (x : ℕ) (f : History) (w v : World) (a : Aim) (r : Response) → w.cube x ≢ None → OnFrom f 0 (w.cube x) → Goes w a r v → OnFrom f 0 (v.cube x)
+goes_on_from : (x : ℕ) (f : History) (w v : World) (a : Aim) (r : Response) → w.cube x ≢ None → OnFrom f 0 (w.cube x) → Goes w a r v
+    → OnFrom f 0 (v.cube x)
 goes_on_from x f w v (Refuse why) r live on g = subst (λ (y : World). OnFrom f 0 (y.cube x)) (sym g.1) on
 goes_on_from x f w v Listing r live on g = subst (λ (y : World). OnFrom f 0 (y.cube x)) (sym g.1) on
 goes_on_from x f w v (At y o) r live on g = elim (cases_eq y x) as (λ _. OnFrom f 0 (v.cube x)) [
@@ -204,9 +212,14 @@ goes_on_from x f w v (At y o) r live on g = elim (cases_eq y x) as (λ _. OnFrom
     by None o r d live on own = absurd (live refl)
     by (Some c) o r d live on own = on_after f on.0 (count_in r) d on.2 (own_goes_on c on.0 on.1 o r d own)
 
-pub run_goes_on : (x : ℕ) (f : History) (w : World) (steps : List Answered) → LivesOn x w steps → OnFrom f 0 (w.cube x) → Runs w steps → OnFrom f 0 ((end w steps).cube x)
+-- over a run that the cube outlives
+pub run_goes_on : (x : ℕ) (f : History) (w : World) (steps : List Answered) → LivesOn x w steps → OnFrom f 0 (w.cube x) → Runs w steps
+    → OnFrom f 0 ((end w steps).cube x)
 run_goes_on x f w [] lives on runs = on
-run_goes_on x f w (a ∷ rest) lives on runs = run_goes_on x f a.then rest lives.1 (goes_on_from x f w a.then (aim w a.line) a.reply lives.0 on runs.0) runs.1
+run_goes_on x f w (a ∷ rest) lives on runs =
+    run_goes_on x f a.then rest lives.1 (goes_on_from x f w a.then (aim w a.line) a.reply lives.0 on runs.0) runs.1
 
-pub step_goes_on : (x : ℕ) (f : History) (w v : World) (line : Line) (r : Response) → w.cube x ≢ None → OnFrom f 0 (w.cube x) → Step w line r v → OnFrom f 0 (v.cube x)
+-- over a line
+pub step_goes_on : (x : ℕ) (f : History) (w v : World) (line : Line) (r : Response) → w.cube x ≢ None → OnFrom f 0 (w.cube x) → Step w line r v
+    → OnFrom f 0 (v.cube x)
 step_goes_on x f w v line r live on step = goes_on_from x f w v (aim w line) r live on step

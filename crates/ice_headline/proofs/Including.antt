@@ -24,7 +24,8 @@ begins g h k on low =
       count = omega (arith, low, long, same);
       first = λ some is.
           let j = some - length g.sure in
-          let all : h.sure ++ h.since ≡ g.sure ++ (on.more ++ h.since) = ap (λ (xs : List Operation). xs ++ h.since) on.sure ∙ append_assoc g.sure on.more h.since in
+          let all : h.sure ++ h.since ≡ g.sure ++ (on.more ++ h.since) =
+          ap (λ (xs : List Operation). xs ++ h.since) on.sure ∙ append_assoc g.sure on.more h.since in
           let far : some ≡ length g.sure + j = omega (arith, low, long, same, is) in
           (take j (on.more ++ h.since), ap (λ n. take n (h.sure ++ h.since)) far ∙ ap (λ (xs : List Operation). take (length g.sure + j) xs) all ∙ take_more g.sure (on.more ++ h.since) j);
     }
@@ -36,12 +37,14 @@ Settled c r d = (h : History) × (to : StateWord) × (r ≡ Ok (Number (done h))
 no_refusal : (v : Verdict) (c d : Option Cube) (r : Response) → (why : Why) × (v ≡ No why) → IsOk r → ¬ Says v c r d
 no_refusal v c d r is ok says = let s = subst (λ x. Says x c r d) is.1 says in absurd (cc (s.0, ok))
 
-by_sound : (c : Cube) (x : Content) (to : StateWord) (v : Verdict) (r : Response) (d : Option Cube) → OfSound x (on_sync c to) v → Says v (Some c) r d → Settled c r d
+by_sound : (c : Cube) (x : Content) (to : StateWord) (v : Verdict) (r : Response) (d : Option Cube) → OfSound x (on_sync c to) v → Says v (Some c) r d
+    → Settled c r d
 by_sound c (Sound h) to v r d p says = let s = subst (λ y. Says y (Some c) r d) p says in (h, to, s.0, s.1)
 by_sound c (Broken rules) to v r d p says = absurd p
 by_sound c Unread to v r d p says = absurd p
 
-by_state : (s : StateWord) (c : Cube) (to : StateWord) (v : Verdict) (r : Response) (d : Option Cube) → IfMounted s (OfSound c.content (on_sync c to)) v → IsOk r → Says v (Some c) r d → Settled c r d
+by_state : (s : StateWord) (c : Cube) (to : StateWord) (v : Verdict) (r : Response) (d : Option Cube)
+    → IfMounted s (OfSound c.content (on_sync c to)) v → IsOk r → Says v (Some c) r d → Settled c r d
 by_state Mounted c to v r d p ok says = by_sound c c.content to v r d p says
 by_state Unmounted c to v r d p ok says = absurd (no_refusal v (Some c) d r (_, p) ok says)
 by_state Stopped c to v r d p ok says = absurd (no_refusal v (Some c) d r (_, p) ok says)
@@ -53,7 +56,8 @@ IsSettlingOrder Sync = ⊤
 IsSettlingOrder Unmount = ⊤
 IsSettlingOrder _ = ⊥
 
-plain_settled : (o : Order) (c : Cube) (v : Verdict) (r : Response) (d : Option Cube) → IsSettlingOrder o → Plainly (Some c) o v → IsOk r → Says v (Some c) r d → Settled c r d
+plain_settled : (o : Order) (c : Cube) (v : Verdict) (r : Response) (d : Option Cube) → IsSettlingOrder o → Plainly (Some c) o v → IsOk r
+    → Says v (Some c) r d → Settled c r d
 plain_settled Sync c v r d is p ok says = by_state c.state c Mounted v r d p ok says
 plain_settled Unmount c v r d is p ok says = by_state c.state c Unmounted v r d p ok says
 plain_settled _ c v r d is p ok says = absurd is
@@ -64,8 +68,10 @@ free_none Unmount v is p = p
 free_none _ v is p = absurd is
 
 own_settled : (o : Order) (c : Option Cube) (r : Response) (d : Option Cube) → IsSettlingOrder o → IsOk r → Own c o r d → (e : Cube) × Settled e r d
-own_settled o None r d is ok own = ⊎_elim (λ p. absurd (free_none o p.0 is p.1)) (λ q. ⊎_elim (λ f. absurd (cc (f.1, ok))) (λ m. absurd (cc (m.1, ok))) q) own
-own_settled o (Some c) r d is ok own = ⊎_elim (λ p. (c, plain_settled o c p.0 r d is p.1 ok p.2)) (λ q. ⊎_elim (λ f. absurd (cc (f.1, ok))) (λ m. absurd (cc (m.1, ok))) q) own
+own_settled o None r d is ok own =
+    ⊎_elim (λ p. absurd (free_none o p.0 is p.1)) (λ q. ⊎_elim (λ f. absurd (cc (f.1, ok))) (λ m. absurd (cc (m.1, ok))) q) own
+own_settled o (Some c) r d is ok own =
+    ⊎_elim (λ p. (c, plain_settled o c p.0 r d is p.1 ok p.2)) (λ q. ⊎_elim (λ f. absurd (cc (f.1, ok))) (λ m. absurd (cc (m.1, ok))) q) own
 
 goes_settled : (x : ℕ) (o : Order) (w : World) (a : Answered) → IsSettlingOrder o → Goes w (At x o) a.reply a.then → IsOk a.reply → Acknowledges x a
 goes_settled x o w a is g ok =
@@ -82,7 +88,8 @@ goes_settled x o w a is g ok =
     }
 
 line_settled : (x : ℕ) (w : World) (a : Answered) → IsSettling x (aim w a.line) → Step w a.line a.reply a.then → IsOk a.reply → Acknowledges x a
-line_settled x w a is step ok = ⊎_elim (λ s. goes_settled x Sync w a tt (subst (λ b. Goes w b a.reply a.then) s step) ok) (λ u. goes_settled x Unmount w a tt (subst (λ b. Goes w b a.reply a.then) u step) ok) is
+line_settled x w a is step ok =
+    ⊎_elim (λ s. goes_settled x Sync w a tt (subst (λ b. Goes w b a.reply a.then) s step) ok) (λ u. goes_settled x Unmount w a tt (subst (λ b. Goes w b a.reply a.then) u step) ok) is
 
 runs_last : (w : World) (before rest : List Answered) → Runs w (before ++ rest) → Runs (end w before) rest
 runs_last w [] rest runs = runs
@@ -107,13 +114,17 @@ sound_on g d c h on there is =
     history_or d (Broken rules) = d
     history_or d Unread = d
 
-pub includes : (x : ℕ) (w : World) (script : List Line) (steps : List Answered) (tail : List ℕ) (v : World) (c : Cube) (h : History) → Runs w steps → Reached w script steps tail v → v.cube x ≡ Some c → c.content ≡ Sound h → Includes x w steps h
+-- what an Ok of `sync` or `unmount` acknowledged is among the first accepted commands of the world that was reached
+pub includes : (x : ℕ) (w : World) (script : List Line) (steps : List Answered) (tail : List ℕ) (v : World) (c : Cube) (h : History) → Runs w steps
+    → Reached w script steps tail v → v.cube x ≡ Some c → c.content ≡ Sound h → Includes x w steps h
 includes x w script steps tail v c h runs reached there is = λ before rest a split lives settling ok.
     let last = runs_last w before (a ∷ rest) (subst (Runs w) split runs) in
     let moment = line_settled x (end w before) a settling last.0 ok in
-    let here : OnFrom moment.history 0 (a.then.cube x) = subst (OnFrom moment.history 0) (sym moment.there) (moment.history, moment.content, extends_same moment.history, omega arith) in
+    let here : OnFrom moment.history 0 (a.then.cube x) =
+    subst (OnFrom moment.history 0) (sym moment.there) (moment.history, moment.content, extends_same moment.history, omega arith) in
     let same : end w steps ≡ end a.then rest = ap (end w) split ∙ end_last w before a rest in
-    let on : OnFrom moment.history 0 ((end w steps).cube x) = subst (λ (y : World). OnFrom moment.history 0 (y.cube x)) (sym same) (run_goes_on x moment.history a.then rest lives here last.1) in
+    let on : OnFrom moment.history 0 ((end w steps).cube x) =
+    subst (λ (y : World). OnFrom moment.history 0 (y.cube x)) (sym same) (run_goes_on x moment.history a.then rest lives here last.1) in
     let live : (end w steps).cube x ≢ None = subst (λ (y : World). y.cube x ≢ None) (sym same) (lives_last x a.then rest lives) in
     let found : OnFrom moment.history 0 (v.cube x) = ⊎_elim (λ e. subst (λ (y : World). OnFrom moment.history 0 (y.cube x)) (sym e) on)
     (λ p. step_goes_on x moment.history (end w steps) v p.1.line p.0 live on p.1.step) reached in

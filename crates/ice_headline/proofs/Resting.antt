@@ -53,7 +53,8 @@ module _ (d : Cube) (t : Tree) (k : ℕ) where
   keeps_as : (more : ℕ) (o : Order) (v w : Verdict) → v ≡ w → Keeps more o w → Keeps more o v
   keeps_as more o v w is keeps = subst (Keeps more o) (sym is) keeps
 
-  mounted_keeps : (more : ℕ) (o : Order) (s : StateWord) (x : Content) (f : History → Verdict) (v : Verdict) → IsClosed s → IfMounted s (OfSound x f) v → Keeps more o v
+  mounted_keeps : (more : ℕ) (o : Order) (s : StateWord) (x : Content) (f : History → Verdict) (v : Verdict) → IsClosed s
+      → IfMounted s (OfSound x f) v → Keeps more o v
   mounted_keeps more o Mounted x f v closed p = absurd closed
   mounted_keeps more o Unmounted x f v closed p = keeps_as more o v _ p tt
   mounted_keeps more o Stopped x f v closed p = absurd closed
@@ -66,7 +67,8 @@ module _ (d : Cube) (t : Tree) (k : ℕ) where
   finds_found : (e : Cube) (v : Verdict) → MountFinds e (Sound (fresh t k)) v → v ≡ on_mount e (fresh t k) 0
   finds_found e v p = let none : p.0 ≡ 0 = omega (arith, p.1) in p.2 ∙ ap (on_mount e (fresh t k)) none
 
-  mount_found : (s : StateWord) (e : Cube) (v : Verdict) → IsClosed s → IfMountable s (MountFinds e (Sound (fresh t k))) v → (v ≡ on_mount e (fresh t k) 0) ⊎ ((s ≡ Offline) × (v ≡ No why.Offline))
+  mount_found : (s : StateWord) (e : Cube) (v : Verdict) → IsClosed s → IfMountable s (MountFinds e (Sound (fresh t k))) v
+      → (v ≡ on_mount e (fresh t k) 0) ⊎ ((s ≡ Offline) × (v ≡ No why.Offline))
   mount_found Mounted e v closed p = absurd closed
   mount_found Unmounted e v closed p = inl (finds_found e v p)
   mount_found Stopped e v closed p = absurd closed
@@ -78,7 +80,8 @@ module _ (d : Cube) (t : Tree) (k : ℕ) where
   mount_keeps : (more : ℕ) (e : Cube) (v : Verdict) → Mounting e v → Keeps more Mount v
   mount_keeps more e v p = ⊎_elim (λ m. keeps_as more Mount v _ m (λ not. absurd (not refl))) (λ o. keeps_as more Mount v _ o.1 tt) p
 
-  check_keeps : (more : ℕ) (s : StateWord) (e : Cube) (h : History) (v : Verdict) → RestsAs d t k more e → CheckFinds e (Sound h) s v → Keeps more Check v
+  check_keeps : (more : ℕ) (s : StateWord) (e : Cube) (h : History) (v : Verdict) → RestsAs d t k more e → CheckFinds e (Sound h) s v
+      → Keeps more Check v
   check_keeps more Mounted e h v r p = keeps_as more Check v _ p (λ not. rested more e r)
   check_keeps more Unmounted e h v r p = keeps_as more Check v _ p.2 (λ not. rested more e r)
   check_keeps more Stopped e h v r p = keeps_as more Check v _ p.2 (λ not. rested more e r)
@@ -127,13 +130,15 @@ module _ (d : Cube) (t : Tree) (k : ℕ) where
   refused_none Delete x = refl
   refused_none (Create p n) x = refl
 
-  same_after : (more : ℕ) (e : Cube) (o : Order) (x : value.Refused) (r : Response) (c : Option Cube) → RestsAs d t k more e → r ≡ Err x → c ≡ Some e → Rests d t k (added_by o r + more) c
+  same_after : (more : ℕ) (e : Cube) (o : Order) (x : value.Refused) (r : Response) (c : Option Cube) → RestsAs d t k more e → r ≡ Err x → c ≡ Some e
+      → Rests d t k (added_by o r + more) c
   same_after more e o x r c rests is same =
       subst (λ y. Rests d t k (added_by o y + more) c) (sym is)
       (subst (λ n. Rests d t k (n + more) c) (sym (refused_none o x))
       (subst (Rests d t k (0 + more)) (sym same) (rested more e rests)))
 
-  says_keeps : (more : ℕ) (e : Cube) (o : Order) (v : Verdict) (r : Response) (c : Option Cube) → RestsAs d t k more e → Keeps more o v → ¬ IsMounting o r → Says v (Some e) r c → Rests d t k (added_by o r + more) c
+  says_keeps : (more : ℕ) (e : Cube) (o : Order) (v : Verdict) (r : Response) (c : Option Cube) → RestsAs d t k more e → Keeps more o v
+      → ¬ IsMounting o r → Says v (Some e) r c → Rests d t k (added_by o r + more) c
   says_keeps more e o (No why) r c rests keeps not s = same_after more e o (Because why) r c rests s.0 s.1
   says_keeps more e o (Yes x f) r c rests keeps not s =
       subst (λ y. Rests d t k (added_by o y + more) c) (sym s.0)
@@ -164,7 +169,8 @@ module _ (d : Cube) (t : Tree) (k : ℕ) where
   fault_same Offline e (Grow n) is closed may = refl
   fault_same Offline e (Create p n) is closed may = refl
 
-  own_keeps : (more : ℕ) (e : Cube) (o : Order) (r : Response) (c : Option Cube) → RestsAs d t k more e → ¬ IsMounting o r → Own (Some e) o r c → Rests d t k (added_by o r + more) c
+  own_keeps : (more : ℕ) (e : Cube) (o : Order) (r : Response) (c : Option Cube) → RestsAs d t k more e → ¬ IsMounting o r → Own (Some e) o r c
+      → Rests d t k (added_by o r + more) c
   own_keeps more e o r c rests not own =
       ⊎_elim (λ p. says_keeps more e o p.0 r c rests (plain_keeps more e o p.0 rests p.1) not p.2)
       (λ q. ⊎_elim (λ f. same_after more e o value.Fault r c rests f.1 (f.2 ∙ fault_same e.state e o refl rests.state f.0))
@@ -185,7 +191,8 @@ module _ (d : Cube) (t : Tree) (k : ℕ) where
   some_rests more None live r = absurd (live refl)
   some_rests more (Some e) live r = (e, refl, r)
 
-  goes_rests : (x more : ℕ) (a : Aim) (r : Response) (w v : World) (e : Cube) (ts : List Told) → w.cube x ≡ Some e → RestsAs d t k more e → v.cube x ≢ None → Goes w a r v → NoneMounted (told_at x a r ts) → RestsOn x more a r v ts
+  goes_rests : (x more : ℕ) (a : Aim) (r : Response) (w v : World) (e : Cube) (ts : List Told) → w.cube x ≡ Some e → RestsAs d t k more e
+      → v.cube x ≢ None → Goes w a r v → NoneMounted (told_at x a r ts) → RestsOn x more a r v ts
   goes_rests x more (Refuse why) r w v e ts there rests live g none =
       record { cube = e; there = ap (λ (y : World). y.cube x) g.1 ∙ there; plus = 0; rests = rested more e rests; none = none; sum = omega arith }
   goes_rests x more Listing r w v e ts there rests live g none =
@@ -196,8 +203,10 @@ module _ (d : Cube) (t : Tree) (k : ℕ) where
         let back : nat_eq x y ≡ true = grind arith in
         let own : Own (Some e) o r g.0 = subst (λ c. Own c o r g.0) there (subst (λ z. Own (w.cube z) o r g.0) same g.1) in
         let is : v.cube x ≡ g.0 = ap (λ (z : World). z.cube x) g.2 ∙ ap (λ b. if b then g.0 else w.cube x) back in
-        let said : NoneMounted (if true then record { order = o; reply = r } ∷ ts else ts) = subst (λ b. NoneMounted (if b then record { order = o; reply = r } ∷ ts else ts)) hit none in
-        let next = some_rests (added_by o r + more) (v.cube x) live (subst (Rests d t k (added_by o r + more)) (sym is) (own_keeps more e o r g.0 rests said.0 own)) in
+        let said : NoneMounted (if true then record { order = o; reply = r } ∷ ts else ts) =
+        subst (λ b. NoneMounted (if b then record { order = o; reply = r } ∷ ts else ts)) hit none in
+        let next =
+        some_rests (added_by o r + more) (v.cube x) live (subst (Rests d t k (added_by o r + more)) (sym is) (own_keeps more e o r g.0 rests said.0 own)) in
         record { cube = next.0; there = next.1; plus = added_by o r; rests = next.2; none = said.1; sum = ap (λ b. added (if b then record { order = o; reply = r } ∷ ts else ts)) hit }
     | inr other ↦
         let miss : nat_eq y x ≡ false = grind arith in
@@ -224,15 +233,18 @@ module _ (d : Cube) (t : Tree) (k : ℕ) where
   rests_more : (m n : ℕ) (e : Cube) → m ≡ n → RestsAs d t k m e → RestsAs d t k n e
   rests_more m n e is r = subst (λ j. RestsAs d t k j e) is r
 
-  run_rests : (x more : ℕ) (w : World) (steps : List Answered) (e : Cube) → w.cube x ≡ Some e → RestsAs d t k more e → Runs w steps → LivesOn x w steps → NoneMounted (told x w steps) → RestsAt x (added (told x w steps) + more) (end w steps)
+  run_rests : (x more : ℕ) (w : World) (steps : List Answered) (e : Cube) → w.cube x ≡ Some e → RestsAs d t k more e → Runs w steps
+      → LivesOn x w steps → NoneMounted (told x w steps) → RestsAt x (added (told x w steps) + more) (end w steps)
   run_rests x more w [] e there rests runs lives none = record { cube = e; there = there; rests = rested more e rests }
   run_rests x more w (a ∷ rest) e there rests runs lives none =
       let ts = told x a.then rest in
       let live = lives_now x a.then rest lives.1 in
       let here = live_told (a.then.cube x) ts live in
-      let step = goes_rests x more (aim w a.line) a.reply w a.then e ts there rests live runs.0 (subst (λ (us : List Told). NoneMounted (told_at x (aim w a.line) a.reply us)) here none) in
+      let step =
+      goes_rests x more (aim w a.line) a.reply w a.then e ts there rests live runs.0 (subst (λ (us : List Told). NoneMounted (told_at x (aim w a.line) a.reply us)) here none) in
       let end = run_rests x (step.plus + more) a.then rest step.cube step.there step.rests runs.1 lives.1 step.none in
-      let sum : added (told x w (a ∷ rest)) ≡ step.plus + added ts = ap (λ (us : List Told). added (told_at x (aim w a.line) a.reply us)) here ∙ step.sum in
+      let sum : added (told x w (a ∷ rest)) ≡ step.plus + added ts =
+      ap (λ (us : List Told). added (told_at x (aim w a.line) a.reply us)) here ∙ step.sum in
       record { cube = end.cube; there = end.there; rests = rests_more (added ts + (step.plus + more)) (added (told x w (a ∷ rest)) + more) end.cube (omega (arith, sum)) end.rests }
 
   runs_first : (w : World) (before rest : List Answered) → Runs w (before ++ rest) → Runs w before
@@ -243,7 +255,8 @@ module _ (d : Cube) (t : Tree) (k : ℕ) where
   runs_last w [] rest runs = runs
   runs_last w (a ∷ before) rest runs = runs_last a.then before rest runs.1
 
-  mounts_as : (x more : ℕ) (e : Cube) (a : Answered) (rest : List Answered) → RestsAs d t k more e → a.reply ≡ Ok (Number (floor (fresh t k) + 0)) → a.then.cube x ≡ Some (with_state Mounted (with_history (cut_to (fresh t k) 0) e)) → Runs a.then rest → MountsAs x k t d more a rest
+  mounts_as : (x more : ℕ) (e : Cube) (a : Answered) (rest : List Answered) → RestsAs d t k more e → a.reply ≡ Ok (Number (floor (fresh t k) + 0))
+      → a.then.cube x ≡ Some (with_state Mounted (with_history (cut_to (fresh t k) 0) e)) → Runs a.then rest → MountsAs x k t d more a rest
   mounts_as x more e a rest rests says there runs =
       let m = with_state Mounted (with_history (cut_to (fresh t k) 0) e) in
       let count : k + 0 + 0 ≡ k = omega arith in
@@ -255,7 +268,8 @@ module _ (d : Cube) (t : Tree) (k : ℕ) where
         alone = λ clean. run_said x a.then rest (subst IsSteady (sym there) (fresh t k, refl, tt)) runs clean ∙ ap (λ c. said c (orders_of (told x a.then rest))) there;
       }
 
-  mount_says : (x more : ℕ) (v : World) (e : Cube) (a : Answered) (rest : List Answered) → v.cube x ≡ Some e → RestsAs d t k more e → Goes v (At x Mount) a.reply a.then → IsClean a.reply → Runs a.then rest
+  mount_says : (x more : ℕ) (v : World) (e : Cube) (a : Answered) (rest : List Answered) → v.cube x ≡ Some e → RestsAs d t k more e
+      → Goes v (At x Mount) a.reply a.then → IsClean a.reply → Runs a.then rest
       → (IsOff (v.cube x) × (a.reply ≡ Err (Because why.Offline))) ⊎ MountsAs x k t d more a rest
   mount_says x more v e a rest there rests g clean runs =
       let p = plainly (Some e) Mount a.reply g.0 clean (subst (λ c. Own c Mount a.reply g.0) there g.1) in
@@ -265,6 +279,7 @@ module _ (d : Cube) (t : Tree) (k : ℕ) where
       (λ o. let says = subst (λ w. Says w (Some e) a.reply g.0) o.1 p.2 in inl (subst IsOff (sym there) o.0, says.0))
       (mounting more e p.0 rests p.1)
 
+  -- so it serves
   pub serves : (x : ℕ) (u : World) (steps : List Answered) → u.cube x ≡ Some d → RestsAs d t k 0 d → Runs u steps → Serves x k t d u steps
   serves x u steps there rests runs = record {
     mounts = λ before rest a is lives none aims clean.

@@ -55,7 +55,8 @@ row_says slots m s r is = by (nat_lt s slots) is
     by false is = absurd (cc is)
 
 -- the paths of the rows differ
-rows_differ : (i : Image) (t : Tables) (s r : ℕ) (a b : Row) → HasTables i t → s < r → r < t.slots → t.row s ≡ Some a → t.row r ≡ Some b → a.path ≢ b.path
+rows_differ : (i : Image) (t : Tables) (s r : ℕ) (a b : Row) → HasTables i t → s < r → r < t.slots → t.row s ≡ Some a → t.row r ≡ Some b
+    → a.path ≢ b.path
 rows_differ i t s r a b h less low x y same =
     let slots = (super_of (block i 0)).slots in
     let one = row_says slots h.blocks s a (subst (λ (u : Tables). u.row s ≡ Some a) h.says x) in
@@ -75,7 +76,8 @@ row_shown t w s d shows is = row_of_entry _ (t.row s) (w.cube s) d (shows.entrie
 
 -- ---- the slot
 
-find_first : (test : ℕ → Bool) (a n x : ℕ) → a ≤ x → x < a + n → test x ≡ true → ((y : ℕ) → y < x → test y ≡ false) → find test (range_with_len a n) ≡ Some x
+find_first : (test : ℕ → Bool) (a n x : ℕ) → a ≤ x → x < a + n → test x ≡ true → ((y : ℕ) → y < x → test y ≡ false)
+    → find test (range_with_len a n) ≡ Some x
 find_first test a zero x low high hit miss = absurd (omega (arith, low, high))
 find_first test a (suc n) x low high hit miss = ⊎_elim
     (λ less. let no_hit = miss a less in ap (λ b. cond b (Some a) (find test (range_with_len (a + 1) n))) no_hit ∙ find_first test (a + 1) n x (omega (arith, less)) (omega (arith, high)) hit miss)
@@ -83,7 +85,8 @@ find_first test a (suc n) x low high hit miss = ⊎_elim
     (cases_lt a x)
 
 -- a cube's path leads to its slot
-pub slot_found : (i : Image) (t : Tables) (w : World) (x : ℕ) (d : Cube) → HasTables i t → ShowCubes t w → w.cube x ≡ Some d → slot_with_path w d.path ≡ Some x
+pub slot_found : (i : Image) (t : Tables) (w : World) (x : ℕ) (d : Cube) → HasTables i t → ShowCubes t w → w.cube x ≡ Some d
+    → slot_with_path w d.path ≡ Some x
 unfolding slot_with_path
 slot_found i t w x d has shows there =
     find_first (λ s. has_path d.path (w.cube s)) 0 w.slots x (omega arith) (let is = shows.slots in omega (arith, low, is)) (subst (λ c. has_path d.path c ≡ true) (sym there) (same_refl d.path))

@@ -11,7 +11,7 @@ use Rattle.ice_images.specs.Fitting.{Damages}
 use Rattle.ice_images.specs.Opening.{Opens}
 use Rattle.ice_run.specs.Clauses.{Starts}
 use Rattle.ice_run.specs.Clauses.{Ends}
-use Rattle.ice_run.specs.Crashes.{Reached, CrashLeaves, DamageLeaves}
+use Rattle.ice_run.specs.Crashes.{IsFront, Reached, CrashLeaves, DamageLeaves}
 use Rattle.ice_run.specs.Runs.{Answered, RunsFirst, reply_texts}
 use Rattle.ice_run.specs.Scripts.{script_lines}
 use Rattle.ice_headline.specs.Acknowledged.{acknowledged_from, Includes}
@@ -37,6 +37,7 @@ pub record Contains (w : World) (script : List Line) (out : List ℕ) (s : ℕ) 
   pub tail : List ℕ
   pub gives : out ≡ reply_texts steps ++ tail
   pub count : closings out ≡ length steps
+  pub front : IsFront w script steps tail
   pub world : World
   pub reached : Reached w script steps tail world
   pub includes : (x : ℕ) (c : Cube) (h : History) → world.cube x ≡ Some c → c.content ≡ Sound h → Includes x w steps h

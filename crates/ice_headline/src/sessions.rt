@@ -22,6 +22,7 @@ pub fn two_sessions<H: Host, G: Host>(
     requires { (image : List ℕ) × (request_of words.now ≡ Some (Runs image)) }
     ensures { After H.state H.left G.state G.left result.1 first.old first.new second.old second.new }
 {
+    // A law: an image that fits a world but for one cube opens one, with what is left of the others.
     fits_but_opens();
     let status = run(alloc, words, first);
     (status, run(alloc, words, second))
