@@ -1,12 +1,12 @@
 -- What is found of a sound cube in a world that the image opens: the tree and the count that the image records.
-use Rattle.std.proofs.Common.{◌≡◌, ◌≢◌, ◌∙◌, ◌≤◌, ℕ, ◌+◌, length, length-append, Option, None, Some, refl, sym, ap, subst, arith}
+use Rattle.std.proofs.Common.{◌≡◌, ◌≢◌, ◌∙◌, ◌≤◌, ℕ, ◌+◌, length, length-append, Option, Some, sym, ap, subst, arith}
 use Rattle.std.specs.Prelude.{unwrap_or}
 use Rattle.std.specs.Option.{option_map}
 use Rattle.ice_base.specs.Disk.{Image}
 use Rattle.ice_base.specs.Lots.{LotView}
 use Rattle.tree_spec.specs.Trees.{Tree}
 use Rattle.tree_spec.specs.Costs.{Form}
-use Rattle.tree_spec.specs.Records.{Cube, Content, Sound, History, fresh, floor, tree_at}
+use Rattle.tree_spec.specs.Records.{Cube, Sound, History, fresh, floor, tree_at}
 use Rattle.tree_spec.specs.World.{World, slot_with_path}
 use Rattle.ice_tables.specs.Tables.{Tables, HasTables}
 use Rattle.ice_tables.specs.Lots.{lot_of}

@@ -6,7 +6,6 @@ use Rattle.std.proofs.lemmas.List.{length-take-le}
 use Rattle.tree_spec.specs.Why.{Why}
 use Rattle.tree_spec.specs.Trees.{Tree, File, Dir, walk}
 use Rattle.tree_spec.specs.Replies.{Response}
-use Rattle.tree_spec.specs.Replies as value
 use Rattle.tree_spec.specs.Lines.{Line}
 use Rattle.tree_spec.specs.Operations.{Operation, Mkdir, Make, Write, Read, Trunc, Remove, Rename, ListDir, Stat, is_change}
 use Rattle.tree_spec.specs.Answers.{refusal, accepted_value, list_value, stat_value, tree_found, next_tree, tree_after}

@@ -1,5 +1,5 @@
 -- Commands that were acknowledged are among the first accepted ones.
-use Rattle.std.proofs.Common.{◌≡◌, ◌≢◌, ◌∙◌, ◌≤◌, ⊎_elim, ℕ, ◌+◌, ◌-◌, suc, true, nat_eq, List, [], ◌∷◌, ◌++◌, length, take, length-append, append_assoc, Option, None, Some, Ok, refl, sym, ap, subst, arith}
+use Rattle.std.proofs.Common.{◌≡◌, ◌≢◌, ◌∙◌, ◌≤◌, ⊎_elim, ℕ, ◌+◌, ◌-◌, true, nat_eq, List, [], ◌∷◌, ◌++◌, length, take, length-append, append_assoc, Option, None, Some, Ok, refl, sym, ap, subst, arith}
 use Rattle.std.specs.Prelude.{⊤, IsOk, if◌then◌else◌}
 use Rattle.tree_spec.specs.Why.{Why}
 use Rattle.tree_spec.specs.Replies.{Response, Number}

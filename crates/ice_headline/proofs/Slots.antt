@@ -4,7 +4,6 @@ use Rattle.std.specs.Prelude.{unwrap_or, IsSome, nat_lt, if◌then◌else◌}
 use Rattle.std.specs.List.{find, range_with_len}
 use Rattle.std.specs.Option.{option_map}
 use Rattle.std.proofs.lemmas.Bool.{cases_lt}
-use Rattle.std.proofs.lemmas.Bool.Decides.{nat_tests}
 use Rattle.ice_base.specs.Disk.{Image, block}
 use Rattle.tree_spec.specs.Routes.{is_same_path, is_prefix, is_same_name}
 use Rattle.tree_spec.specs.Records.{Cube}
@@ -14,7 +13,7 @@ use Rattle.ice_layout.specs.Supers.{super_of}
 use Rattle.ice_path.specs.Paths.{path_names}
 use Rattle.ice_tables.specs.Tables.{Tables, Row, HasTables, row_in, row_of, mark_at, text_at}
 use Rattle.ice_tables.proofs.TableLaws.{row_low}
-use Rattle.ice_images.specs.Fitting.{Entry, entry_at, cube_entry, ShowCubes}
+use Rattle.ice_images.specs.Fitting.{Entry, cube_entry, ShowCubes}
 
 -- ---- paths
 
