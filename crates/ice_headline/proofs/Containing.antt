@@ -18,7 +18,7 @@ use Rattle.ice_run.specs.Clauses.{Starts}
 use Rattle.ice_run.specs.Crashes as run
 use Rattle.ice_run.specs.Crashes.{Reached, LeftSo}
 use Rattle.ice_run.specs.Runs.{Answered, Runs, end}
-use Rattle.ice_headline.specs.Acknowledged.{acknowledged_from}
+use Rattle.ice_headline.specs.Acknowledged.{acknowledged_from, Includes}
 use Rattle.ice_headline.specs.Later.{Survives, IsFound, Serves, MountsAs, IsOff}
 use Rattle.ice_headline.specs.Headline.{Contains, Keeps, After}
 use Rattle.ice_headline.proofs.Acknowledged.{run_covers, zero_covers, sound_reached, step_reached}
@@ -79,27 +79,30 @@ first_mount x k t c d u a rest there found told serves is on clean = ⊎_elim
     (λ m. m)
     (serves.mounts [] rest a refl (some_there (u.cube x) d there) tt (ap (aim u) is ∙ told) clean)
 
-survives : (n x : ℕ) (c : Cube) (h : History) (i : Image) (u : World) → n ≤ floor h → FoundAt x c h i u → Survives x n c h i u
-survives n x c h i u low at =
+survives : (x : ℕ) (w : World) (steps : List Answered) (c : Cube) (h : History) (i : Image) (u : World) → acknowledged_from 0 x w steps ≤ floor h
+    → ((k : ℕ) → floor h ≤ k → Includes x w steps h k) → FoundAt x c h i u → Survives x w steps c h i u
+survives x w steps c h i u low all at =
     let k = floor h + at.more in
     let t = tree_at h at.more in
     let told : aim u (Asks (line.Mount c.path)) ≡ At x Mount = ap (λ o. to_cube o Mount) at.slot in
     let rests = rests_found c at.cube t k at.found in
     record {
+      tables = at.tables;
+      has = at.has;
+      row = at.row;
       count = k;
       tree = t;
       first = first_accepted h at.more at.few;
       floor = omega arith;
       covers = omega (arith, low);
-      tables = at.tables;
-      has = at.has;
+      includes = all k (omega arith);
       cube = at.cube;
       records = at.records;
       there = at.there;
       found = at.found;
       told = told;
       mounts = λ a rest runs is on clean. first_mount x k t c at.cube u a rest at.there at.found told (serves at.cube t k x u (a ∷ rest) at.there rests runs) is on clean;
-      serves = λ steps runs. serves at.cube t k x u steps at.there rests runs;
+      serves = λ later runs. serves at.cube t k x u later at.there rests runs;
     }
 
 -- an image that fits but for one cube opens a world, and each one that it opens has what is left of the others
@@ -119,9 +122,10 @@ module _ (law : ImagesReopen) where
     front = a.front;
     world = a.world;
     reached = a.reached;
-    includes = λ x c h there is. includes x w script a.steps a.tail a.world c h a.runs.runs a.reached there is;
     opens = let there = law.0 i a.world s a.holds in (there.0, there.1);
-    others = λ u o x other c h there is. survives (acknowledged_from 0 x w a.steps) x c h i u (floor_reached x w script a.steps a.tail a.world c h a.runs.runs a.reached there is)
+    others = λ u o x other c h there is. survives x w a.steps c h i u
+        (floor_reached x w script a.steps a.tail a.world c h a.runs.runs a.reached there is)
+        (includes x w script a.steps a.tail a.world c h a.runs.runs a.reached there is)
         (found_at s a.world u i x c h (law.1 i a.world u s a.holds o) o other there is);
   }
 

@@ -1,17 +1,18 @@
 -- What is found of a sound cube in a world that the image opens: the tree and the count that the image records.
-use Rattle.std.proofs.Common.{◌≡◌, ◌≢◌, ◌∙◌, ◌≤◌, ℕ, ◌+◌, length, length-append, Option, Some, sym, ap, subst, arith}
+use Rattle.std.proofs.Common.{◌≡◌, ◌≢◌, ◌∙◌, ◌≤◌, ℕ, ◌+◌, ◌-◌, List, ◌++◌, length, take, Option, Some, sym, ap, subst, arith}
 use Rattle.std.specs.Prelude.{unwrap_or}
 use Rattle.std.specs.Option.{option_map}
 use Rattle.ice_base.specs.Disk.{Image}
 use Rattle.ice_base.specs.Lots.{LotView}
 use Rattle.tree_spec.specs.Trees.{Tree}
 use Rattle.tree_spec.specs.Costs.{Form}
+use Rattle.tree_spec.specs.Answers.{tree_after}
 use Rattle.tree_spec.specs.Records.{Cube, Sound, History, fresh, floor, tree_at}
 use Rattle.tree_spec.specs.World.{World, slot_with_path}
 use Rattle.ice_tables.specs.Tables.{Tables, HasTables}
 use Rattle.ice_tables.specs.Lots.{lot_of}
 use Rattle.ice_images.specs.Recovering.{Recovers}
-use Rattle.ice_images.specs.Fitting.{Entry, cube_entry}
+use Rattle.ice_images.specs.Fitting.{Entry, entry_at, cube_entry}
 use Rattle.ice_images.specs.Opening.{OpensContent, OpensCube, Opens}
 use Rattle.ice_images.specs.Reopening.{Reopened, CubeReopens, ContentReopens, ReopensBut}
 use Rattle.ice_headline.specs.Later.{FirstAccepted, IsFound}
@@ -21,13 +22,14 @@ use Rattle.ice_headline.proofs.Slots.{slot_found}
 -- the first accepted commands of a count from the floor on
 pub first_accepted : (h : History) (j : ℕ) → j ≤ length h.since → FirstAccepted h (floor h + j) (tree_at h j)
 first_accepted h j few =
-    let long = length-append h.sure h.since in
-    record { some = length h.sure + j; count = omega arith; few = omega (arith, few, long); tree = tree_first h j }
+    let far : length h.sure + j ≡ floor h + j - h.from = omega arith in
+    record { base = omega arith; few = omega (arith, few); tree = tree_first h j ∙ ap (λ n. tree_after (take n (h.sure ++ h.since)) h.base) far }
 
 -- a sound cube, in a world that the image opens
 pub record FoundAt (x : ℕ) (c : Cube) (h : History) (i : Image) (u : World) : Type 0 where
   pub tables : Tables
   pub has : HasTables i tables
+  pub row : entry_at tables x ≡ Some (cube_entry c)
   pub more : ℕ
   pub few : more ≤ length h.since
   pub cube : Cube
@@ -67,6 +69,7 @@ found_at s v u i x c h reopens opens other there is =
     record {
       tables = opens.tables;
       has = opens.has;
+      row = opens.shows.entries x ∙ ap (option_map cube_entry) d.1 ∙ ap (λ e. Some e) entry;
       more = d.2.taken;
       few = d.2.few;
       cube = d.0;

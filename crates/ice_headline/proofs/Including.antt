@@ -19,15 +19,14 @@ begins : (g h : History) (k : ℕ) → Extends g h → floor h ≤ k → BeginsW
 begins g h k on low =
     let long : length h.sure ≡ length g.sure + length on.more = ap (λ (xs : List Operation). length xs) on.sure ∙ length-append g.sure on.more in
     let same : h.from ≡ g.from = on.from in
+    let j = k - h.from - length g.sure in
+    let far : k - h.from ≡ length g.sure + j = omega (arith, low, long) in
+    let all : h.sure ++ h.since ≡ g.sure ++ (on.more ++ h.since) = ap (λ (xs : List Operation). xs ++ h.since) on.sure ∙ append_assoc g.sure on.more h.since in
     record {
       on = on;
       count = omega (arith, low, long, same);
-      first = λ some is.
-          let j = some - length g.sure in
-          let all : h.sure ++ h.since ≡ g.sure ++ (on.more ++ h.since) =
-          ap (λ (xs : List Operation). xs ++ h.since) on.sure ∙ append_assoc g.sure on.more h.since in
-          let far : some ≡ length g.sure + j = omega (arith, low, long, same, is) in
-          (take j (on.more ++ h.since), ap (λ n. take n (h.sure ++ h.since)) far ∙ ap (λ (xs : List Operation). take (length g.sure + j) xs) all ∙ take_more g.sure (on.more ++ h.since) j);
+      more = take j (on.more ++ h.since);
+      first = ap (λ n. take n (h.sure ++ h.since)) far ∙ ap (λ (xs : List Operation). take (length g.sure + j) xs) all ∙ take_more g.sure (on.more ++ h.since) j;
     }
 
 -- an Ok settles a sound cube
@@ -116,8 +115,8 @@ sound_on g d c h on there is =
 
 -- what an Ok of `sync` or `unmount` acknowledged is among the first accepted commands of the world that was reached
 pub includes : (x : ℕ) (w : World) (script : List Line) (steps : List Answered) (tail : List ℕ) (v : World) (c : Cube) (h : History) → Runs w steps
-    → Reached w script steps tail v → v.cube x ≡ Some c → c.content ≡ Sound h → Includes x w steps h
-includes x w script steps tail v c h runs reached there is = λ before rest a split lives settling ok.
+    → Reached w script steps tail v → v.cube x ≡ Some c → c.content ≡ Sound h → (k : ℕ) → floor h ≤ k → Includes x w steps h k
+includes x w script steps tail v c h runs reached there is k low = λ before rest a split lives settling ok.
     let last = runs_last w before (a ∷ rest) (subst (Runs w) split runs) in
     let moment = line_settled x (end w before) a settling last.0 ok in
     let here : OnFrom moment.history 0 (a.then.cube x) =
@@ -128,4 +127,4 @@ includes x w script steps tail v c h runs reached there is = λ before rest a sp
     let live : (end w steps).cube x ≢ None = subst (λ (y : World). y.cube x ≢ None) (sym same) (lives_last x a.then rest lives) in
     let found : OnFrom moment.history 0 (v.cube x) = ⊎_elim (λ e. subst (λ (y : World). OnFrom moment.history 0 (y.cube x)) (sym e) on)
     (λ p. step_goes_on x moment.history (end w steps) v p.1.line p.0 live on p.1.step) reached in
-    (moment, λ k low. begins moment.history h k (sound_on moment.history (v.cube x) c h found there is) low)
+    (moment, begins moment.history h k (sound_on moment.history (v.cube x) c h found there is) low)

@@ -7,3 +7,4 @@ mod Saying
 mod Resting
 mod Ending
 mod Containing
+mod Rows

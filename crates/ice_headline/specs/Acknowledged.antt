@@ -1,5 +1,5 @@
 -- What the cube of a slot acknowledged in a run, and what of it the cube's history has from there on.
-use Rattle.std.specs.Prelude.{◌≡◌, ◌≢◌, ◌⊎◌, ◌≤◌, ℕ, ◌+◌, nat_eq, max, if◌then◌else◌, List, [], ◌∷◌, ◌++◌, take, Option, None, Some, Ok, IsOk}
+use Rattle.std.specs.Prelude.{◌≡◌, ◌≢◌, ◌⊎◌, ◌≤◌, ℕ, ◌-◌, nat_eq, max, if◌then◌else◌, List, [], ◌∷◌, ◌++◌, take, Option, None, Some, Ok, IsOk}
 use Rattle.tree_spec.specs.Replies.{Response, Number}
 use Rattle.tree_spec.specs.Operations.{Operation}
 use Rattle.tree_spec.specs.Records.{Cube, Sound, History, floor}
@@ -49,19 +49,24 @@ pub record Acknowledges (x : ℕ) (a : Answered) : Type 0 where
   pub all : history.since ≡ []
   pub reply : a.reply ≡ Ok (Number (floor history))
 
+-- the first k accepted commands, but for those that the base has
+abbrev pub first_commands : History → ℕ → List Operation
+first_commands h k = take (k - h.from) (h.sure ++ h.since)
+
 -- the first k accepted commands begin with those that were sure in the history g
 pub record BeginsWith (h : History) (k : ℕ) (g : History) : Type 0 where
   pub on : Extends g h
   pub count : floor g ≤ k
-  pub first : (some : ℕ) → k ≡ h.from + some → (more : List Operation) × (take some (h.sure ++ h.since) ≡ g.sure ++ more)
+  pub more : List Operation
+  pub first : first_commands h k ≡ g.sure ++ more
 
 -- a line that acknowledges all that the slot's cube accepted
 abbrev pub IsSettling : ℕ → Aim → Type 0
 IsSettling x a = (a ≡ At x Sync) ⊎ (a ≡ At x Unmount)
 
--- The commands that an Ok of `sync` or `unmount` acknowledged, after which the cube lived on: they are among the first accepted ones
--- of its history at the end, for each count that is not below the floor.
-abbrev pub Includes : ℕ → World → List Answered → History → Type 0
-Includes x w steps h = (before rest : List Answered) (a : Answered) → steps ≡ before ++ a ∷ rest → LivesOn x a.then rest
+-- Whatever an Ok of `sync` or `unmount` acknowledged, where the cube lived on from there: it is in the first k accepted commands of the
+-- history, and comes first.
+abbrev pub Includes : ℕ → World → List Answered → History → ℕ → Type 0
+Includes x w steps h k = (before rest : List Answered) (a : Answered) → steps ≡ before ++ a ∷ rest → LivesOn x a.then rest
     → IsSettling x (aim (end w before) a.line) → IsOk a.reply
-    → (moment : Acknowledges x a) × ((k : ℕ) → floor h ≤ k → BeginsWith h k moment.history)
+    → (moment : Acknowledges x a) × BeginsWith h k moment.history

@@ -14,7 +14,6 @@ use Rattle.ice_run.specs.Clauses.{Ends}
 use Rattle.ice_run.specs.Crashes.{IsFront, Reached, CrashLeaves, DamageLeaves}
 use Rattle.ice_run.specs.Runs.{Answered, RunsFirst, reply_texts}
 use Rattle.ice_run.specs.Scripts.{script_lines}
-use Rattle.ice_headline.specs.Acknowledged.{acknowledged_from, Includes}
 use Rattle.ice_headline.specs.Later.{Survives}
 
 -- nothing was damaged, or the lot of one cube was
@@ -40,10 +39,9 @@ pub record Contains (w : World) (script : List Line) (out : List ℕ) (s : ℕ) 
   pub front : IsFront w script steps tail
   pub world : World
   pub reached : Reached w script steps tail world
-  pub includes : (x : ℕ) (c : Cube) (h : History) → world.cube x ≡ Some c → c.content ≡ Sound h → Includes x w steps h
   pub opens : (u : World) × Opens image u
   pub others : (u : World) → Opens image u → (x : ℕ) → x ≢ s → (c : Cube) (h : History) → world.cube x ≡ Some c → c.content ≡ Sound h
-      → Survives x (acknowledged_from 0 x w steps) c h image u
+      → Survives x w steps c h image u
 
 -- Two sessions, of which the second begins with what a crash in the first and damage to one cube then left: whatever crash and damage
 -- that was, what they left contains the damage, and the second session keeps its promises from every world that the image opens.

@@ -1,5 +1,5 @@
 -- What a later session finds of a cube, and how the cube serves from there on.
-use Rattle.std.specs.Prelude.{◌≡◌, ◌⊎◌, ◌≤◌, ℕ, ◌+◌, ⊤, false, List, [], ◌∷◌, ◌++◌, length, take, Option, None, Some, Ok, Err, IsOk}
+use Rattle.std.specs.Prelude.{◌≡◌, ◌⊎◌, ◌≤◌, ℕ, ◌+◌, ⊤, false, List, [], ◌∷◌, ◌++◌, Option, None, Some, Ok, Err, IsOk}
 use Rattle.ice_base.specs.Disk.{Image}
 use Rattle.tree_spec.specs.Why as why
 use Rattle.tree_spec.specs.Trees.{Tree}
@@ -7,7 +7,7 @@ use Rattle.tree_spec.specs.Lines.{Asks}
 use Rattle.tree_spec.specs.Lines as line
 use Rattle.tree_spec.specs.Replies.{Response, Because, Number}
 use Rattle.tree_spec.specs.Answers.{tree_after}
-use Rattle.tree_spec.specs.Records.{Cube, Sound, History, floor, fresh, is_offline}
+use Rattle.tree_spec.specs.Records.{Cube, Sound, History, floor, done, fresh, is_offline}
 use Rattle.tree_spec.specs.Own.{Order, Mount, Grow}
 use Rattle.tree_spec.specs.Alone.{IsClean}
 use Rattle.tree_spec.specs.World.{World, At, aim}
@@ -15,10 +15,11 @@ use Rattle.tree_spec.specs.declared.reply.StateWord.TheVariants.{Mounted, Offlin
 use Rattle.ice_tables.specs.Tables.{Tables, HasTables}
 use Rattle.ice_tables.specs.Lots.{lot_of}
 use Rattle.ice_images.specs.Recovering.{Recovers}
+use Rattle.ice_images.specs.Fitting.{entry_at, cube_entry}
 use Rattle.ice_images.specs.Opening.{closed_state}
 use Rattle.ice_run.specs.Runs.{Answered, Runs, end}
 use Rattle.ice_run.specs.Alone.{Told, told, AllClean, orders_of, replies_of, said}
-use Rattle.ice_headline.specs.Acknowledged.{LivesOn}
+use Rattle.ice_headline.specs.Acknowledged.{LivesOn, acknowledged_from, first_commands, Includes}
 
 -- ---- mounts
 
@@ -49,12 +50,11 @@ IsOff (Some c) = c.state ≡ Offline
 
 -- ---- what is found
 
--- the tree after the first k commands that were accepted since the base, which counts for the first ones
+-- the tree after the first k accepted commands, of which the base has the first ones
 pub record FirstAccepted (h : History) (k : ℕ) (t : Tree) : Type 0 where
-  pub some : ℕ
-  pub count : k ≡ h.from + some
-  pub few : some ≤ length (h.sure ++ h.since)
-  pub tree : t ≡ tree_after (take some (h.sure ++ h.since)) h.base
+  pub base : h.from ≤ k
+  pub few : k ≤ done h
+  pub tree : t ≡ tree_after (first_commands h k) h.base
 
 -- the record of a cube that a session finds unmounted, with this tree and count
 pub record IsFound (c : Cube) (t : Tree) (k : ℕ) (d : Cube) : Type 0 where
@@ -91,16 +91,19 @@ pub record Serves (x k : ℕ) (t : Tree) (d : Cube) (u : World) (steps : List An
       → aim (end u before) a.line ≡ At x Mount → IsClean a.reply
       → (IsOff ((end u before).cube x) × (a.reply ≡ Err (Because why.Offline))) ⊎ MountsAs x k t d (added (told x u before)) a rest
 
--- A sound cube after a crash and damage to another one: the image records a count, not below what was acknowledged, and the tree after
--- so many of its first accepted commands. A later session finds it so, and it serves from there on.
-pub record Survives (x acknowledged : ℕ) (c : Cube) (h : History) (image : Image) (u : World) : Type 0 where
+-- A sound cube after a crash and damage to another one. Its row stands in the image. The image records a count, which includes what was
+-- acknowledged in the lines that were answered, and the tree after so many of the cube's first accepted commands. A later session finds it
+-- so in the world that the image opens, and it serves from there on.
+pub record Survives (x : ℕ) (w : World) (steps : List Answered) (c : Cube) (h : History) (image : Image) (u : World) : Type 0 where
+  pub tables : Tables
+  pub has : HasTables image tables
+  pub row : entry_at tables x ≡ Some (cube_entry c)
   pub count : ℕ
   pub tree : Tree
   pub first : FirstAccepted h count tree
   pub floor : floor h ≤ count
-  pub covers : acknowledged ≤ count
-  pub tables : Tables
-  pub has : HasTables image tables
+  pub covers : acknowledged_from 0 x w steps ≤ count
+  pub includes : Includes x w steps h count
   pub cube : Cube
   pub records : Recovers (lot_of tables x) image c.form cube.mode tree count
   pub there : u.cube x ≡ Some cube

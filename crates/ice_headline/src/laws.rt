@@ -11,14 +11,18 @@ ghost use Rattle.ice_images.specs.Fitting.{Fits};
 ghost use Rattle.ice_run.specs.Clauses.{finished};
 ghost use Rattle.ice_run.specs.Crashes.{Reached};
 ghost use Rattle.ice_run.specs.Runs.{Answered, Runs};
-ghost use Rattle.ice_headline.specs.Acknowledged.{acknowledged_from};
+ghost use Rattle.ice_headline.specs.Acknowledged.{acknowledged_from, Includes};
 
 use tree_spec::StateWord;
 
 /// What the cube of a slot acknowledged in the lines that were answered its floor has reached, after them and after the line in work.
+/// And the commands that were acknowledged come first, in their order, among its first k accepted ones for each k from the floor on.
 pub fn acknowledged_is_kept()
-    ensures { (x : ℕ) (w : World) (script : List Line) (steps : List Answered) (tail : List ℕ) (v : World) (c : Cube) (h : History)
+    ensures count { (x : ℕ) (w : World) (script : List Line) (steps : List Answered) (tail : List ℕ) (v : World) (c : Cube) (h : History)
         → Runs w steps → Reached w script steps tail v → v.cube x ≡ Some c → c.content ≡ Sound h → acknowledged_from 0 x w steps ≤ floor h }
+    ensures commands { (x : ℕ) (w : World) (script : List Line) (steps : List Answered) (tail : List ℕ) (v : World) (c : Cube) (h : History)
+        → Runs w steps → Reached w script steps tail v → v.cube x ≡ Some c → c.content ≡ Sound h
+        → (k : ℕ) → floor h ≤ k → Includes x w steps h k }
 {}
 
 /// After a session whose end was good each cube that was mounted recovers all that it accepted, in every image that fits its end.
