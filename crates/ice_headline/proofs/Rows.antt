@@ -6,12 +6,11 @@ use Rattle.tree_spec.specs.Trees.{Dir, Nil}
 use Rattle.tree_spec.specs.Lines.{Request, Asks}
 use Rattle.tree_spec.specs.Lines as line
 use Rattle.tree_spec.specs.Replies.{Response, Because, Number, Plain}
-use Rattle.tree_spec.specs.Operations.{Operation, Mkdir, Make}
-use Rattle.tree_spec.specs.Own.{Order, Grow, Sync}
+use Rattle.tree_spec.specs.Operations.{Mkdir, Make}
+use Rattle.tree_spec.specs.Own.{Grow, Sync}
 use Rattle.tree_spec.specs.Records.{History, new_cube}
 use Rattle.tree_spec.specs.World.{World, with_slot, slot_with_path, free_slot, free_groups}
 use Rattle.ice_run.specs.Runs.{Answered}
-use Rattle.ice_run.specs.Alone.{Told}
 use Rattle.ice_headline.specs.Acknowledged.{acknowledged_from, first_commands}
 use Rattle.ice_headline.specs.Later.{added}
 
