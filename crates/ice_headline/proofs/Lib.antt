@@ -1,0 +1,10 @@
+mod Histories
+mod Acknowledged
+mod Including
+mod Slots
+mod Finding
+mod Saying
+mod Resting
+mod Ending
+mod Containing
+mod Rows
