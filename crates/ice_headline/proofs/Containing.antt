@@ -14,7 +14,7 @@ use Rattle.tree_spec.specs.declared.reply.StateWord.TheVariants.{Offline}
 use Rattle.ice_images.specs.Fitting.{Fits, FitsBut}
 use Rattle.ice_images.specs.Opening.{Opens, closed_state}
 use Rattle.ice_images.specs.Reopening.{ReopensBut}
-use Rattle.ice_run.specs.Clauses.{Starts}
+use Rattle.ice_volume.specs.Sessions.{Starts}
 use Rattle.ice_run.specs.Crashes as run
 use Rattle.ice_run.specs.Crashes.{Reached, LeftSo}
 use Rattle.ice_run.specs.Runs.{Answered, Runs, end}

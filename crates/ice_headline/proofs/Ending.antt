@@ -9,7 +9,7 @@ use Rattle.ice_tables.specs.Tables.{Tables, HasTables}
 use Rattle.ice_tables.specs.Lots.{lot_of}
 use Rattle.ice_images.specs.Recovering.{Recovers}
 use Rattle.ice_images.specs.Fitting.{HasContent, Has, Fits}
-use Rattle.ice_run.specs.Clauses.{put_away, finished}
+use Rattle.ice_volume.specs.Sessions.{put_away, finished}
 use Rattle.ice_headline.proofs.Histories.{floor_settled, tree_after-append}
 
 -- an image that fits the end of a session recovers all that a mounted cube accepted

@@ -9,7 +9,7 @@ use Rattle.tree_spec.specs.World.{World}
 use Rattle.ice_text.specs.Text.{closings}
 use Rattle.ice_images.specs.Fitting.{Damages}
 use Rattle.ice_images.specs.Opening.{Opens}
-use Rattle.ice_run.specs.Clauses.{Starts}
+use Rattle.ice_volume.specs.Sessions.{Starts}
 use Rattle.ice_run.specs.Clauses.{Ends}
 use Rattle.ice_run.specs.Crashes.{IsFront, Reached, CrashLeaves, DamageLeaves}
 use Rattle.ice_run.specs.Runs.{Answered, RunsFirst, reply_texts}

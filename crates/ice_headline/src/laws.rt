@@ -8,7 +8,7 @@ ghost use Rattle.ice_tables.specs.Tables.{Tables, HasTables};
 ghost use Rattle.ice_tables.specs.Lots.{lot_of};
 ghost use Rattle.ice_images.specs.Recovering.{Recovers};
 ghost use Rattle.ice_images.specs.Fitting.{Fits};
-ghost use Rattle.ice_run.specs.Clauses.{finished};
+ghost use Rattle.ice_volume.specs.Sessions.{finished};
 ghost use Rattle.ice_run.specs.Crashes.{Reached};
 ghost use Rattle.ice_run.specs.Runs.{Answered, Runs};
 ghost use Rattle.ice_headline.specs.Acknowledged.{acknowledged_from, Includes};
