@@ -1,11 +1,9 @@
 -- What the calls of a tree promise, as words over the keep of a cube.
-use Rattle.std.proofs.Common.{◌≡◌, ◌∙◌, inl, inr, ◌≤◌, ℕ, Bool, true, false, nat_eq, nat_le, List, [], ◌∷◌, Option, Some, Result, Ok, Err, IfErr, refl, sym, ap, subst, arith}
-use Rattle.std.specs.Prelude.{⊤}
+use Rattle.std.proofs.Common.{◌≡◌, ◌∙◌, inl, inr, ◌≤◌, ℕ, true, false, nat_eq, nat_le, List, [], ◌∷◌, Option, Some, Result, Ok, Err, IfErr, sym, subst, arith}
 use Rattle.std.specs.List.{list_all, list_any}
 use Rattle.std.proofs.lemmas.Bool.{cases_Bool}
 use Rattle.std.proofs.lemmas.Bool.Decides.{nat_tests}
 use Rattle.tree_spec.specs.Operations.{Operation}
-use Rattle.tree_spec.specs.Replies.{refusal_number}
 use Rattle.tree_spec.specs.declared.reply.Refusal.{Refusal}
 use Rattle.tree_spec.specs.declared.reply.Refusal.TheVariants as code
 use Rattle.ice_look.specs.Outcomes.{IsOneOf}
@@ -27,12 +25,12 @@ any_few : (xs : List ℕ) (n : ℕ) → list_all (λ x. nat_le x 14) xs ≡ true
 any_few [] n all any = absurd (cc any)
 any_few (x ∷ xs) n all any = elim (cases_Bool (nat_le x 14)) [
   | inl low ↦ elim (cases_Bool (nat_eq n x)) [
-      | inl is ↦ grind (arith, nat_tests, low, is)
-      | inr isnt ↦
-          let all' : list_all (λ y. nat_le y 14) xs ≡ true = rw low at all in
-          let any' : list_any (nat_eq n) xs ≡ true = rw isnt at any in
-          any_few xs n all' any'
-    ]
+    | inl is ↦ grind (arith, nat_tests, low, is)
+    | inr isnt ↦
+        let all' : list_all (λ y. nat_le y 14) xs ≡ true = rw low at all in
+        let any' : list_any (nat_eq n) xs ≡ true = rw isnt at any in
+        any_few xs n all' any'
+  ]
   | inr high ↦ absurd (let never : false ≡ true = rw high at all in cc never)
 ]
 

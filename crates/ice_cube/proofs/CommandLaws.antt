@@ -1,12 +1,11 @@
 -- What a command makes of what a mounted cube holds, and how its answer is the record's.
 use Rattle.std.proofs.Common.{◌≡◌, ◌∙◌, ◌⊎◌, inl, inr, ◌≤◌, ◌<◌, ◌+◌, ◌-◌, ◌++◌, ℕ, ◌∷◌, Bool, true, false, not, nat_lt, List, [], length, take, slice_index, length-append, Option, Some, None, Result, Ok, Err, OnErr, OnOk, IfErr, IsErrOf, refl, sym, ap, subst, arith}
-use Rattle.std.specs.Prelude.{if◌then◌else◌, ◌&&◌, ◌||◌, ◌^◌, ◌==◌, min, cond, ⊤}
+use Rattle.std.specs.Prelude.{if◌then◌else◌, ◌||◌, ◌^◌, ◌==◌, min, cond}
 use Rattle.std.proofs.lemmas.Bool.{cases_Bool}
 use Rattle.std.proofs.lemmas.Bool.Decides.{nat_tests}
-use Rattle.std.specs.List.{list_any, find}
 use Rattle.std.proofs.Math.Seq.{take-length}
 use Rattle.std.proofs.lemmas.List.{take-append-le}
-use Rattle.ice_base.specs.Disk.{Image, DiskState, Nowhere, Rose}
+use Rattle.ice_base.specs.Disk.{Image, DiskState, Nowhere}
 use Rattle.ice_base.specs.Fields.{long_at, word_at}
 use Rattle.ice_base.specs.Frames.{CrashStep, Every, Sure, Within}
 use Rattle.ice_base.specs.Lots.{LotView, extent, sub_address}
@@ -14,15 +13,15 @@ use Rattle.ice_base.proofs.Frame.{every_apart, step_apart, step_then}
 use Rattle.ice_base.proofs.Kept.{kept_within, sure_kept}
 use Rattle.ice_base.specs.declared.fault.Rule.{Rule}
 use Rattle.ice_base.specs.declared.fault.Rule.TheVariants as rule
-use Rattle.tree_spec.specs.Answers.{answer, answer_by, applies, has_deep_path, has_long_name, moves_too_deep, next_tree, of_paths, refusal, tree_after}
+use Rattle.tree_spec.specs.Answers.{answer, answer_by, has_deep_path, has_long_name, moves_too_deep, next_tree, refusal, tree_after}
 use Rattle.tree_spec.specs.Costs.{Form, blocks, form_of, form_one, nodes}
 use Rattle.tree_spec.specs.Held.{RoomContent}
 use Rattle.tree_spec.specs.Lines.{Request, Mkdir, Make, Write, Read, Trunc, Remove, Rename, ListDir, Stat}
 use Rattle.tree_spec.specs.Operations.{Operation, below, operation, is_change, paths}
 use Rattle.tree_spec.specs.Operations as op
-use Rattle.tree_spec.specs.Own.{OnTree, Check, CheckFinds, on_check, IfMounted, OfSound, Own, Says, Verdict, No, on_tree, tree_verdict}
+use Rattle.tree_spec.specs.Own.{OnTree, Check, CheckFinds, on_check, IfMounted, OfSound, Own, Says, No, on_tree, tree_verdict}
 use Rattle.tree_spec.specs.Records.{Content, Cube, History, Mode, Sound, accepts, done, floor, settled, tree_at, tree_now, with_history, with_state}
-use Rattle.tree_spec.specs.Replies.{Accepted, Because, Checked, Fault, Memory, Plain, Refused, Response, refused_of, refusal_number, meant}
+use Rattle.tree_spec.specs.Replies.{Accepted, Because, Checked, Fault, Memory, Plain, Response, refused_of, refusal_number, meant}
 use Rattle.tree_spec.specs.Trees.{Tree}
 use Rattle.tree_spec.specs.Why.{Why}
 use Rattle.tree_spec.specs.Why as why
@@ -54,7 +53,7 @@ use Rattle.ice_check.specs.declared.fault.Summary.{Summary}
 use Rattle.ice_images.specs.Recovering.{mode_byte, Recovers}
 use Rattle.ice_cube.specs.Called.{Called, ChangedAs, LookedAt, RestsWith, is_look, shown_by}
 use Rattle.ice_cube.specs.Commands.{AnswersOwn, HoldsRecord, IsCommand, open_state}
-use Rattle.ice_cube.specs.Cubes.{CubeView, HasHistory, Holds, Runs}
+use Rattle.ice_cube.specs.Cubes.{CubeView, HasHistory, Holds}
 use Rattle.ice_cube.proofs.CubeLaws.{after_append, over_none}
 
 -- ---- answers of a record
@@ -448,8 +447,7 @@ module _ {D : Type 0} (state : D → DiskState) (left : D → ℕ → Image → 
       let next : MapRecovers form_one (mode_byte c.mode) lot (shown_by lot w (state b)) (next_tree op t) (done h + 1) =
       subst (λ (o : Option Why). MapRecovers form_one (mode_byte c.mode) lot (shown_by lot w (state b)) (answer_by o op t).1 (done h + 1)) none (changed.changed (mode_byte c.mode) (done h) t told shown) in
       let own : Own (Some c) (OnTree op) (Ok Plain) (Some (if is_change op then with_history (accepts h op) c else c)) =
-      subst (λ (o : Option Why). Own (Some c) (OnTree op) (Ok Plain) (Some (next_record c h op o))) none' (own_answer c h op (Ok Plain) holds.state holds.sound (as_record op (Ok Plain) model)) in
-      (
+      subst (λ (o : Option Why). Own (Some c) (OnTree op) (Ok Plain) (Some (next_record c h op o))) none' (own_answer c h op (Ok Plain) holds.state holds.sound (as_record op (Ok Plain) model)) in (
         with_history (accepts h op) c,
         subst (λ (x : Bool). Own (Some c) (OnTree op) (Ok Plain) (Some (if x then with_history (accepts h op) c else c))) change own,
         record {
@@ -474,35 +472,33 @@ module _ {D : Type 0} (state : D → DiskState) (left : D → ℕ → Image → 
         | inl model ↦
             let low : nat_lt 14 (refusal_number r) ≡ false = low_refusal op r model changed.called.set in
             let few : refusal_number r ≤ 14 = grind (arith, nat_tests, low) in
-            let known = as_known op r model in
-            (
+            let known = as_known op r model in (
               c,
               subst (λ (d : Cube). Own (Some c) (OnTree op) (Err (refused_of r)) (Some d)) (refused_record op r model) (own_answer c h op (Err (refused_of r)) holds.state holds.sound known),
               subst (λ (x : Bool). HoldsRecord (record { lot = lot; set = w.entries; done = n; stopped = x }) (state b) c) (sym low ∙ sym is)
-              (record {
-                groups = holds.groups;
-                state = holds.state;
-                history = h;
-                sound = holds.sound;
-                holds = holds_same state left lot v w a b held homes c.form c.mode h n (changed.same few) holds.holds;
-              }),
+                  (record {
+                    groups = holds.groups;
+                    state = holds.state;
+                    history = h;
+                    sound = holds.sound;
+                    holds = holds_same state left lot v w a b held homes c.form c.mode h n (changed.same few) holds.holds;
+                  }),
             )
         | inr fault ↦
             let none : paths_refusal c.form (paths op) ≡ None =
             subst (λ (g : Form). paths_refusal g (paths op) ≡ None) (sym first) (paths_none (paths_refusal form_one (paths op)) (Err r) changed.called.paths fault) in
             let own : Own (Some c) (OnTree op) (Err Fault) (Some (with_state Stopped c)) =
-            subst (λ (x : Bool). Own (Some c) (OnTree op) (Err Fault) (Some (if x then with_state Stopped c else c))) change (own_fault c op holds.state none) in
-            (
+            subst (λ (x : Bool). Own (Some c) (OnTree op) (Err Fault) (Some (if x then with_state Stopped c else c))) change (own_fault c op holds.state none) in (
               with_state Stopped c,
               subst (λ (x : Response). Own (Some c) (OnTree op) x (Some (with_state Stopped c))) (sym fault) own,
               subst (λ (x : Bool). HoldsRecord (record { lot = lot; set = w.entries; done = n; stopped = x }) (state b) (with_state Stopped c)) (sym (fault_high r fault) ∙ sym is)
-              (record {
-                groups = holds.groups;
-                state = refl;
-                history = h;
-                sound = holds.sound;
-                holds = holds_stopped state left c.form c.mode h (record { lot = lot; set = v.entries; done = n; stopped = false }) w.entries n a b held.still.within holds.holds;
-              }),
+                  (record {
+                    groups = holds.groups;
+                    state = refl;
+                    history = h;
+                    sound = holds.sound;
+                    holds = holds_stopped state left c.form c.mode h (record { lot = lot; set = v.entries; done = n; stopped = false }) w.entries n a b held.still.within holds.holds;
+                  }),
             )
       ]
     where
@@ -511,12 +507,12 @@ module _ {D : Type 0} (state : D → DiskState) (left : D → ℕ → Image → 
       low_refusal op r model few = elim (cases_Bool (nat_lt 14 (refusal_number r))) [
         | inr low ↦ low
         | inl high ↦ absurd (elim (high_refusal r (grind (arith, nat_tests, high)) few) [
-            | inl fault ↦ answer-no_fault (tree_now holds.history) (done holds.history) (length lot.groups) form_one op
-                (sym (subst (λ (x : Refusal). Err (refused_of x) ≡ (answer (tree_now holds.history) (done holds.history) (length lot.groups) form_one op).0) fault model))
-            | inr damage ↦ refusal-no_damage (tree_now holds.history) (done holds.history) (length lot.groups) form_one op damage.0
-                (refused_by (refusal (tree_now holds.history) (done holds.history) (length lot.groups) form_one op) op (tree_now holds.history) (why.Damaged damage.0)
-                (subst (λ (x : Refusal). Err (refused_of x) ≡ (answer (tree_now holds.history) (done holds.history) (length lot.groups) form_one op).0) damage.1 model))
-          ])
+          | inl fault ↦ answer-no_fault (tree_now holds.history) (done holds.history) (length lot.groups) form_one op
+              (sym (subst (λ (x : Refusal). Err (refused_of x) ≡ (answer (tree_now holds.history) (done holds.history) (length lot.groups) form_one op).0) fault model))
+          | inr damage ↦ refusal-no_damage (tree_now holds.history) (done holds.history) (length lot.groups) form_one op damage.0
+              (refused_by (refusal (tree_now holds.history) (done holds.history) (length lot.groups) form_one op) op (tree_now holds.history) (why.Damaged damage.0)
+              (subst (λ (x : Refusal). Err (refused_of x) ≡ (answer (tree_now holds.history) (done holds.history) (length lot.groups) form_one op).0) damage.1 model))
+        ])
       ]
 
       as_known : (op : Operation) (r : Refusal) → Err (refused_of r) ≡ (answer (tree_now holds.history) (done holds.history) (length lot.groups) form_one op).0
@@ -553,7 +549,7 @@ module _ {D : Type 0} (state : D → DiskState) (left : D → ℕ → Image → 
       let m = shown_by lot v (state a) in
       let form : form_in m ≡ form_one = ap form_of shown.sub.version in
       let one = recovers_one form_one sums.mode (mode_byte c.mode) lot m sums.tree (tree_now h) s.done (done h)
-          (subst (λ (g : Form). MapRecovers g sums.mode lot m sums.tree s.done) form sums.recovers) shown in
+      (subst (λ (g : Form). MapRecovers g sums.mode lot m sums.tree s.done) form sums.recovers) shown in
       let cost : s.blocks ≡ blocks c.form (tree_now h) =
       sums.blocks_are ∙ ap (λ (g : Form). blocks g sums.tree) (form ∙ sym first) ∙ ap (λ (t : Tree). blocks c.form t) one.0 in
       let size : s.nodes ≡ nodes (tree_now h) = sums.nodes_are ∙ ap (λ (t : Tree). nodes t) one.0 in
@@ -622,7 +618,7 @@ pub fault_own : (e : CubeView) (s : DiskState) (e' : CubeView) (s' : DiskState) 
 fault_own e s e' s' op lot live dead keeps change none c holds = (
   with_state Stopped c,
   subst (λ (x : Bool). Own (Some c) (OnTree op) (Err Fault) (Some (if x then with_state Stopped c else c))) change
-  (own_fault c op (live_state e s c live holds) (subst (λ (g : Form). paths_refusal g (paths op) ≡ None) (sym (live_form e s c live holds)) none)),
+      (own_fault c op (live_state e s c live holds) (subst (λ (g : Form). paths_refusal g (paths op) ≡ None) (sym (live_form e s c live holds)) none)),
   record {
     groups = holds.groups ∙ ap (λ (l : LotView). length l.groups) (sym lot);
     state = sym (ap open_state dead);

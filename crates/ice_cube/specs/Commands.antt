@@ -1,9 +1,8 @@
 -- What a mounted cube answers to its lines, in words over its record in the world.
-use Rattle.std.specs.Prelude.{◌≡◌, ◌≤◌, ℕ, Bool, List, length, Some, Result, Ok, Err, if◌then◌else◌, ⊤}
+use Rattle.std.specs.Prelude.{◌≡◌, ◌≤◌, ℕ, Bool, length, Some, Result, Ok, Err, if◌then◌else◌}
 use Rattle.ice_base.specs.Disk.{DiskState}
 use Rattle.tree_spec.specs.Held.{most_bytes}
 use Rattle.tree_spec.specs.Lines.{Request, Mkdir, Make, Write, Read, Trunc, Remove, Rename, ListDir, Stat}
-use Rattle.tree_spec.specs.Operations.{Operation, operation}
 use Rattle.tree_spec.specs.Own.{Order, Own}
 use Rattle.tree_spec.specs.Records.{Cube, History, Sound}
 use Rattle.tree_spec.specs.Replies.{Response, Because, Fault, Checked, refusal_number}

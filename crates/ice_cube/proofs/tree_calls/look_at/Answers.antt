@@ -1,4 +1,4 @@
-use Rattle.std.proofs.Common.{◌≡◌, Some, drop, refl, ap}
+use Rattle.std.proofs.Common.{drop, refl, ap}
 use Rattle.tree_spec.specs.Lines.{asked}
 use Rattle.tree_spec.specs.Operations.{Operation, Read, ListDir, Stat, operation}
 use Rattle.tree_spec.specs.declared.command.Command.{Command}

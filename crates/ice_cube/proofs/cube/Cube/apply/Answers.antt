@@ -1,14 +1,12 @@
-use Rattle.std.proofs.Common.{◌≡◌, ◌∙◌, ℕ, Bool, true, false, not, nat_lt, List, Some, Result, Ok, Err, IsErrOf, sym, ap, subst}
+use Rattle.std.proofs.Common.{◌≡◌, ◌∙◌, ℕ, Bool, true, false, not, nat_lt, Ok, Err, sym, ap, subst}
 use Rattle.std.specs.Prelude.{◌+◌, ◌-◌, ◌^◌, min}
 use Rattle.ice_base.specs.Frames.{Sure}
 use Rattle.ice_base.specs.declared.fault.Rule.{Rule}
 use Rattle.tree_spec.specs.Costs.{form_one}
 use Rattle.tree_spec.specs.Lines.{asked}
-use Rattle.tree_spec.specs.Operations.{Operation, is_change}
+use Rattle.tree_spec.specs.Operations.{is_change}
 use Rattle.tree_spec.specs.Own.{OnTree}
-use Rattle.tree_spec.specs.Replies.{Plain, refused_of}
-use Rattle.tree_spec.specs.declared.reply.Refusal.{Refusal}
-use Rattle.tree_spec.specs.declared.reply.Refusal.TheVariants.{Damaged}
+use Rattle.tree_spec.specs.Replies.{Plain}
 use Rattle.ice_journal.specs.Rests.{LotAtRest, RestsLot}
 use Rattle.ice_look.specs.Broken.{IsBroken}
 use Rattle.ice_rules.specs.Rules.{rule_number}

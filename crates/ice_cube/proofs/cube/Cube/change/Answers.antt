@@ -18,12 +18,11 @@ pub returns-in-Ok-clause-damaged : goal.returns-in-Ok-clause-damaged
 returns-in-Ok-clause-damaged g c = λ map n sure is.
     let old = c.args.self.now in let mid = c.make_room.new.self in let s = g.D.Disk.state c.make_room.new.disk in
     let rest = c.in-Ok.ensures.rest map sure in
-    let there = c.apply.ensures.damaged rest.under n (subst (λ (l : LotView). Sure (RestsLot l) (LotAtRest l rest.under) s) (sym c.in-Ok.ensures.lot) rest.rest) is in
-    (
+    let there = c.apply.ensures.damaged rest.under n (subst (λ (l : LotView). Sure (RestsLot l) (LotAtRest l rest.under) s) (sym c.in-Ok.ensures.lot) rest.rest) is in (
       there.0,
       there.1,
       subst (λ (m : ℕ → List ℕ). IsBroken form_one old.lot m there.0) rest.same
-      (subst (λ (l : LotView). IsBroken form_one l (over mid.set rest.under) there.0) c.in-Ok.ensures.lot there.2),
+          (subst (λ (l : LotView). IsBroken form_one l (over mid.set rest.under) there.0) c.in-Ok.ensures.lot there.2),
     )
 
 pub returns-in-Ok-clause-crash : goal.returns-in-Ok-clause-crash

@@ -1,11 +1,10 @@
-use Rattle.std.proofs.Common.{◌≡◌, ◌∙◌, ℕ, Bool, true, false, Some, Result, Ok, Err, IfErr, sym, ap, subst}
+use Rattle.std.proofs.Common.{◌≡◌, ◌∙◌, Bool, false, Ok, Err, sym, ap, subst}
 use Rattle.ice_base.specs.Lots.{homes, inside}
 use Rattle.tree_spec.specs.Own.{Check}
 use Rattle.tree_spec.specs.Replies.{Checked, Fault}
 use Rattle.ice_check.specs.Shown.{Named}
 use Rattle.ice_check.specs.declared.fault.CheckFault.{CheckFault}
 use Rattle.ice_check.specs.declared.fault.CheckFault.TheVariants.{Damaged}
-use Rattle.ice_check.specs.declared.fault.Summary.{Summary}
 use Rattle.ice_keep.specs.Journaled.{HeldBack, held_refl}
 use Rattle.ice_txn.specs.Sets.{over}
 use Rattle.ice_cube.specs.Commands.{AnswersOwn, HoldsRecord}

@@ -1,9 +1,9 @@
-use Rattle.std.proofs.Common.{◌≡◌, ◌∙◌, ℕ, Bool, true, false, not, List, Some, Result, Ok, Err, IsErrOf, sym, ap, subst}
+use Rattle.std.proofs.Common.{◌≡◌, ◌∙◌, Bool, false, not, Result, Ok, Err, IsErrOf, sym, ap, subst}
 use Rattle.ice_base.specs.Frames.{Sure}
 use Rattle.ice_base.specs.declared.fault.Rule.{Rule}
 use Rattle.tree_spec.specs.Costs.{form_one}
 use Rattle.tree_spec.specs.Lines.{asked}
-use Rattle.tree_spec.specs.Operations.{Operation, is_change}
+use Rattle.tree_spec.specs.Operations.{is_change}
 use Rattle.tree_spec.specs.Own.{OnTree}
 use Rattle.tree_spec.specs.Replies.{meant}
 use Rattle.tree_spec.specs.declared.reply.Refusal.{Refusal}
