@@ -97,6 +97,11 @@ module _ {D : Type 0} (state : D → DiskState) (left : D → ℕ → Image → 
   unwritten_then a b c w writes cube.Memory u = tt
   unwritten_then a b c w writes cube.Disk u = tt
 
+  -- where nothing is written after a barrier of a lot that recovers nothing, nothing is written
+  pub idle_then : (a b c : D) → Within state left Nowhere a b → RecoversNothing lot (state a).now → (RecoversNothing lot (state b).now → Within state left Nowhere b c) → Within state left Nowhere a c
+  idle_then a b c w nothing next = within_then state left Nowhere a b c w
+      (next (λ f mode t k r. nothing f mode t k (same_recovers lot (state b).now (state a).now (sym (look_same a b w)) f mode t k r)))
+
 -- What a replay writes are blocks of the lot.
 pub replay_in : (lot : LotView) (ts : List ℕ) → AreNoneOrTargets lot ts → (k : ℕ) → ReplayBlocks (lot_places lot) ts k → extent lot k
 replay_in lot ts targets k (inl gate) = lot_extent lot k (inl gate)

@@ -1,6 +1,6 @@
 //! Mounts of lots.
 ghost use Rattle.std.specs.Prelude.{◌≡◌, ℕ, List, [], true, false, Some, None, OnOk, IfOk, IfErr, IsErrOf};
-ghost use Rattle.ice_base.specs.Disk.{Caused};
+ghost use Rattle.ice_base.specs.Disk.{Caused, Nowhere};
 ghost use Rattle.ice_base.specs.Frames.{CrashStep, Every, Settled, Sure, Within};
 ghost use Rattle.ice_base.specs.Lots.{extent, is_sited};
 ghost use Rattle.ice_base.specs.Still.{Still};
@@ -10,7 +10,7 @@ ghost use Rattle.tree_spec.specs.Trees.{Tree};
 ghost use Rattle.ice_tables.specs.Journals.{effective_of};
 ghost use Rattle.ice_journal.specs.Rests.{LotAtRest, RestsLot};
 ghost use Rattle.ice_journal.specs.declared.effective.JournalFault.TheVariants.{Disk as JournalDisk, Header};
-ghost use Rattle.ice_images.specs.Recovering.{Recovers};
+ghost use Rattle.ice_images.specs.Recovering.{Recovers, RecoversNothing};
 ghost use Rattle.ice_cube.specs.Cubes.{HasHistory, Holds};
 ghost use Rattle.ice_cube.specs.Mounting.{KeepsBlocks, RecoversSome, TellsDamage, UnwrittenIfDamaged};
 ghost use Rattle.ice_cube.specs.declared.fault.CubeFault.TheVariants.{Disk as FaultDisk, Memory};
@@ -58,6 +58,9 @@ fn take_up<D: Disk>(disk: &mut D, lot: &Lot) -> Result<u64, CubeFault>
     // Only blocks of the lot may change, and none where it is damaged. A fault of the disk has its cause.
     ensures within { Within D.state D.left (extent lot.now) disk.old disk.new }
     ensures unwritten { IfErr result (UnwrittenIfDamaged D.state D.left disk.old disk.new) }
+    // A lot that recovers nothing isn't written, whatever the answer.
+    ensures idle { (D.state disk.old).tells ≡ true → RecoversNothing lot.now (D.state disk.old).now
+        → Within D.state D.left Nowhere disk.old disk.new }
     ensures failed { Caused D.state FaultDisk result disk.old disk.new }
     ensures never { ¬ IsErrOf result Memory }
     // On a disk that tells: Ok says the count that the lot recovers, and damage is there.
@@ -96,6 +99,9 @@ impl Cube {
         // Only blocks of the lot may change, and none where it is damaged.
         ensures within { Within D.state D.left (extent lot.now) disk.old disk.new }
         ensures unwritten { IfErr result (UnwrittenIfDamaged D.state D.left disk.old disk.new) }
+        // A lot that recovers nothing isn't written, whatever the answer.
+        ensures idle { (D.state disk.old).tells ≡ true → RecoversNothing lot.now (D.state disk.old).now
+            → Within D.state D.left Nowhere disk.old disk.new }
         // On a disk that tells: Ok says the count that the lot recovers, and damage is there.
         ensures recovered { (D.state disk.old).tells ≡ true
             → IfOk result (λ c. RecoversSome lot.now (D.state disk.old).now c.done) }

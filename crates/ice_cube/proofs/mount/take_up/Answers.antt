@@ -43,3 +43,18 @@ returns-in-Err-Header-clause-damaged g c = λ told.
     let state = g.D.Disk.state in let left = g.D.Disk.left in let lot = c.args.lot.now in let a = c.args.disk.now in let b = c.check_lot.new.disk in let w = c.check_lot.ensures.still.within in
     let none : effective_of lot (state b).now ≡ None = c.recover.ensures.refused (w.tells ∙ told) (search rules) in
     none_damage lot (state a).now (sym (look_same state left lot a b w) ∙ none)
+
+pub returns-in-Ok-recover-clause-idle : goal.returns-in-Ok-recover-clause-idle
+returns-in-Ok-recover-clause-idle g c = λ told nothing.
+    let some = some_recovers c.args.lot.now (g.D.Disk.state c.args.disk.now).now c.in-Ok.summary (λ m e. c.in-Ok.ensures.recovers m told e) (λ e. let never : false ≡ true = c.in-Ok.ensures.refused told e in absurd (cc never)) in
+    absurd (nothing some.form some.mode some.tree c.in-Ok.summary.done some.recovers)
+
+pub returns-in-Err-Disk-recover-clause-idle : goal.returns-in-Err-Disk-recover-clause-idle
+returns-in-Err-Disk-recover-clause-idle g c = λ told nothing.
+    let some = some_recovers c.args.lot.now (g.D.Disk.state c.args.disk.now).now c.in-Ok.summary (λ m e. c.in-Ok.ensures.recovers m told e) (λ e. let never : false ≡ true = c.in-Ok.ensures.refused told e in absurd (cc never)) in
+    absurd (nothing some.form some.mode some.tree c.in-Ok.summary.done some.recovers)
+
+pub returns-in-Err-Header-clause-idle : goal.returns-in-Err-Header-clause-idle
+returns-in-Err-Header-clause-idle g c = λ told nothing.
+    let some = some_recovers c.args.lot.now (g.D.Disk.state c.args.disk.now).now c.in-Ok.summary (λ m e. c.in-Ok.ensures.recovers m told e) (λ e. let never : false ≡ true = c.in-Ok.ensures.refused told e in absurd (cc never)) in
+    absurd (nothing some.form some.mode some.tree c.in-Ok.summary.done some.recovers)

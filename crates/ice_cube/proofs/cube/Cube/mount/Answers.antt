@@ -7,7 +7,7 @@ use Rattle.ice_images.specs.Recovering.{mode_byte, Recovers}
 use Rattle.ice_cube.specs.Cubes.{CubeView, Holds}
 use Rattle.ice_cube.specs.Mounting.{RecoversSome}
 use Rattle.ice_cube.proofs.CubeLaws.{rest_holds, same_recovers}
-use Rattle.ice_cube.proofs.MountLaws.{barrier_then, damage_same, look_same, one_count, some_same, unwritten_then}
+use Rattle.ice_cube.proofs.MountLaws.{barrier_then, damage_same, idle_then, look_same, one_count, some_same, unwritten_then}
 use Rattle.ice_cube.proofs.cube.Cube.mount.Goals as goal
 
 pub returns-in-Ok-take_up-clause-recovered : goal.returns-in-Ok-take_up-clause-recovered
@@ -50,3 +50,11 @@ pub returns-in-Err-take_up-clause-damaged : goal.returns-in-Err-take_up-clause-d
 returns-in-Err-take_up-clause-damaged g c = λ told.
     let state = g.D.Disk.state in let lot = c.args.lot.now in let a = c.args.disk.now in let b = c.barrier.new.self in let w = c.barrier.ensures.within in
     damage_same lot (state b).now (state a).now c.in-Err-take_up.fault (sym (look_same state g.D.Disk.left lot a b w)) (c.in-Err-take_up.ensures.damaged (w.tells ∙ told))
+
+pub returns-in-Ok-take_up-clause-idle : goal.returns-in-Ok-take_up-clause-idle
+returns-in-Ok-take_up-clause-idle g c = λ told nothing.
+    idle_then g.D.Disk.state g.D.Disk.left c.args.lot.now c.args.disk.now c.barrier.new.self c.take_up.new.disk c.barrier.ensures.within nothing (c.take_up.ensures.idle (c.barrier.ensures.within.tells ∙ told))
+
+pub returns-in-Err-take_up-clause-idle : goal.returns-in-Err-take_up-clause-idle
+returns-in-Err-take_up-clause-idle g c = λ told nothing.
+    idle_then g.D.Disk.state g.D.Disk.left c.args.lot.now c.args.disk.now c.barrier.new.self c.take_up.new.disk c.barrier.ensures.within nothing (c.take_up.ensures.idle (c.barrier.ensures.within.tells ∙ told))
