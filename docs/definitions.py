@@ -11,6 +11,9 @@ import sys
 ROOTS = [
     ("ice_run", "run"),
     ("ice_run", "image_of"),
+    ("ice_headline", None),
+    ("ice_volume", None),
+    ("ice_cube", None),
     ("ice_look", None),
     ("ice_tree", None),
     ("ice_check", None),
