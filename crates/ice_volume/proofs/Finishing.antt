@@ -1,23 +1,28 @@
 -- Cubes that are unmounted at the end of a session.
-use Rattle.std.proofs.Common.{◌≡◌, ◌≢◌, ◌∙◌, inl, inr, ⊎_elim, ◌<◌, ◌≤◌, ◌+◌, ◌++◌, ℕ, Bool, true, false, cond, nat_lt, List, [], ◌∷◌, length, take, Option, None, Some, option_map, Err, refl, sym, ap, subst, length-append, arith}
-use Rattle.std.specs.Prelude.{◌&&◌}
+use Rattle.std.proofs.Common.{◌≡◌, ◌≢◌, ◌∙◌, inl, inr, ⊎_elim, ◌<◌, ◌≤◌, ◌+◌, ◌++◌, ℕ, Bool, true, false, cond, nat_lt, List, [], ◌∷◌, length, take, Option, None, Some, option_map, Result, Ok, Err, OnOk, OnErr, refl, sym, ap, subst, length-append, arith}
+use Rattle.std.specs.Prelude.{◌&&◌, IsErrOf, is_ok}
 use Rattle.std.proofs.lemmas.Bool.Decides.{nat_tests}
 use Rattle.std.proofs.Math.Seq.{take-length}
-use Rattle.ice_base.specs.Disk.{Image, DiskState}
+use Rattle.ice_base.specs.Disk.{Image, DiskState, Rose, RoseBy}
 use Rattle.ice_base.specs.Frames.{LeavesOnly, With}
 use Rattle.ice_base.specs.Lots.{LotView}
+use Rattle.ice_base.specs.declared.disk.DiskFault.{DiskFault}
 use Rattle.tree_spec.specs.Why.{Why}
 use Rattle.tree_spec.specs.Trees.{Tree}
 use Rattle.tree_spec.specs.Costs.{Form}
 use Rattle.tree_spec.specs.Operations.{Operation}
 use Rattle.tree_spec.specs.Answers.{next_tree, tree_after}
-use Rattle.tree_spec.specs.Replies.{Response}
+use Rattle.tree_spec.specs.Held.{RoomContent}
+use Rattle.tree_spec.specs.Replies.{Response, meant}
 use Rattle.tree_spec.specs.Replies as reply
 use Rattle.tree_spec.specs.Records.{Cube, Content, Sound, Broken, Unread, History, Mode, floor, is_mounted, is_offline, settled, tree_at, with_state, with_history, mode_after}
 use Rattle.tree_spec.specs.Own.{Unmount, Verdict, No, Says, Own, IfMounted, OfSound, on_sync}
 use Rattle.tree_spec.specs.Lines.{Asks}
 use Rattle.tree_spec.specs.Lines as line
 use Rattle.tree_spec.specs.World.{World, Aim, At, Goes, Step, aim, to_cube, with_slot}
+use Rattle.tree_spec.specs.declared.reply.Refusal.{Refusal}
+use Rattle.tree_spec.specs.declared.reply.Refusal.TheVariants as code
+use Rattle.tree_spec.specs.declared.reply.Value.{Value}
 use Rattle.tree_spec.specs.declared.reply.StateWord.{StateWord}
 use Rattle.tree_spec.specs.declared.reply.StateWord.TheVariants as word
 use Rattle.ice_images.specs.Fitting.{Fits, Has, HasContent, cube_entry, entry_at}
@@ -29,10 +34,11 @@ use Rattle.ice_system.specs.Systems.{tables_of}
 use Rattle.ice_cube.specs.Cubes.{HasHistory}
 use Rattle.ice_volume.specs.Cells.{Carries, cell_at}
 use Rattle.ice_volume.specs.Sessions.{HasPutAway, IsAsGood, PutsAway, away_at, away_below, finished, put_away}
-use Rattle.ice_volume.specs.Lines.{Answers, MayFit}
+use Rattle.ice_volume.specs.Lines.{Answers, MayFit, fault_in}
 use Rattle.ice_volume.specs.Volumes.{VolumeView, StandsFor}
 use Rattle.ice_volume.proofs.Lookups.{row_path, slot_found}
 use Rattle.ice_volume.proofs.Slots.{each_slot}
+use Rattle.ice_volume.proofs.Telling.{faults_said}
 
 -- ---- histories
 
@@ -131,6 +137,28 @@ own_away (Some c) d r own = ⊎_elim
     (λ p. plain_away c d r p.0 c.state c.content refl refl p.1 p.2)
     (λ q. ⊎_elim (λ f. fault_away c d r (mounted_if c.state f.0) f.1 f.2) (λ m. absurd (cc m.0)) q)
     own
+
+-- ---- faults
+
+-- a reply that is no fault means none
+pub fine_said : (r : Result Value Refusal) (room : RoomContent) → ¬ IsErrOf r code.Fault → meant r room ≢ Err reply.Fault
+fine_said r room fine same =
+    let none = faults_said r room 0 0 (omega arith) (λ is. absurd (fine is)) in
+    let one : fault_in (meant r room) ≡ 1 = ap fault_in same in
+    omega (arith, none, one)
+
+-- a reply that is a fault has its cause
+pub rose_said : (r : Result Value Refusal) (room : RoomContent) (m n : ℕ) → IsErrOf r code.Fault → RoseBy (fault_in (meant r room)) m n → Rose m n
+rose_said r room m n is rose = let one : fault_in (meant r room) ≡ 1 = ap (λ (x : Result Value Refusal). fault_in (meant x room)) is in omega (arith, rose, one)
+
+-- an answer that is good is no fault, and another one is
+pub fine_of : (r : Result (Unit {0}) DiskFault) (refusal : Refusal) → OnOk r (refusal ≢ code.Fault) → is_ok r ≡ true → refusal ≢ code.Fault
+fine_of (Ok x) refusal other is = other
+fine_of (Err e) refusal other is = absurd (cc is)
+
+pub failed_of : (r : Result (Unit {0}) DiskFault) (refusal : Refusal) → OnErr r (refusal ≡ code.Fault) → is_ok r ≡ false → refusal ≡ code.Fault
+failed_of (Ok x) refusal failed is = absurd (cc is)
+failed_of (Err e) refusal failed is = failed
 
 -- ---- one slot
 

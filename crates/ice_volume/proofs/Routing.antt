@@ -58,8 +58,8 @@ whole (line.Sync p) some = absurd (some refl)
 pub commands : (v : NamesView) (s n : ℕ) (req : Request) → operation 0 req ≢ None → InBounds req → AllCatch v s n (paths_asked req) → IsCommand n req
 commands v s n (line.Mkdir p) some bounds all = all.0.few
 commands v s n (line.Make p) some bounds all = all.0.few
-commands v s n (line.Write p at bytes) some bounds all = (all.0.few, bounds)
-commands v s n (line.Read p at len) some bounds all = (all.0.few, bounds)
+commands v s n (line.Write p at bytes) some bounds all = (all.0.few, bounds.1)
+commands v s n (line.Read p at len) some bounds all = (all.0.few, bounds.1)
 commands v s n (line.Trunc p len) some bounds all = all.0.few
 commands v s n (line.Remove p) some bounds all = all.0.few
 commands v s n (line.Rename p q) some bounds all = (all.0.few, all.1.0.few)

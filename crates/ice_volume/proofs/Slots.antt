@@ -46,7 +46,7 @@ with_other : (w : World) (x : ℕ) (d : Option Cube) (y : ℕ) → y ≢ x → (
 with_other w x d y other = let is : nat_eq y x ≡ false = grind arith in ap (λ b. cond b d (w.cube y)) is
 
 -- what holds of the record in the slot, and of the other slots' records, holds of all
-each_slot : (w : World) (x : ℕ) (d : Option Cube) (P : ℕ → Option Cube → Type 0) → P x d → ((y : ℕ) → y ≢ x → P y (w.cube y)) → (y : ℕ) → P y ((with_slot w x d).cube y)
+pub each_slot : (w : World) (x : ℕ) (d : Option Cube) (P : ℕ → Option Cube → Type 0) → P x d → ((y : ℕ) → y ≢ x → P y (w.cube y)) → (y : ℕ) → P y ((with_slot w x d).cube y)
 each_slot w x d P here others y = elim (cases_eq y x) as (λ _. P y ((with_slot w x d).cube y)) [
   | inl same ↦ subst (λ z. P z ((with_slot w x d).cube z)) (sym same) (subst (P x) (sym (with_here w x d)) here)
   | inr other ↦ subst (P y) (sym (with_other w x d y other)) (others y other)

@@ -1,8 +1,9 @@
 //! The end of a session.
-ghost use Rattle.std.specs.Prelude.{◌≡◌, OnOk, is_ok};
-ghost use Rattle.ice_base.specs.Disk.{HasCause};
+ghost use Rattle.std.specs.Prelude.{◌≡◌, ◌≢◌, OnErr, OnOk, is_ok, true, false};
+ghost use Rattle.ice_base.specs.Disk.{HasCause, Rose};
 ghost use Rattle.ice_base.specs.Frames.{LeavesOnly, With, Within};
 ghost use Rattle.tree_spec.specs.World.{World};
+ghost use Rattle.tree_spec.specs.declared.reply.Refusal.TheVariants.{Fault};
 ghost use Rattle.ice_images.specs.Fitting.{Fits};
 ghost use Rattle.ice_tables.specs.Lots.{total};
 ghost use Rattle.ice_system.specs.Systems.{tables_of};
@@ -14,13 +15,24 @@ use crate::volume::Volume;
 use ice_base::{Disk, DiskFault};
 use tree_spec::Refusal;
 
+/// Whether an unmount failed: a cube that isn't mounted is refused otherwise.
+fn fault_of(refusal: Refusal) -> Result<(), DiskFault>
+    ensures failed { OnErr result (refusal ≡ Fault) }
+    ensures other { OnOk result (refusal ≢ Fault) }
+{
+    match refusal {
+        Refusal::Fault => Err(DiskFault::Failed),
+        _ => Ok(()),
+    }
+}
+
 impl Volume {
     /// Unmounts the cube of a slot, where one is mounted. After an `Err` the cube is stopped.
     fn put_away<D: Disk>(&mut self, disk: &mut D, slot: u8) -> Result<(), DiskFault>
         requires room { HasRoom self.old (D.state disk.old) }
         ensures within { Within D.state D.left (IsWritable self.old) disk.old disk.new }
         ensures size { total (tables_of self.new.system) ≡ total (tables_of self.old.system) }
-        ensures cause { HasCause (D.state disk.old) (D.state disk.new) result }
+        ensures cause { is_ok result ≡ false → Rose (D.state disk.old).faults (D.state disk.new).faults }
         // From each world: each crash leaves an image that fits it, and the slot's record becomes that of a cube that was put away.
         ensures leaves { (w : World) → StandsFor self.old (D.state disk.old) w
             → LeavesOnly D.left disk.old disk.new (With (D.state disk.old).streams.aside (Fits w)) }
@@ -35,9 +47,8 @@ impl Volume {
             None => return Ok(()),
         };
         match self.unmount(disk, &path) {
-            Err(Refusal::Fault) => Err(DiskFault::Failed),
-            // A count, or the refusal of a cube that isn't mounted.
-            _ => Ok(()),
+            Ok(_) => Ok(()),
+            Err(refusal) => fault_of(refusal),
         }
     }
 
@@ -56,12 +67,11 @@ impl Volume {
     {
         // This call tells the prover that the image has at most 16 slots.
         let _ = self.system.slots();
-        let mut result = Ok(());
+        let mut ok = true;
         for slot in 0..16 {
-            if self.put_away(disk, slot).is_err() {
-                result = Err(DiskFault::Failed);
-            }
+            let away = self.put_away(disk, slot).is_ok();
+            ok = ok && away;
         }
-        result
+        if ok { Ok(()) } else { Err(DiskFault::Failed) }
     }
 }

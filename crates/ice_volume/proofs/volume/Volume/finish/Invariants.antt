@@ -1,6 +1,5 @@
-use Rattle.std.proofs.Common.{◌≡◌, ◌≤◌}
-use Rattle.std.specs.Prelude.{is_ok}
-use Rattle.ice_base.specs.Disk.{HasCause}
+use Rattle.std.proofs.Common.{◌≡◌, false}
+use Rattle.ice_base.specs.Disk.{Rose}
 use Rattle.ice_base.specs.Frames.{LeavesOnly, With, Within}
 use Rattle.tree_spec.specs.World.{World}
 use Rattle.ice_images.specs.Fitting.{Fits}
@@ -14,8 +13,8 @@ abbrev pub invariant-loop-slot : goal.invariant-loop-slot
 invariant-loop-slot g l = record {
   size : total (tables_of l.self.system) ≡ total (tables_of l.initial.self.system);
   within : Within g.D.Disk.state g.D.Disk.left (IsWritable l.initial.self) l.initial.disk l.disk;
-  cause : HasCause (g.D.Disk.state l.initial.disk) (g.D.Disk.state l.disk) l.result;
+  cause : l.ok ≡ false → Rose (g.D.Disk.state l.initial.disk).faults (g.D.Disk.state l.disk).faults;
   leaves : (w : World) → StandsFor l.initial.self (g.D.Disk.state l.initial.disk) w
       → LeavesOnly g.D.Disk.left l.initial.disk l.disk (With (g.D.Disk.state l.initial.disk).streams.aside (Fits w));
-  away : (w : World) → StandsFor l.initial.self (g.D.Disk.state l.initial.disk) w → HasPutAway l.slot (is_ok l.result) l.self (g.D.Disk.state l.disk) w;
+  away : (w : World) → StandsFor l.initial.self (g.D.Disk.state l.initial.disk) w → HasPutAway l.slot l.ok l.self (g.D.Disk.state l.disk) w;
 }
