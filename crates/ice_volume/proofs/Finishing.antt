@@ -1,10 +1,11 @@
 -- Cubes that are unmounted at the end of a session.
 use Rattle.std.proofs.Common.{◌≡◌, ◌≢◌, ◌∙◌, inl, inr, ⊎_elim, ◌<◌, ◌≤◌, ◌+◌, ◌++◌, ℕ, Bool, true, false, cond, nat_lt, List, [], ◌∷◌, length, take, Option, None, Some, option_map, Result, Ok, Err, OnOk, OnErr, refl, sym, ap, subst, length-append, arith}
-use Rattle.std.specs.Prelude.{◌&&◌, IsErrOf, is_ok}
+use Rattle.std.specs.Prelude.{◌&&◌, ◌⊎◌, IsErrOf, is_ok}
 use Rattle.std.proofs.lemmas.Bool.Decides.{nat_tests}
 use Rattle.std.proofs.Math.Seq.{take-length}
-use Rattle.ice_base.specs.Disk.{Image, DiskState, Rose, RoseBy}
-use Rattle.ice_base.specs.Frames.{LeavesOnly, With}
+use Rattle.ice_base.specs.Disk.{Image, DiskState, Rose, RoseBy, Streams}
+use Rattle.ice_base.specs.FrameLaws.{within_more, within_then}
+use Rattle.ice_base.specs.Frames.{LeavesOnly, With, Within}
 use Rattle.ice_base.specs.Lots.{LotView}
 use Rattle.ice_base.specs.declared.disk.DiskFault.{DiskFault}
 use Rattle.tree_spec.specs.Why.{Why}
@@ -28,14 +29,14 @@ use Rattle.tree_spec.specs.declared.reply.StateWord.TheVariants as word
 use Rattle.ice_images.specs.Fitting.{Fits, Has, HasContent, cube_entry, entry_at}
 use Rattle.ice_images.proofs.FittingLaws.{no_cube}
 use Rattle.ice_images.specs.Recovering.{Recovers}
-use Rattle.ice_tables.specs.Lots.{lot_of}
+use Rattle.ice_tables.specs.Lots.{lot_of, total}
 use Rattle.ice_names.specs.Names.{path_at}
 use Rattle.ice_system.specs.Systems.{tables_of}
 use Rattle.ice_cube.specs.Cubes.{HasHistory}
 use Rattle.ice_volume.specs.Cells.{Carries, cell_at}
 use Rattle.ice_volume.specs.Sessions.{HasPutAway, IsAsGood, PutsAway, away_at, away_below, finished, put_away}
 use Rattle.ice_volume.specs.Lines.{Answers, MayFit, fault_in}
-use Rattle.ice_volume.specs.Volumes.{VolumeView, StandsFor}
+use Rattle.ice_volume.specs.Volumes.{VolumeView, StandsFor, IsWritable}
 use Rattle.ice_volume.proofs.Lookups.{row_path, slot_found}
 use Rattle.ice_volume.proofs.Slots.{each_slot}
 use Rattle.ice_volume.proofs.Telling.{faults_said}
@@ -300,3 +301,34 @@ away_all n v s w few so = record {
 
     all : (x : ℕ) → so.next.cube x ≡ away_at (w.cube x)
     all x = so.away refl x ∙ below x (nat_lt x n) refl
+
+-- ---- the loop over the slots
+
+-- the blocks of a session are the same where the image has as many blocks
+writable_same : (v z : VolumeView) → total (tables_of z.system) ≡ total (tables_of v.system) → (k : ℕ) → IsWritable z k → IsWritable v k
+writable_same v z size k (inl low) = inl low
+writable_same v z size k (inr high) = inr (high.0, subst (λ (n : ℕ). k < n) size high.1)
+
+and_false : (a b : Bool) → (a && b) ≡ false → (a ≡ false) ⊎ (b ≡ false)
+and_false true b is = inr is
+and_false false b is = inl refl
+
+module _ {D : Type 0} (state : D → DiskState) (left : D → ℕ → Image → List ℕ → Type 0) (v z : VolumeView) (a m b : D) (size : total (tables_of z.system) ≡ total (tables_of v.system))
+    (so : Within state left (IsWritable v) a m) (more : Within state left (IsWritable z) m b) where
+  -- the blocks of a session alone change
+  pub finish_within : Within state left (IsWritable v) a b
+  finish_within = within_then state left (IsWritable v) a m b so (within_more state left (IsWritable z) (IsWritable v) m b (writable_same v z size) more)
+
+  -- a fault has its cause
+  pub finish_cause : (p q : Bool) → (p && q) ≡ false → (p ≡ false → Rose (state a).faults (state m).faults) → (q ≡ false → Rose (state m).faults (state b).faults) → Rose (state a).faults (state b).faults
+  finish_cause p q is first second = let before = so.faults in let after = more.faults in
+      ⊎_elim (λ f. let rose = first f in omega (arith, rose, after)) (λ f. let rose = second f in omega (arith, rose, before)) (and_false p q is)
+
+  -- each crash leaves an image that fits the world at the start
+  pub finish_leaves : (w : World) (n : ℕ) (ok : Bool) (away : HasPutAway n ok z (state m) w) → LeavesOnly left a m (With (state a).streams.aside (Fits w))
+      → LeavesOnly left m b (With (state m).streams.aside (Fits away.next)) → LeavesOnly left a b (With (state a).streams.aside (Fits w))
+  finish_leaves w n ok away first second = record {
+    each = λ t i out l. ⊎_elim (λ before. first.each t i out before)
+        (λ here. inr (away_fits n ok z (state m) w away i here.0, here.1 ∙ ap (λ (x : Streams). x.aside) so.streams))
+        (second.each t i out l);
+  }

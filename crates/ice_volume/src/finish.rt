@@ -1,5 +1,5 @@
 //! The end of a session.
-ghost use Rattle.std.specs.Prelude.{◌≡◌, ◌≢◌, OnErr, OnOk, is_ok, true, false};
+ghost use Rattle.std.specs.Prelude.{◌≡◌, ◌≢◌, ◌&&◌, OnErr, OnOk, is_ok, true, false};
 ghost use Rattle.ice_base.specs.Disk.{HasCause, Rose};
 ghost use Rattle.ice_base.specs.Frames.{LeavesOnly, With, Within};
 ghost use Rattle.tree_spec.specs.World.{World};
@@ -24,6 +24,13 @@ fn fault_of(refusal: Refusal) -> Result<(), DiskFault>
         Refusal::Fault => Err(DiskFault::Failed),
         _ => Ok(()),
     }
+}
+
+/// Whether both went well.
+fn both(first: bool, second: bool) -> bool
+    ensures { result ≡ (first && second) }
+{
+    first && second
 }
 
 impl Volume {
@@ -70,7 +77,7 @@ impl Volume {
         let mut ok = true;
         for slot in 0..16 {
             let away = self.put_away(disk, slot).is_ok();
-            ok = ok && away;
+            ok = both(ok, away);
         }
         if ok { Ok(()) } else { Err(DiskFault::Failed) }
     }

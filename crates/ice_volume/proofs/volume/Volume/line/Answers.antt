@@ -11,7 +11,7 @@ pub returns-in-Cubes : goal.returns-in-Cubes
 returns-in-Cubes g c =
     let state = g.D.Disk.state in let v = c.args.self.now in let n = length c.rows.result.now in
     subst (λ (x : Command). AnswersLine state g.D.Disk.left (Asks (asked x)) v v c.list.new.room (Ok (Ok (Listed n))) c.args.disk.now c.args.disk.now) (sym c.in-Cubes.is)
-    (listed_line state g.D.Disk.left v c.list.new.room n c.args.disk.now (c.list.ensures.entries ∙ c.requires.entries) c.list.ensures.rows (ap length c.rows.ensures))
+    (listed_line state g.D.Disk.left v c.list.new.room n c.args.disk.now (c.list.ensures.entries ∙ c.requires.entries) c.list.ensures.rows (ap length c.rows.ensures.value))
 
 pub create-requires : goal.create-requires
 create-requires g c = let in_bounds = subst (λ (x : Command). InBounds (asked x)) c.in-Create.is c.requires.bounds in record { room = c.requires.disk; some = in_bounds.0; short = in_bounds.2 }
