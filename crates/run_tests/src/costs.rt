@@ -5,7 +5,8 @@ use std::test::Fail;
 
 const EMPTY: &str = "create /a 1\nmkdir /a/d\ncreate /b 1\ncreate /c 2\n";
 
-const FULL: &str = "create /a 1\nmkdir /a/d\ncreate /b 1\ncreate /c 2\nmkdir /b/x\nmake /b/x/f\nwrite /b/x/f 0 00112233\nsync /b\nmake /b/g\nmkdir /c/y\nmkdir /c/y/z\nunmount /c\nmount /c\nmake /c/g\n";
+const FULL: &str =
+    "create /a 1\nmkdir /a/d\ncreate /b 1\ncreate /c 2\nmkdir /b/x\nmake /b/x/f\nwrite /b/x/f 0 00112233\nsync /b\nmake /b/g\nmkdir /c/y\nmkdir /c/y/z\nunmount /c\nmount /c\nmake /c/g\n";
 
 /// A line of each kind on the cube `/a`, with its reply.
 const LINES: [(&str, &str); 22] = [
@@ -83,12 +84,24 @@ fn a_line_costs_the_same_whatever_the_other_cubes_hold(rt: HostRuntime) -> Resul
 const COMMITS: [(&str, u64, u64); 11] = [
     ("", 18, 6),
     ("sync /a\nsync /a\nunmount /a\n", 18, 6),
-    ("list /a\nstat /a\ncheck /a\nread /a 0 1\nlist /a/x\n", 18, 6),
+    (
+        "list /a\nstat /a\ncheck /a\nread /a 0 1\nlist /a/x\n",
+        18,
+        6,
+    ),
     // The sub-super block, the bitmap, the inodes and the root's own block.
     ("mkdir /a/x\nsync /a\n", 18 + 11, 10),
     ("mkdir /a/x\nsync /a\nsync /a\nunmount /a\n", 18 + 11, 10),
-    ("mkdir /a/x\nsync /a\nlist /a\nstat /a/x\ncheck /a\n", 18 + 11, 10),
-    ("mkdir /a/x\nmake /a/f\nmkdir /a/x\nunmount /a\n", 18 + 11, 10),
+    (
+        "mkdir /a/x\nsync /a\nlist /a\nstat /a/x\ncheck /a\n",
+        18 + 11,
+        10,
+    ),
+    (
+        "mkdir /a/x\nmake /a/f\nmkdir /a/x\nunmount /a\n",
+        18 + 11,
+        10,
+    ),
     ("mkdir /a/x\n", 18 + 11, 10),
     // A block of the file besides.
     ("make /a/f\nwrite /a/f 0 00\nsync /a\n", 18 + 13, 10),

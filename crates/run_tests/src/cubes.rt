@@ -55,7 +55,8 @@ fn a_cube_with_a_directory_has_its_bytes(rt: HostRuntime) -> Result<(), Fail> {
     Ok(())
 }
 
-const THREE: &[u8] = b"create /a 1\ncreate /b 1\ncreate /c 1\nmkdir /a/x\nmkdir /b/x\nmkdir /c/x\nunmount /a\nunmount /b\nunmount /c\n";
+const THREE: &[u8] =
+    b"create /a 1\ncreate /b 1\ncreate /c 1\nmkdir /a/x\nmkdir /b/x\nmkdir /c/x\nunmount /a\nunmount /b\nunmount /c\n";
 
 /// Each slot with a session after its area and its group were filled with garbage.
 const GARBAGE: [(u32, &str, &str); 3] = [
@@ -149,11 +150,7 @@ fn a_count_of_commands_runs_out(rt: HostRuntime) -> Result<(), Fail> {
             "mount /a\nmkdir /a/x\nmkdir /a/y\n",
             "ok 9223372036854775806\nok\nno Spent\n",
         ),
-        (
-            [0, 0, 0, 0, 0, 0, 0, 0x80],
-            "mount /a\n",
-            "no Damaged 5\n",
-        ),
+        ([0, 0, 0, 0, 0, 0, 0, 0x80], "mount /a\n", "no Damaged 5\n"),
     ];
     for (done, script, replies) in rows {
         let mut changed = copy_of(alloc, &host)?;

@@ -16,7 +16,8 @@ fn failing(alloc: Global, script: &str, line: usize, later: u64) -> Result<MemHo
     Ok(host)
 }
 
-const STOPS: &str = "create /a 1\ncreate /b 1\nmkdir /a/x\nsync /a\nmkdir /a/y\nsync /a\nmkdir /a/z\nmkdir /b/x\nmount /a\nlist /a\n";
+const STOPS: &str =
+    "create /a 1\ncreate /b 1\nmkdir /a/x\nsync /a\nmkdir /a/y\nsync /a\nmkdir /a/z\nmkdir /b/x\nmount /a\nlist /a\n";
 
 /// The replies where the second sync fails before its commit point, and from there on.
 const STOPPED: [&str; 2] = [
@@ -33,7 +34,13 @@ fn a_fault_within_a_sync_stops_this_cube_alone(rt: HostRuntime) -> Result<(), Fa
         let replies = if later < 7 { STOPPED[0] } else { STOPPED[1] };
         answers(&rt, alloc, &mut host, STOPS, replies)?;
         let mut left = copy_of(alloc, &host)?;
-        answers(&rt, alloc, &mut left, "mount /b\nlist /b\n", "ok 1\ndir x\nok 1\n")?;
+        answers(
+            &rt,
+            alloc,
+            &mut left,
+            "mount /b\nlist /b\n",
+            "ok 1\ndir x\nok 1\n",
+        )?;
     }
     Ok(())
 }
@@ -56,7 +63,10 @@ const ROWS: [(&str, &str); 7] = [
         "ok\n0 1 offline /a\nok 1\nno Offline\nok\nok 1\n",
     ),
     ("delete /a\ncubes\n", "ok\nok 0\n"),
-    ("mount /a\nmkdir /a/y\nsync /a\nlist /a\n", "ok 1\nok\nok 2\ndir x\ndir y\nok 2\n"),
+    (
+        "mount /a\nmkdir /a/y\nsync /a\nlist /a\n",
+        "ok 1\nok\nok 2\ndir x\ndir y\nok 2\n",
+    ),
 ];
 
 #[test]
