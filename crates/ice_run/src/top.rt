@@ -52,11 +52,7 @@ fn format_image<D: Disk>(disk: &mut D, sup: &Super) -> Status
 }
 
 /// Answers the script, and unmounts every cube where it came to its end.
-fn serve_and_finish<H: Host>(
-    host: &mut H,
-    volume: &mut Volume,
-    session: &mut Session,
-) -> Status
+fn serve_and_finish<H: Host>(host: &mut H, volume: &mut Volume, session: &mut Session) -> Status
     requires { IsReady volume.old (H.state host.old) session.old.reader }
     // The disk is the same one, and no count of faults falls; why the session ended.
     ensures on { GoesOn (H.state host.old) (H.state host.new) }

@@ -55,11 +55,16 @@ fn hint_of(status: Status) -> &'static str {
             "  icefs format IMAGE --slots S --groups N   makes an image: S of 1 to 16, N of 1 to 1024\n  icefs run IMAGE < SCRIPT                   answers a script of lines"
         }
         Status::Memory => "  there is not enough memory; nothing was done",
-        Status::Source => "  the script could not be read to its end; cubes that were mounted are as after a crash",
-        Status::Sink => "  the replies could not be written; cubes that were mounted are as after a crash",
-        Status::Disk => "  a read, a write or a sync of the image failed; what was acknowledged is kept, and a new run goes on from it",
-        Status::Volume => "  the image holds no volume, or its tables are damaged; 'icefs format' makes a new one, and drops what is there",
-        Status::Script => "  a script has at most 67,108,864 bytes; cubes that were mounted are as after a crash",
+        Status::Source =>
+            "  the script could not be read to its end; cubes that were mounted are as after a crash",
+        Status::Sink =>
+            "  the replies could not be written; cubes that were mounted are as after a crash",
+        Status::Disk =>
+            "  a read, a write or a sync of the image failed; what was acknowledged is kept, and a new run goes on from it",
+        Status::Volume =>
+            "  the image holds no volume, or its tables are damaged; 'icefs format' makes a new one, and drops what is there",
+        Status::Script =>
+            "  a script has at most 67,108,864 bytes; cubes that were mounted are as after a crash",
         Status::Small => "  the file has fewer blocks of 1,024 bytes than the image needs",
     }
 }
@@ -82,7 +87,11 @@ fn ended(status: Status) -> Ending {
 fn unopened(rt: &HostRuntime, name: &str, fault: OpenFault) -> Ending {
     Ending {
         status: status_of(fault),
-        reason: OpenOptions::new().read(true).write(true).open(rt, name).err(),
+        reason: OpenOptions::new()
+            .read(true)
+            .write(true)
+            .open(rt, name)
+            .err(),
     }
 }
 

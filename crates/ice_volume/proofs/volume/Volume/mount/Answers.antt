@@ -27,7 +27,7 @@ invariant_of-self g c =
     let v : VolumeView = record { system = c.self.inside.system; cells = c.self.inside.cells } in
     let lot_is : c.in-Some-lot.lot ≡ lot_of (tables_of v.system) c.in-Some.slot = c.in-Some-lot.ensures.lot ∙ sym (ap (λ (y : VolumeView). lot_of (tables_of y.system) c.in-Some.slot) c.self.view_is) in
     let state_is : c.state-state.result ≡ cell_state (slice_index_or c.self.inside.cells c.in-Some.slot c.index-self-slot.result) (is_marked (row_at c.args.self.now.system.names c.in-Some.slot)) = c.state-state.ensures
-        ∙ ap (λ (z : Cell). cell_state z (is_marked (row_at c.args.self.now.system.names c.in-Some.slot))) (sym (ap (λ (y : VolumeView). cell_at y.cells c.in-Some.slot) c.self.view_is) ∙ sym (here_of (record { system = c.self.inside.system; cells = c.self.inside.cells }) c.self.invariant c.in-Some.slot c.lot.ensures.low c.index-self-slot.result)) in
+    ∙ ap (λ (z : Cell). cell_state z (is_marked (row_at c.args.self.now.system.names c.in-Some.slot))) (sym (ap (λ (y : VolumeView). cell_at y.cells c.in-Some.slot) c.self.view_is) ∙ sym (here_of (record { system = c.self.inside.system; cells = c.self.inside.cells }) c.self.invariant c.in-Some.slot c.lot.ensures.low c.index-self-slot.result)) in
     let offline = is_marked (row_at c.args.self.now.system.names c.in-Some.slot) in
     set_sessions v c.self.invariant c.in-Some.slot c.lot.ensures.low c.mount_cell.new.cell
     (path_row (row_at v.system.names c.in-Some.slot) c.args.path.now (ap (λ (y : VolumeView). path_at y.system.names c.in-Some.slot) c.self.view_is ∙ c.in-Some.ensures.found))
@@ -40,7 +40,7 @@ returns g c = λ room.
     let cell = slice_index_or c.self.inside.cells x c.index-self-slot.result in let offline = is_marked (row_at w.system.names x) in
     let at : IsCellOf (lot_of (tables_of w.system) x) cell = subst (λ (y : VolumeView). IsCellOf (lot_of (tables_of y.system) x) cell) c.self.view_is (here_lot v c.self.invariant x c.lot.ensures.low c.index-self-slot.result) in
     let state_is : c.state-state.result ≡ cell_state (slice_index_or c.self.inside.cells c.in-Some.slot c.index-self-slot.result) (is_marked (row_at c.args.self.now.system.names c.in-Some.slot)) = c.state-state.ensures
-        ∙ ap (λ (z : Cell). cell_state z (is_marked (row_at c.args.self.now.system.names c.in-Some.slot))) (sym (ap (λ (y : VolumeView). cell_at y.cells c.in-Some.slot) c.self.view_is) ∙ sym (here_of (record { system = c.self.inside.system; cells = c.self.inside.cells }) c.self.invariant c.in-Some.slot c.lot.ensures.low c.index-self-slot.result)) in
+    ∙ ap (λ (z : Cell). cell_state z (is_marked (row_at c.args.self.now.system.names c.in-Some.slot))) (sym (ap (λ (y : VolumeView). cell_at y.cells c.in-Some.slot) c.self.view_is) ∙ sym (here_of (record { system = c.self.inside.system; cells = c.self.inside.cells }) c.self.invariant c.in-Some.slot c.lot.ensures.low c.index-self-slot.result)) in
     path_line state left v w c.self.view_is c.self.invariant x c.lot.ensures.low c.in-Some.ensures.slot (Asks (Mount c.args.path.now)) order.Mount offline c.index-self-slot.result c.mount_cell.new.cell room c.mount_cell.result
     c.args.disk.now c.mount_cell.new.disk (λ told. g.met.D.Disk.whole c.args.disk.now told)
     (subst (λ (l : LotView). AnswersOrder state left l order.Mount offline cell c.mount_cell.new.cell room c.mount_cell.result c.args.disk.now c.mount_cell.new.disk) c.in-Some-lot.ensures.lot
