@@ -5,6 +5,7 @@ use crate::hosts::{after, copy_of, session, small};
 use disk_mem::MemHost;
 use ice_base::Status;
 use std::alloc::Global;
+use std::process::Abort;
 use std::test::Fail;
 
 /// Lines on a cube, each with the closing line of its reply where no call fails. `?` stands for the cube's path.
@@ -168,16 +169,30 @@ fn complaint(
     Ok(Some(status))
 }
 
-#[test]
-fn a_failing_call_is_felt_by_one_cube_alone(rt: HostRuntime) -> Result<(), Fail> {
-    let alloc = rt.alloc();
+/// Asserts that every third call from this one on may fail.
+fn try_calls(rt: &impl Abort, alloc: Global, first: u64) -> Result<(), Fail> {
     let script = script(alloc)?;
     let good = after(alloc, script.as_bytes())?;
     assert_eq!(rt; replies_of(good.output())?, (Felt::Nobody, 60));
     let fresh = small(alloc)?;
-    for call in 0..good.calls() {
+    for call in (first..good.calls()).step_by(3) {
         let wrong = complaint(alloc, &fresh, script.as_str(), call)?;
         assert!(rt; wrong.is_none(), "call {call}: {wrong:?}");
     }
     Ok(())
+}
+
+#[test]
+fn a_failing_call_is_felt_by_one_cube_alone_from_the_first(rt: HostRuntime) -> Result<(), Fail> {
+    try_calls(&rt, rt.alloc(), 0)
+}
+
+#[test]
+fn a_failing_call_is_felt_by_one_cube_alone_from_the_second(rt: HostRuntime) -> Result<(), Fail> {
+    try_calls(&rt, rt.alloc(), 1)
+}
+
+#[test]
+fn a_failing_call_is_felt_by_one_cube_alone_from_the_third(rt: HostRuntime) -> Result<(), Fail> {
+    try_calls(&rt, rt.alloc(), 2)
 }

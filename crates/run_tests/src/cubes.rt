@@ -8,9 +8,6 @@ use std::alloc::Global;
 use std::process::Abort;
 use std::test::Fail;
 
-/// The block of the first group's bitmap, and the first behind the areas of the three slots.
-const FIRST_GROUP: u32 = 800;
-
 /// Sets blocks before the first call.
 fn set(rt: &impl Abort, host: &mut MemHost, first: u32, count: u32, block: &Block) {
     for at in first..first.saturating_add(count) {
@@ -58,20 +55,23 @@ fn a_cube_with_a_directory_has_its_bytes(rt: HostRuntime) -> Result<(), Fail> {
 const THREE: &[u8] =
     b"create /a 1\ncreate /b 1\ncreate /c 1\nmkdir /a/x\nmkdir /b/x\nmkdir /c/x\nunmount /a\nunmount /b\nunmount /c\n";
 
-/// Each slot with a session after its area and its group were filled with garbage.
-const GARBAGE: [(u32, &str, &str); 3] = [
+/// The first blocks of a slot's area and of its group, and a session after both were filled with garbage.
+const GARBAGE: [(u32, u32, &str, &str); 3] = [
     (
-        0,
+        32,
+        800,
         "mount /a\nmount /b\nmount /c\nlist /b\nlist /c\n",
         "no Damaged 1\nok 1\nok 1\ndir x\nok 1\ndir x\nok 1\n",
     ),
     (
-        1,
+        288,
+        1056,
         "mount /b\nmount /a\nmount /c\nmkdir /b/y\ncheck /b\ncubes\ncheck /a\nmkdir /c/y\nsync /c\n",
         "no Damaged 1\nok 1\nok 1\nno Unmounted\nno Damaged 1\n0 1 mounted /a\n1 1 unmounted /b\n2 1 mounted /c\nok 3\nok 1 2 1\nok\nok 2\n",
     ),
     (
-        2,
+        544,
+        1312,
         "mount /c\nmount /a\nmount /b\ndelete /c\ncreate /c 1\nlist /c\nlist /a\n",
         "no Damaged 1\nok 1\nok 1\nok\nok\nok 0\ndir x\nok 1\n",
     ),
@@ -81,11 +81,10 @@ const GARBAGE: [(u32, &str, &str); 3] = [
 fn garbage_in_one_cube_takes_no_other_with_it(rt: HostRuntime) -> Result<(), Fail> {
     let alloc = rt.alloc();
     let host = after(alloc, THREE)?;
-    for (slot, script, replies) in GARBAGE {
+    for (area, group, script, replies) in GARBAGE {
         let mut spoilt = copy_of(alloc, &host)?;
-        let first = 256 * slot;
-        set(&rt, &mut spoilt, first + 32, 256, &[0xff; 1024]);
-        set(&rt, &mut spoilt, first + FIRST_GROUP, 256, &[0xff; 1024]);
+        set(&rt, &mut spoilt, area, 256, &[0xff; 1024]);
+        set(&rt, &mut spoilt, group, 256, &[0xff; 1024]);
         answers(&rt, alloc, &mut spoilt, script, replies)?;
     }
     Ok(())
