@@ -70,6 +70,7 @@ fn hint_of(status: Status) -> &'static str {
 }
 
 /// How the program ends, and why the image could not be opened, where that is the reason.
+#[derive(Drop)]
 struct Ending {
     status: Status,
     reason: Option<io::Error>,
