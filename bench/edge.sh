@@ -10,12 +10,12 @@ folder=$(mktemp -d)
 trap 'rm -rf "$folder"' EXIT
 cd "$folder"
 
-# Runs the words that follow, and wants the status and the line on standard error.
+# Runs the words that follow, and wants the status and the first line on standard error.
 want() {
     local status=$1 line=$2 got=0
     shift 2
     "$@" 2> line > replies || got=$?
-    [ "$got" = "$status" ] && [ "$(cat line)" = "$line" ] || { echo "wanted $status '$line', not $got '$(cat line)': $*" >&2; exit 1; }
+    [ "$got" = "$status" ] && [ "$(head -n 1 line)" = "$line" ] || { echo "wanted $status '$line', not $got '$(cat line)': $*" >&2; exit 1; }
 }
 
 image() { "$program" format img --slots 4 --groups 16; }
@@ -42,7 +42,7 @@ image
 # The replies of this script go to a device without room.
 status=0
 printf 'cubes\n' | "$program" run img 2> line > /dev/full || status=$?
-[ "$status" = 4 ] && [ "$(cat line)" = 'icefs: Sink' ] || { echo "wanted 4, not $status" >&2; exit 1; }
+[ "$status" = 4 ] && [ "$(head -n 1 line)" = 'icefs: Sink' ] || { echo "wanted 4, not $status" >&2; exit 1; }
 # Where a standard stream is closed, the image isn't opened in its place.
 for closed in '<&-' '>&-' '2>&-'; do
     status=0
