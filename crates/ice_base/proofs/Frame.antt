@@ -34,6 +34,7 @@ module _ {D : Type 0} (state : D → DiskState) (left : D → ℕ → Image → 
         (λ here. inr (every i (record { count = here.0.count; same = λ k inside. here.0.same k inside.1 }), here.1)) (w.left_new t i o l);
   }
 
+  -- each crash within calls that change none of these blocks leaves what has P, where each crash before them did
   pub leaves_apart : (E S : ℕ → Type 0) (a b : D) (P : Image → Type 0) → ((k : ℕ) → E k → S k → ⊥) → Within state left S a b → Every E (state a) P
       → LeavesOnly left a b (With (state a).streams.aside P)
   leaves_apart E S a b P apart w every = record {
@@ -41,6 +42,7 @@ module _ {D : Type 0} (state : D → DiskState) (left : D → ℕ → Image → 
         (λ here. inr (every i (record { count = here.0.count; same = λ k inside. here.0.same k (apart k inside) }), here.1)) (w.left_new t i o l);
   }
 
+  -- from a moment to itself no crash leaves anything new
   pub leaves_refl : (P : Image → List ℕ → Type 0) (d : D) → LeavesOnly left d d P
   leaves_refl P d = record { each = λ t i o l. inl l }
 
@@ -61,6 +63,7 @@ module _ {D : Type 0} (state : D → DiskState) (left : D → ℕ → Image → 
   pub now_after : (S R : ℕ → Type 0) (P : Image → Type 0) (a b : D) → RestsOn R P → ((k : ℕ) → R k → ¬ S k) → Within state left S a b → P (state a).now → P (state b).now
   now_after S R P a b rests outside w p = rests (state a).now (state b).now (λ k r. w.same k (outside k r)) p
 
+  -- two steps whose crashes leave what has P are one such step, where the streams stay in the first
   pub step_then : (E : ℕ → Type 0) (P : Image → Type 0) (a b c : D) → (state b).streams ≡ (state a).streams → CrashStep state left E P a b → CrashStep state left E P b c → CrashStep state left E P a c
   step_then E P a b c streams v w = record {
     leaves = leaves_then _ a b c v.leaves
@@ -72,6 +75,7 @@ module _ {D : Type 0} (state : D → DiskState) (left : D → ℕ → Image → 
   pub step_apart : (E S : ℕ → Type 0) (P : Image → Type 0) (a b : D) → ((k : ℕ) → E k → S k → ⊥) → Within state left S a b → Every E (state a) P → CrashStep state left E P a b
   step_apart E S P a b apart w every = record { leaves = leaves_apart E S a b P apart w every; after = every_apart E S a b P apart w every }
 
+  -- a step whose crashes leave what has P is one whose crashes leave what has any weaker Q
   pub step_more : (E : ℕ → Type 0) (P Q : Image → Type 0) (a b : D) → ((i : Image) → P i → Q i) → CrashStep state left E P a b → CrashStep state left E Q a b
   step_more E P Q a b sub v = record {
     leaves = leaves_more _ _ a b (λ i o p. (sub i p.0, p.1)) v.leaves;
@@ -137,6 +141,7 @@ module _ {D : Type 0} (state : D → DiskState) (left : D → ℕ → Image → 
   pub moves_fail : {T X U Y : Type 0} (E : ℕ → Type 0) (before P after after' : Image → Type 0) (a b : D) (r : Result T X) (q : Result U Y) → IsErr q → Moves state left E r before P after a b → Moves state left E q before P after' a b
   moves_fail E before P after after' a b r q is v = record { crash = v.crash; done = λ settled p. OnOk-err _ q is }
 
+  -- a step between settled states promises of its crashes any weaker fact as well
   pub moves_more : {T X : Type 0} (E : ℕ → Type 0) (P Q before after : Image → Type 0) (a b : D) (r : Result T X) → ((i : Image) → P i → Q i)
       → Moves state left E r before P after a b → Moves state left E r before Q after a b
   moves_more E P Q before after a b r sub v = record { crash = λ settled p. step_more state left E P Q a b sub (v.crash settled p); done = v.done }

@@ -17,6 +17,7 @@ kept_then on a b c v w = record {
   settled = λ k here was. w.settled k here (v.settled k here was);
 }
 
+-- where some blocks outlasted the calls of others, so did each part of them
 pub kept_fewer : (on less : ℕ → Type 0) (a b : DiskState) → ((k : ℕ) → less k → on k) → Kept on a b → Kept less a b
 kept_fewer on less a b sub v = record { size = v.size; tells = v.tells; same = λ k here. v.same k (sub k here); settled = λ k here. v.settled k (sub k here) }
 
@@ -28,6 +29,7 @@ kept_within state left on S a b apart w = record { size = w.size; tells = w.tell
 pub kept_same : (on : ℕ → Type 0) (a b : DiskState) → SameDisk a b → Kept on a b
 kept_same on a b same = record { size = same.size; tells = same.tells; same = λ k here. ap (λ (x : Image). block x k) same.now; settled = λ k here was. same.loose k ∙ was }
 
+-- a sure fact that rests on blocks that outlasted the calls of others is sure after these calls
 pub sure_kept : (on : ℕ → Type 0) (P : Image → Type 0) (a b : DiskState) → RestsOn on P → Kept on a b → Sure on P a → Sure on P b
 sure_kept on P a b rests kept sure = record {
   settled = record { told = kept.tells ∙ sure.settled.told; settled = λ k here. kept.settled k here (sure.settled.settled k here) };

@@ -6,14 +6,17 @@ use Rattle.std.proofs.lemmas.Nat.{same_from_place, div-add-mod', mod_below, div_
 use Rattle.std.proofs.lemmas.List.Folds.{list_any_at, list_all_at}
 use Rattle.ice_base.specs.Lots.{LotView, IsLot, is_address, place, lies_below, in_extent, extent, sub_address, is_sited, area, gate_place, header_place, body_place, NoneShared, inside}
 
+-- an address of a lot is that of its sub-super block, or one within its groups
 pub address_cases : (lot : LotView) (a : ℕ) → is_address lot a ≡ true → (a ≡ sub_address) ⊎ ((a ≢ sub_address) × (a < 256 * length lot.groups))
 unfolding is_address
 address_cases lot a h = grind (arith, nat_tests)
 
+-- the sub-super block stands first in the area of its slot
 pub place-sub : (lot : LotView) (a : ℕ) → a ≡ sub_address → place lot a ≡ 32 + 256 * lot.slot
 unfolding place
 place-sub lot a h = grind (arith, nat_tests)
 
+-- any other address stands at its own place in the group that the lot lists for it
 pub place-group : (lot : LotView) (a : ℕ) → a ≢ sub_address → place lot a ≡ lot.base + 256 * slice_index lot.groups (a / 256) + a % 256
 unfolding place
 place-group lot a h = grind (arith, nat_tests)
@@ -54,6 +57,7 @@ group-apart lot a b l ha hb e =
     let o = same-ordinal lot.groups (a / 256) (b / 256) l.apart (ordinal-below lot a ha) (ordinal-below lot b hb) s.0 in
     omega (arith, div-add-mod' a 256, div-add-mod' b 256)
 
+-- two addresses of a lot that have one place are one address
 pub place-apart : (lot : LotView) (a b : ℕ) → IsLot lot → is_address lot a ≡ true → is_address lot b ≡ true → place lot a ≡ place lot b → a ≡ b
 place-apart lot a b l ha hb e =
     let r = mod_below a 256 (omega arith) in
@@ -103,6 +107,7 @@ place-sited lot n a h k = place-below lot n a (sited-below lot n h) k
 
 pub ruleset place_laws = (place-sited, place-apart, place-in)
 
+-- each lot has the address of the sub-super block
 pub is_address_sub : (lot : LotView) → is_address lot sub_address ≡ true
 unfolding is_address
 is_address_sub lot = grind (arith, nat_tests)
@@ -155,9 +160,11 @@ home_at lot a l k = ⊎_elim
 pub home_not_gate : (lot : LotView) (a : ℕ) → IsLot lot → is_address lot a ≡ true → place lot a ≢ gate_place lot
 home_not_gate lot a l k e = ⊎_elim (λ s. omega arith) (λ s. omega arith) (home_at lot a l k)
 
+-- the home of an address is not the place of the journal's header
 pub home_not_header : (lot : LotView) (a : ℕ) → IsLot lot → is_address lot a ≡ true → place lot a ≢ header_place lot
 home_not_header lot a l k e = ⊎_elim (λ s. omega arith) (λ s. omega arith) (home_at lot a l k)
 
+-- the home of an address is the place of none of the journal's 240 bodies
 pub home_not_body : (lot : LotView) (a i : ℕ) → IsLot lot → i < 240 → is_address lot a ≡ true → place lot a ≢ body_place lot i
 home_not_body lot a i l h k e = ⊎_elim (λ s. omega arith) (λ s. omega arith) (home_at lot a l k)
 

@@ -28,7 +28,8 @@ set_same xs k h =
 
 set_other : (xs : List ℕ) (k j : ℕ) → k / 8 < length xs → j ≢ k → bit_of (slice_set xs (k / 8) (bit_or (slice_index xs (k / 8)) (1 * 2 ^ (k % 8) % 256))) j ≡ bit_of xs j
 set_other xs k j h ne =
-    elim (j / 8 == k / 8) as (λ b. (j / 8 == k / 8) ≡ b → bit_of (slice_set xs (k / 8) (bit_or (slice_index xs (k / 8)) (1 * 2 ^ (k % 8) % 256))) j ≡ bit_of xs j) [
+    elim (j / 8 == k / 8) as (λ b. (j / 8 == k / 8) ≡ b
+    → bit_of (slice_set xs (k / 8) (bit_or (slice_index xs (k / 8)) (1 * 2 ^ (k % 8) % 256))) j ≡ bit_of xs j) [
       | true ↦ λ t. let same : j / 8 ≡ k / 8 = grind (arith, nat_tests) in
           let e = bit_at_set_other w8 (slice_index xs (k / 8)) (k % 8) (mod_below k 8 (omega arith)) (j % 8) (same_byte j k ne same) in
           bit_of-set xs k _ j h same ∙ ap (λ x. x == 1) e ∙ sym (bit_of-byte xs k j same)
@@ -57,8 +58,10 @@ one_bit v xs ys k here else j =
     ] refl
 
 -- a byte with one bit set, in place of the old one
-pub set_takes : (xs : List ℕ) (k : ℕ) → k / 8 < length xs → Inserts (bit_of xs) k (bit_of (slice_set xs (k / 8) (bit_or (slice_index xs (k / 8)) (1 * 2 ^ (k % 8) % 256))))
-set_takes xs k h = one_bit true xs (slice_set xs (k / 8) (bit_or (slice_index xs (k / 8)) (1 * 2 ^ (k % 8) % 256))) k (set_same xs k h) (λ j ne. set_other xs k j h ne)
+pub set_takes : (xs : List ℕ) (k : ℕ) → k / 8 < length xs
+    → Inserts (bit_of xs) k (bit_of (slice_set xs (k / 8) (bit_or (slice_index xs (k / 8)) (1 * 2 ^ (k % 8) % 256))))
+set_takes xs k h = one_bit true xs (slice_set xs (k / 8) (bit_or (slice_index xs (k / 8)) (1 * 2 ^ (k % 8) % 256))) k
+    (set_same xs k h) (λ j ne. set_other xs k j h ne)
 
 -- or cleared
 pub clear_gives : (xs : List ℕ) (k : ℕ) → k / 8 < length xs → Deletes (bit_of xs) k (bit_of (slice_set xs (k / 8) (bit_and (slice_index xs (k / 8)) (255 - 1 * 2 ^ (k % 8) % 256))))

@@ -37,6 +37,7 @@ dir-length f inode e k =
 pub per-sixteen : (f : Form) → f ≡ form_one → per_block f ≡ 16
 per-sixteen f e = rw e refl
 
+-- in version 1 each entry of a directory stands in a block of its map
 pub row-below : (f : Form) (inode : Inode) (k : ℕ) → f ≡ form_one → inode.kind ≡ 2 → k < inode.size → k / per_block f < map_length f inode
 row-below f inode k e kind h =
     let l = dir-length f inode e kind in
@@ -66,6 +67,7 @@ pub rows-sized : (f : Form) (entry : ℕ) (m : ℕ → List ℕ) (number : ℕ) 
     → dir_rows_of f m number ≡ map (row_sized entry m (inode_of m number)) (range_with_len 0 (inode_of m number).size)
 rows-sized f entry m number e same kind = rows-all f m number e kind ∙ ap (λ n. map (row_sized n m (inode_of m number)) (range_with_len 0 (inode_of m number).size)) same
 
+-- in version 1 a directory has as many rows as the size of its inode says
 pub length-rows : (f : Form) (m : ℕ → List ℕ) (number : ℕ) → f ≡ form_one → length (dir_rows_of f m number) ≡ (inode_of m number).size
 unfolding dir_rows
 length-rows f m number e = ap (λ (o : Own). length (dir_rows f o)) (own-short f e m number) ∙ length-map-range_with_len _ 0 (inode_of m number).size

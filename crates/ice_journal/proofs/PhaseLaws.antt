@@ -71,12 +71,14 @@ module _ (reads : List ℕ → Option (List ℕ)) (at : Places) (entries : List 
     bodies = λ k less. same (at.body + k) (inr (omega arith, omega (arith, less))) ∙ set.bodies k less;
   }
 
+  -- that the set is written and the homes are the map's rests on the blocks of the set and the homes
   pub full_rests : (map : ℕ → List ℕ) → RestsOn (RestsFull at entries) (Full reads at entries map)
   full_rests map i j same full = record {
     set = set_rests i j (λ k is. same k (inl is)) full.set;
     homes = λ a is. same (at.place a) (inr (a, is, refl)) ∙ full.homes a is;
   }
 
+  -- that the gate is open, the set written and the other homes the map's rests on gate, set and those homes
   pub open_rests : (map : ℕ → List ℕ) → RestsOn (RestsOpen at entries) (Open reads at entries map)
   open_rests map i j same is = record {
     gate = ap is_open (same at.gate (inl refl)) ∙ is.gate;

@@ -77,6 +77,7 @@ pub rest_rests : (lot : LotView) (map : ℕ → List ℕ) → RestsOn (RestsLot 
 rest_rests lot map i j same rest =
     idle_rest lot map j (effective_inside lot map i rest.blocks) (idle_rests (slot_targets lot) (lot_places lot) [] map i j same (rest_idle lot map i rest))
 
+-- the blocks on which a lot at rest rests are of its extent
 pub rests_lot : (lot : LotView) (k : ℕ) → RestsLot lot k → extent lot k
 rests_lot lot k (inl gate) = subst (extent lot) (sym gate) (gate_in lot)
 rests_lot lot k (inr home) = subst (extent lot) (sym home.2) (place-in lot home.0 home.1)

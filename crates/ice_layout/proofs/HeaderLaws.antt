@@ -33,6 +33,7 @@ gate_reads false = refl
 targets-more : (header : List ℕ) (n : ℕ) → targets_in header (n + 1) ≡ targets_in header n ++ word_at header (16 + 4 * n) ∷ []
 targets-more header n = map-range_with_len_more (λ i. word_at header (16 + 4 * i)) 0 n n (omega arith)
 
+-- the list of the first n targets of a header has n of them
 pub targets-length : (header : List ℕ) (n : ℕ) → length (targets_in header n) ≡ n
 targets-length header n = length-map-range_with_len (λ i. word_at header (16 + 4 * i)) 0 n
 

@@ -37,6 +37,7 @@ between-parts m inode rest k count h l =
     let r = range-append (nth_block m inode) rest (k - rest) (count - k) in
     ap (λ x. map (nth_block m inode) (range_with_len rest x)) (sym n) ∙ sym r ∙ ap (λ x. blocks_between m inode rest k ++ map (nth_block m inode) (range_with_len x (count - k))) e
 
+-- a run of a map's blocks has as many as lie between its two ends
 pub length-between : (m : ℕ → List ℕ) (inode : Inode) (rest count : ℕ) → length (blocks_between m inode rest count) ≡ count - rest
 length-between m inode rest count = length-map-range_with_len (nth_block m inode) rest (count - rest)
 
@@ -134,6 +135,7 @@ same-block m b inode k e =
       | false ↦ λ t. let n : 12 ≤ k = grind (arith, nat_tests) in nth-single m inode k n ∙ ap (λ (x : List ℕ). word_at x (4 * (k - 12))) (sym (e n)) ∙ sym (nth-single (λ _. b) inode k n)
     ] refl
 
+-- a run of a map's blocks is said by the inode and the bytes of its indirect block alone
 pub same-run : (m : ℕ → List ℕ) (b : List ℕ) (inode : Inode) (rest count : ℕ) → (12 < count → b ≡ m inode.single) → blocks_between m inode rest count ≡ blocks_between (λ _. b) inode rest count
 same-run m b inode rest count e = map_range_same (nth_block m inode) (nth_block (λ _. b) inode) rest (count - rest) (λ k l h. same-block m b inode k (λ n. e (omega arith)))
 

@@ -51,6 +51,7 @@ misled-run lot m b inode count k e h lost = record {
   bad = leads-bad lot m inode k (ap (is_data lot) (same-block m b inode k (λ n. e (omega arith))) ∙ lost);
 }
 
+-- a map past its direct blocks misleads where its indirect block is no data place
 pub misled-single : (lot : LotView) (m : ℕ → List ℕ) (inode : Inode) (count : ℕ) → 12 < count → is_data lot inode.single ≡ false → Misleads lot m inode count
 misled-single lot m inode count h lost = record {
   block = count - 1;

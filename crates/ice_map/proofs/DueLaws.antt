@@ -84,6 +84,7 @@ due-same h0 h1 s c d e f = ap (λ h. due h s d) e ∙ ap (due h0 s) f
 pub due-less : (h0 h1 : ℕ → Bool) (s c : ℕ) → ((a : ℕ) → h0 a ≡ true → h1 a ≡ true) → due h1 s c ≤ due h0 s c
 due-less h0 h1 s c g = let l = lacks-grows h0 h1 (sub_address ∷ s ∷ []) g in omega arith
 
+-- beside a bitmap block and a data block for each new block a map costs at most five addresses
 pub due-most : (h : ℕ → Bool) (s c : ℕ) → due h s c ≤ 5
 due-most h s c = let l = lacks_few h sub_address s 2 (omega arith) in grind arith
 

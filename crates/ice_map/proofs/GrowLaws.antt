@@ -36,9 +36,11 @@ inode_small n = let p = inode_place n in let r = mod_below n 64 (omega arith) in
 pub inode_not_bitmap : (n o : ℕ) → inode_address n ≢ 256 * o
 inode_not_bitmap n o e = let p = inode_place n in let f : inode_address n % 256 ≡ 256 * o % 256 = ap (λ x. x % 256) e in omega arith
 
+-- the block of an inode is no data place
 pub inode_not_data : (lot : LotView) (n a : ℕ) → is_data lot a ≡ true → inode_address n ≢ a
 inode_not_data lot n a h e = let p = data_place lot a h in let s = inode_small n in let f : inode_address n % 256 ≡ a % 256 = ap (λ x. x % 256) e in omega arith
 
+-- the block of an inode is not the sub-super block
 pub inode_not_sub : (n : ℕ) → inode_address n ≢ sub_address
 inode_not_sub n e = let s = inode_small n in let f : inode_address n % 256 ≡ 255 = ap (λ x. x % 256) e in omega arith
 

@@ -24,6 +24,7 @@ use Rattle.ice_map.proofs.OwnLaws.{times-one}
 pub uses-less : (c d : ℕ) → c ≤ d → uses_of c ≤ uses_of d
 uses-less c d h = grind (arith, nat_tests)
 
+-- a map of one block more uses what it used, and what the growth takes
 pub uses-needs : (c : ℕ) → needs c + uses_of c ≡ uses_of (c + 1)
 uses-needs c = grind (arith, nat_tests)
 
@@ -143,6 +144,7 @@ grew-put lot m0 m1 m2 x y c d at few place only g = record {
   place = g.place;
 }
 
+-- a growth to d blocks is one to e blocks, where the two are equal
 pub grew-at : (lot : LotView) (m0 m1 : ℕ → List ℕ) (x y : Inode) (c d e : ℕ) → d ≡ e → Grew lot m0 m1 x y c d → Grew lot m0 m1 x y c e
 grew-at lot m0 m1 x y c d e p g = subst (λ n. Grew lot m0 m1 x y c n) p g
 
@@ -153,6 +155,7 @@ inodes-put lot m0 m1 at place only n = ap (λ (b : List ℕ). inode_at b (n % 8)
 pub inodes-same : (m0 m1 : ℕ → List ℕ) → m1 ≡ m0 → InodesStay m0 m1
 inodes-same m0 m1 e n = ap (λ (m : ℕ → List ℕ). inode_at (m (inode_address n)) (n % 8)) e
 
+-- inodes that stay in one change and in the next stay in both
 pub inodes-then : (m0 m1 m2 : ℕ → List ℕ) → InodesStay m0 m1 → InodesStay m1 m2 → InodesStay m0 m2
 inodes-then m0 m1 m2 a b n = b n ∙ a n
 
@@ -233,6 +236,7 @@ misled-here lot m0 m1 x c k l mixed lost =
           ] refl
     ] refl
 
+-- where the way to a block that a growth didn't add strays, the map before it misled or used a block twice
 pub misled-from : (lot : LotView) (m0 m1 : ℕ → List ℕ) (x y : Inode) (c d k : ℕ) → Grew lot m0 m1 x y c d → (k < d → k < c) → (k < c → 12 < c → Unmixed m0 m1 x c) → Strays lot m1 y d k → Confuses lot m0 x c
 misled-from lot m0 m1 x y c d k g old mixed s = ⊎_elim
     (λ p.

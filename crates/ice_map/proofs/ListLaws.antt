@@ -10,19 +10,23 @@ use Rattle.ice_base.specs.Spare.{has, lacks, Except, Where}
 use Rattle.ice_base.proofs.CountLaws.{count_below-zero, count_below-add_one}
 use Rattle.ice_map.specs.Maps.{times}
 
+-- two joined lists have the addresses of both
 pub has-append : (xs ys : List ℕ) (b : ℕ) → has (xs ++ ys) b ≡ cond (has xs b) true (has ys b)
 unfolding has
 has-append [] ys b = refl
 has-append (x ∷ xs) ys b = let r = has-append xs ys b in grind arith
 
+-- a list of one address has that one alone
 pub has-one : (a b : ℕ) → has (a ∷ []) b ≡ (b == a)
 unfolding has
 has-one a b = grind (arith, nat_tests)
 
+-- the empty list has no address
 pub has-none : (b : ℕ) → has [] b ≡ false
 unfolding has
 has-none b = refl
 
+-- an address stands in two joined lists as often as in both together
 pub times-append : (xs ys : List ℕ) (b : ℕ) → times (xs ++ ys) b ≡ times xs b + times ys b
 times-append xs ys b = sum_by-append (λ x. cond (x == b) 1 0) xs ys
 
@@ -51,21 +55,26 @@ count_none p (suc n) h =
 abbrev pub AllHas : List ℕ → List ℕ → Type 0
 AllHas wide xs = (x : ℕ) → has xs x ≡ true → has wide x ≡ true
 
+-- a list has its first address
 pub has-head : (a : ℕ) (xs : List ℕ) → has (a ∷ xs) a ≡ true
 unfolding has
 has-head a xs = grind (arith, nat_tests)
 
+-- a list has each address of its tail
 pub has-tail : (a b : ℕ) (xs : List ℕ) → has xs b ≡ true → has (a ∷ xs) b ≡ true
 unfolding has
 has-tail a b xs h = grind arith
 
+-- a list has its first address and those of its tail, and no other
 pub has-cons : (a b : ℕ) (xs : List ℕ) → has (a ∷ xs) b ≡ cond (a == b) true (has xs b)
 unfolding has
 has-cons a b xs = refl
 
+-- two joined lists have each address of the first
 pub has-left : (xs ys : List ℕ) → AllHas (xs ++ ys) xs
 has-left xs ys x h = let e = has-append xs ys x in grind arith
 
+-- two joined lists have each address of the second
 pub has-right : (xs ys : List ℕ) → AllHas (xs ++ ys) ys
 has-right xs ys x h = let e = has-append xs ys x in grind arith
 
@@ -76,6 +85,7 @@ has-not wide xs a all out =
       | false ↦ λ t. refl
     ] refl
 
+-- what holds of an address unless a list has it holds where the list doesn't have it
 pub except_elim : (a : ℕ) (xs : List ℕ) (P : Type 0) → Except a xs P → has xs a ≡ false → P
 except_elim a [] P p out = p
 except_elim a (b ∷ xs) P p out =
@@ -102,9 +112,11 @@ where_intro wide (a ∷ xs) P f = λ h. where_intro wide xs P (λ all. f (λ x k
       | false ↦ λ t. all x (grind arith)
     ] refl))
 
+-- an address stands in a list as often as in its tail, and once more where it is the first
 pub times-cons : (a b : ℕ) (xs : List ℕ) → times (a ∷ xs) b ≡ cond (a == b) 1 0 + times xs b
 times-cons a b xs = let e = times-append (a ∷ []) xs b in omega arith
 
+-- an address that a list has stands in it at least once
 pub has-times : (xs : List ℕ) (b : ℕ) → has xs b ≡ true → 1 ≤ times xs b
 has-times [] b h = let e = has-none b in absurd cc
 has-times (a ∷ xs) b h =

@@ -17,6 +17,7 @@ use Rattle.ice_map.proofs.ListLaws.{has-append, has-one, count_none}
 pub data_not_bitmap : (lot : LotView) (a o : ℕ) → is_data lot a ≡ true → 256 * o ≢ a
 data_not_bitmap lot a o h e = let p = data_place lot a h in let f : a % 256 ≡ 256 * o % 256 = ap (λ x. x % 256) (sym e) in omega arith
 
+-- in a lot of at most 64 groups no data place is the sub-super block
 pub data_not_sub : (lot : LotView) (a : ℕ) → length lot.groups ≤ 64 → is_data lot a ≡ true → sub_address ≢ a
 data_not_sub lot a few h e = let b = data_below lot a h in omega arith
 
@@ -25,6 +26,7 @@ pub used-same : (inodes : Bool) (m0 m1 : ℕ → List ℕ) (i : ℕ) → ((o : �
 unfolding used
 used-same inodes m0 m1 i h = ap (λ x. bit_of x (bit_place inodes i)) (h _)
 
+-- where each block is marked as it was, as many are free
 pub free-same : (lot : LotView) (m0 m1 : ℕ → List ℕ) → ((b : ℕ) → used_block m1 b ≡ used_block m0 b) → free_count false lot m1 ≡ free_count false lot m0
 free-same lot m0 m1 h = count_below-same (λ i. not (used_block m0 i)) (λ i. not (used_block m1 i)) (256 * length lot.groups) (λ b l. ap not (h b))
 

@@ -28,6 +28,7 @@ moved-then lot m0 m1 m2 x y z c d e a b = record {
   size = b.size ∙ a.size;
 }
 
+-- where nothing changed, a well-made map moved to itself
 pub moved-refl : (lot : LotView) (m : ℕ → List ℕ) (x : Inode) (c : ℕ) → MadeOf lot m x c → Moved lot m m x x c c
 moved-refl lot m x c made = record {
   made = made;
@@ -64,6 +65,7 @@ module _ (lot : LotView) (m0 m1 : ℕ → List ℕ) (x : Inode) (c k at : ℕ) (
     unused = made.unused;
   }
 
+  -- the map moved to one of as many blocks
   pub put-moved : Moved lot m0 m1 x x c c
   put-moved = record {
     made = put-made;
@@ -76,9 +78,11 @@ module _ (lot : LotView) (m0 m1 : ℕ → List ℕ) (x : Inode) (c k at : ℕ) (
     size = refl;
   }
 
+  -- each other block of the map holds what it held
   pub put-others : (n : ℕ) → n < c → n ≢ k → content_of m1 x n ≡ content_of m0 x n
   put-others n h ne = ap m1 (put-nth n h) ∙ only (nth_block m0 x n) (λ e. nth-apart m0 x c n k made.once ne h small (e ∙ sym here))
 
+  -- the block that was put holds what was put
   pub put-here : content_of m1 x k ≡ m1 at
   put-here = ap m1 (put-nth k small ∙ here)
 

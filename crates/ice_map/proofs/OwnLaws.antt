@@ -56,6 +56,7 @@ times-has xs b h =
       | false ↦ λ t. let n = times-none xs b t in absurd (omega arith)
     ] refl
 
+-- a list doesn't have an address that stands in it no times
 pub times-zero : (xs : List ℕ) (b : ℕ) → times xs b ≡ 0 → has xs b ≡ false
 times-zero xs b h =
     elim (has xs b) as (λ t. has xs b ≡ t → t ≡ false) [
@@ -139,6 +140,7 @@ length-indirect x c =
       | false ↦ λ t. ap (λ (xs : List ℕ). length xs) (indirect-none x c (grind (arith, nat_tests))) ∙ ap (λ t. cond t 1 0) (sym t)
     ] refl
 
+-- how many blocks a map uses follows from its number of blocks
 pub length-uses : (m : ℕ → List ℕ) (x : Inode) (c : ℕ) → length (uses m x c) ≡ uses_of c
 length-uses m x c =
     let a = length-append (indirect_of x c) (blocks_of m x c) in
@@ -150,6 +152,7 @@ length-uses m x c =
 pub uses-nth : (m : ℕ → List ℕ) (x : Inode) (c n : ℕ) → n < c → has (uses m x c) (nth_block m x n) ≡ true
 uses-nth m x c n h = has-right (indirect_of x c) (blocks_of m x c) (nth_block m x n) (has-range (nth_block m x) 0 c n (omega arith) (omega arith))
 
+-- a map past its direct blocks uses its indirect block
 pub uses-single : (m : ℕ → List ℕ) (x : Inode) (c : ℕ) → 12 < c → has (uses m x c) x.single ≡ true
 uses-single m x c h = has-left (indirect_of x c) (blocks_of m x c) x.single (ap (λ xs. has xs x.single) (indirect-one x c h) ∙ has-head x.single [])
 

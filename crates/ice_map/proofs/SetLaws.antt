@@ -19,6 +19,7 @@ use Rattle.tree_spec.specs.Costs.{Form, form_one}
 abbrev pub resized : Inode → ℕ → Inode
 resized x s = record { kind = x.kind; size = s; direct = x.direct; single = x.single; double = x.double }
 
+-- an inode of another size names the same blocks
 pub nth-resized : (m : ℕ → List ℕ) (x : Inode) (s n : ℕ) → nth_block m (resized x s) n ≡ nth_block m x n
 unfolding nth_block
 nth-resized m x s n = refl
@@ -51,6 +52,7 @@ own-stays m0 m1 i n same =
 -- an inode of a map that moved was put with another size
 module _ (lot : LotView) (m0 m1 m2 : ℕ → List ℕ) (x y : Inode) (c d s : ℕ) (f : Form) (one : f ≡ form_one) (number : ℕ) (is : inode_of m0 number ≡ x) (count : map_length f x ≡ c) (moved : Moved lot m0 m1 x y c d)
     (set : InodeSet m1 m2 number (resized y s)) (next : map_length f (resized y s) ≡ d) (only : (b : ℕ) → b ≢ inode_address number → m2 b ≡ m1 b) where
+  -- the put of the inode leaves each data place
   pub set-data : (b : ℕ) → is_data lot b ≡ true → m2 b ≡ m1 b
   set-data b h = only b (λ e. inode_not_data lot number b h (sym e))
 
@@ -60,6 +62,7 @@ module _ (lot : LotView) (m0 m1 m2 : ℕ → List ℕ) (x y : Inode) (c d s : �
   set-sub : m2 sub_address ≡ m1 sub_address
   set-sub = only sub_address (λ e. inode_not_sub number (sym e))
 
+  -- the inode that was put names the blocks of the map that moved
   pub set-nth : (n : ℕ) → n < d → nth_block m2 (resized y s) n ≡ nth_block m1 y n
   set-nth n h = nth-resized m2 y s n ∙ nth-moves m1 m2 y n (λ l. set-data y.single (moved.made.holds y.single (uses-single m1 y d (omega arith))).0)
 
@@ -93,6 +96,7 @@ module _ (lot : LotView) (m0 m1 m2 : ℕ → List ℕ) (x y : Inode) (c d s : �
       set-data b q.0 ∙ moved.stays.blocks b q.0 q.1 (ap (λ xs. has xs b) (sym old-uses) ∙ apart b u))
       ∙ sym (own-short f one m0 k)
 
+  -- the inode was set: it is well made, the marks follow it, and every other inode says what it said
   pub own-set : OwnSet lot f m0 m2 number
   own-set = record {
     made = short-made lot f one m2 number (subst (λ (i : Inode). MadeOf lot m2 i (map_length f i)) (sym set.value) (subst (λ n. MadeOf lot m2 (resized y s) n) (sym next) set-made));

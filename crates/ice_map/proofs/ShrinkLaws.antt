@@ -16,6 +16,7 @@ use Rattle.ice_map.specs.Own.{MadeOf, RestIsZero, Holds}
 use Rattle.ice_map.specs.Moves.{Moved, content_of, uses_of}
 use Rattle.ice_map.proofs.OwnLaws.{times-has, times-zero, marks-cut, length-uses, uses-nth}
 
+-- a map uses as many blocks as the cut map and what is cut off together
 pub length-cut_off : (m : ℕ → List ℕ) (x : Inode) (c r : ℕ) → r ≤ c → uses_of c ≡ uses_of r + length (cut_off m x c r)
 length-cut_off m x c r h =
     let l = length-map-range_with_len (nth_block m x) r (c - r) in
@@ -79,6 +80,7 @@ module _ (lot : LotView) (m0 m1 : ℕ → List ℕ) (x y : Inode) (c r : ℕ) (m
       let l = length-cut_off m0 x c r order in
       omega arith
 
+  -- a well-made map that was cut moved to its first r blocks
   pub cut-moved : Moved lot m0 m1 x y c r
   cut-moved = record {
     made = record { holds = cut-holds; once = λ b. let u = was.used b in let o = made.once b in omega arith; unused = cut-unused };
@@ -88,6 +90,7 @@ module _ (lot : LotView) (m0 m1 : ℕ → List ℕ) (x y : Inode) (c r : ℕ) (m
     size = ap (λ (i : Inode). i.size) fields;
   }
 
+  -- each block that the cut left holds what it held
   pub cut-contents : (n : ℕ) → n < r → content_of m1 y n ≡ content_of m0 x n
   cut-contents n h =
       let e : nth_block m1 y n ≡ nth_block m0 x n = sym (get_or-map-range_with_len (nth_block m1 y) 0 r n n 0 h (omega arith)) ∙ ap (λ (xs : List ℕ). slice_index xs n) was.blocks ∙ get_or-map-range_with_len (nth_block m0 x) 0 r n n 0 h (omega arith) in

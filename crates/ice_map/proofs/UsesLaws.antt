@@ -120,6 +120,7 @@ off-times m x c r h b =
     let last : times (cond (ltb 12 c && leb r 12) (x.single ∷ []) []) b ≤ times (indirect_of x c) b = last-times (ltb 12 c) (leb r 12) x.single b in
     omega arith
 
+-- a map uses each block that a cut of it gives back
 pub off-has : (m : ℕ → List ℕ) (x : Inode) (c r : ℕ) → r ≤ c → (b : ℕ) → has (cut_off m x c r) b ≡ true → has (uses m x c) b ≡ true
 off-has m x c r h b k = let t = off-times m x c r h b in let n = has-times (cut_off m x c r) b k in times-has (uses m x c) b (omega arith)
 

@@ -19,18 +19,23 @@ use Rattle.ice_reads.proofs.Frames.{SameAt, inodes_in, Reads-frame, ReadsEach-fr
 
 -- ---- the ends of walks
 
+-- two equal ends of walks that found a tree found the same tree
 pub same_Found : (t u : Tree) → Found t ≡ Found u → t ≡ u
 same_Found t u e = cc
 
+-- two equal options that have a value have the same value
 pub same_Some : {A : Type 0} (t u : A) → Some t ≡ Some u → t ≡ u
 same_Some t u e = cc
 
+-- a walk that found a tree didn't end at a name that is not there
 pub Found≢NotFound : (t : Tree) → Found t ≡ NotFound → ⊥
 Found≢NotFound t e = cc
 
+-- a walk that found a tree didn't end at a file in place of a directory
 pub Found≢NotDir : (t : Tree) → Found t ≡ NotDir → ⊥
 Found≢NotDir t e = cc
 
+-- an option that has a value is not the one without
 pub None≢Some : {A : Type 0} (t : A) → None ≡ Some t → ⊥
 None≢Some t e = cc
 
@@ -41,6 +46,7 @@ is_some-on g false r = refl
 
 -- the tree's own list is made of those of its parts, at every list that inodes may use
 module _ (f : Form) (o : Table) (mine : ℕ → List ℕ) (k : ℕ) where
+  -- the tree of an entry uses a number no more often than all the entries do
   pub uses-entry : (rs : List DirRow) (c : List ℕ) (es : Entries) (u : Tree) → find by_bytes c (rows es) ≡ Some u → times (tree_uses f o mine (inode_named c rs) u) k ≤ times (entries_use f o mine rs es) k
   uses-entry rs c Nil u h = absurd (None≢Some u h)
   uses-entry rs c (Entry d t es) u h =
@@ -72,6 +78,7 @@ module _ (f : Form) (lot : LotView) where
   }
 
 module _ (f : Form) (lot : LotView) (o : Table) where
+  -- where rows stand for entries, the inode in the row of an entry's name stands for the entry's tree
   pub entry_reads : (rs : List DirRow) (h : ℕ) (c : List ℕ) (es : Entries) (u : Tree) → find by_bytes c (rows es) ≡ Some u → ReadsEach f lot o rs h es → Reads f lot o (inode_named c rs) h u
   entry_reads rs h c Nil u is r = absurd (None≢Some u is)
   entry_reads rs h c (Entry d t es) u is r =
@@ -188,6 +195,7 @@ module _ (f : Form) (o p : Table) (mine yours : ℕ → List ℕ) (alike : (k : 
             )
       ] refl is
 
+  -- where the part at a walk's end changed, the whole tree uses more or less by what that part does
   pub uses-at : (q : List (List ℕ)) (i : ℕ) (g : Tree → Tree) (t s : Tree) → walk q t ≡ Found s → SameOutside o p (used_inodes f o (inode_on f o i q) s) (used_inodes f o i t)
       → measure (tree_uses f p yours i (at q g t)) + measure (tree_uses f o mine (inode_on f o i q) s) ≡ measure (tree_uses f p yours (inode_on f o i q) (g s)) + measure (tree_uses f o mine i t)
   uses-at [] i g t s is same = subst (λ x. measure (tree_uses f p yours i (g t)) + measure (tree_uses f o mine i x) ≡ measure (tree_uses f p yours i (g x)) + measure (tree_uses f o mine i t)) (same_Found _ _ is) refl

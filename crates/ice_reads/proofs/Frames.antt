@@ -12,14 +12,17 @@ use Rattle.ice_reads.specs.Reads.{Reads, ReadsEach, tree_uses, entries_use, used
 
 -- ---- how often a number stands in a list
 
+-- the first number of a list stands in it once more than in its tail
 pub times-here : (x : ℕ) (xs : List ℕ) → times (x ∷ xs) x ≡ suc (times xs x)
 times-here x xs =
     let t : (x == x) ≡ true = grind (arith, nat_tests) in
     times-cons x x xs ∙ ap (λ b. cond b 1 0 + times xs x) t ∙ omega arith
 
+-- a number stands in a list at least as often as in its tail
 pub times-there : (x y : ℕ) (xs : List ℕ) → times xs x ≤ times (y ∷ xs) x
 times-there x y xs = omega (arith, times-cons y x xs)
 
+-- a number stands in a list as often as in its tail, where another is the first
 pub times-other : (x y : ℕ) (xs : List ℕ) → (y == x) ≡ false → times (y ∷ xs) x ≡ times xs x
 times-other x y xs e = times-cons y x xs ∙ ap (λ b. cond b 1 0 + times xs x) e ∙ omega arith
 
@@ -47,6 +50,7 @@ tail {i = i} {is = is} same = record { at = λ k h. same.at k (omega (arith, tim
 
 module _ (f : Form) (lot : LotView) (o p : Table) where
   mutual
+    -- where two tables agree at the inodes of a tree, an inode that stands for it in one does in the other
     pub Reads-frame : (i h : ℕ) (t : Tree) → SameAt o p (used_inodes f o i t) → Reads f lot o i h t → Reads f lot p i h t
     Reads-frame i h (File bytes) same r = subst (λ x. IsInode f lot x i h × IsFileInode f x bytes) (sym (head same)) r
     Reads-frame i h (Dir es) same r =
@@ -62,6 +66,7 @@ module _ (f : Form) (lot : LotView) (o p : Table) where
 -- `mine` and `yours` say what each inode uses in the two tables
 module _ (f : Form) (o p : Table) (mine yours : ℕ → List ℕ) (alike : (k : ℕ) → p k ≡ o k → yours k ≡ mine k) where
   mutual
+    -- where two tables agree at the inodes of a tree, it uses the same in both
     pub uses-frame : (i : ℕ) (t : Tree) → SameAt o p (used_inodes f o i t) → tree_uses f p yours i t ≡ tree_uses f o mine i t
     uses-frame i (File bytes) same = alike i (head same)
     uses-frame i (Dir es) same =

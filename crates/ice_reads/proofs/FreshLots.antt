@@ -126,6 +126,7 @@ module _ (lot : LotView) (m : Map) (fresh : IsFreshLot lot m) where
       later : (suc i / 64 == 0) ≡ true → 0 < suc i % 64
       later t = let q : suc i / 64 ≡ 0 = grind (arith, nat_tests) in omega (arith, div-add-mod' (suc i) 64)
 
+  -- a fresh lot recovers the empty directory, with the mode 0 and the count 0
   pub fresh_recovers : MapRecovers form_one 0 lot m (Dir Nil) 0
   fresh_recovers = record {
     sub = record {

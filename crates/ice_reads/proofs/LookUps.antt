@@ -38,6 +38,7 @@ first_of false e r = refl
 named-same : (c : List ℕ) (e : DirRow) → named c e ≡ is_same_name c e.0
 named-same c e = texts_ties e.0 c ∙ is_same_name-sym e.0 c
 
+-- a look-up of a name in rows is that in the finite map that the rows are
 pub look_up-find : (c : List ℕ) (rs : List DirRow) → look_up c rs ≡ find by_bytes c rs
 look_up-find c [] = refl
 look_up-find c (e ∷ rs) =
@@ -51,6 +52,7 @@ module _ (f : Form) (lot : LotView) (o : Table) (i h : ℕ) (c : List ℕ) (es :
   abbrev rs : List DirRow
   rs = rows_in f (o i)
 
+  -- where a row has the name, the directory has an entry of it, and the row's inode stands for its tree
   pub child-found : (j : ℕ) → Reads f lot o i h (Dir es) → look_up c rs ≡ Some j → (s : Tree) × (child c (Dir es) ≡ Found s) × Reads f lot o j (h + 1) s × (inode_named c rs ≡ j)
   child-found j r is =
       let row : find by_bytes c rs ≡ Some j = sym (look_up-find c rs) ∙ is in
@@ -60,6 +62,7 @@ module _ (f : Form) (lot : LotView) (o : Table) (i h : ℕ) (c : List ℕ) (es :
         | Some s ↦ λ e. (s, refl, subst (λ x. Reads f lot o x (h + 1) s) here (entry_reads f lot o rs (h + 1) c es s e r.2), here)
       ] refl
 
+  -- where no row has the name, the directory has no entry of it
   pub child-none : Reads f lot o i h (Dir es) → look_up c rs ≡ None → child c (Dir es) ≡ NotFound
   child-none r is =
       let none : is_some (find by_bytes c (rows es)) ≡ false = r.1.maps c ∙ ap is_some (sym (look_up-find c rs) ∙ is) in

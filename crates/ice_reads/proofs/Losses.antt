@@ -28,6 +28,7 @@ module _ (f : Form) (lot : LotView) (o : Table) where
   IsInode-shift i h k fits r = record { depth = fits; number = r.number; places = r.places; rest = r.rest }
 
   mutual
+    -- an inode that stands for a tree does so at each depth that leaves room for the tree's height
     pub Reads-shift : (i h k : ℕ) (t : Tree) → k + height t ≤ deepest → Reads f lot o i h t → Reads f lot o i k t
     Reads-shift i h k (File bytes) fits r = (IsInode-shift i h k (omega arith) r.0, r.1)
     Reads-shift i h k (Dir es) fits r = (IsInode-shift i h k (omega arith) r.0, r.1, ReadsEach-shift (rows_in f (o i)) (h + 1) (k + 1) es (omega arith) r.2)
@@ -37,6 +38,8 @@ module _ (f : Form) (lot : LotView) (o : Table) where
     ReadsEach-shift rs h k (Entry c t es) fits r = (Reads-shift (inode_named c rs) h k t (omega arith) r.0, ReadsEach-shift rs h k es (omega arith) r.1)
 
 -- ---- a row that goes
+
+-- what the directory layer says of one row less: each other name is looked up as it was
 pub record LosesRow (f : Form) (lot : LotView) (x y : Own) (i h : ℕ) (c : List ℕ) : Type 0 where
   pub common : IsInode f lot x i h → IsInode f lot y i h
   pub is_dir : y.inode.kind ≡ 2
@@ -124,6 +127,7 @@ module _ (f : Form) (lot : LotView) (o p : Table) (i h : ℕ) (c : List ℕ) (v 
 
 -- ---- the rows of a directory as a list
 
+-- a directory has as many rows as the size of its inode says
 pub length-rows_in : (f : Form) (x : Own) → length (rows_in f x) ≡ x.inode.size
 unfolding dir_rows
 length-rows_in f x = length-map-range_with_len _ 0 x.inode.size

@@ -36,11 +36,13 @@ module _ (f : Form) (lot : LotView) (o p : Table) (q : List (List ℕ)) (c : Lis
   kept_same : SameAt o p (inodes_in f o (rows_in f (o here)) (without c es))
   kept_same = record { at = λ k h. (in_dir f o p q 0 t es found once same).at k (omega (arith, uses_in-without f o one (rows_in f (o here)) (λ xs. times xs k) (λ xs ys. times-append xs ys k) c v es dir_reads.1.sorted is)) }
 
+  -- the root stands for the tree without the entry
   pub Reads-without_entry : Reads f lot p 0 0 (at q (without_entry c) t)
   Reads-without_entry = Reads-at f lot o p q 0 0 (without_entry c) t (Dir es) found r
       (subst (λ x. Reads f lot p here x (without_entry c (Dir es))) (sym level) (Reads-loses f lot o p here (length q) c v es dir_reads is a kept_same))
       (outside_dir f o p q 0 t es found once same)
 
+  -- the tree uses less by what the entry's tree used, and more or less by what the directory's own inode does
   pub uses-without_entry : (mine yours : ℕ → List ℕ) → ((k : ℕ) → p k ≡ o k → yours k ≡ mine k) → (measure : List ℕ → ℕ) → ((xs ys : List ℕ) → measure (xs ++ ys) ≡ measure xs + measure ys)
       → measure (tree_uses f p yours 0 (at q (without_entry c) t)) + measure (tree_uses f o mine gone v) + measure (mine here) ≡ measure (tree_uses f o mine 0 t) + measure (yours here)
   uses-without_entry mine yours like measure adds =
@@ -54,9 +56,11 @@ module _ (f : Form) (lot : LotView) (o p : Table) (q : List (List ℕ)) (c : Lis
   gone_same : SameAt o p (used_inodes f o gone v)
   gone_same = record { at = λ k h. (in_dir f o p q 0 t es found once same).at k (omega (arith, uses-entry f o one k (rows_in f (o here)) c es v is)) }
 
+  -- its inode stands for the tree that it stood for
   pub Reads-gone : Reads f lot p gone (length q + 1) v
   Reads-gone = Reads-frame f lot o p gone (length q + 1) v gone_same (entry_reads f lot o (rows_in f (o here)) (length q + 1) c es v is dir_reads.2)
 
+  -- this tree uses what it used
   pub uses-gone : (mine yours : ℕ → List ℕ) → ((k : ℕ) → p k ≡ o k → yours k ≡ mine k) → tree_uses f p yours gone v ≡ tree_uses f o mine gone v
   uses-gone mine yours like = uses-frame f o p mine yours like gone v gone_same
 

@@ -21,10 +21,12 @@ use Rattle.ice_reads.proofs.Frames.{inodes_in, times-other}
 
 module _ (f : Form) (o : Table) (mine : ℕ → List ℕ) where
   mutual
+    -- a tree uses what its inodes use, one after another
     pub uses-flat : (i : ℕ) (t : Tree) → tree_uses f o mine i t ≡ flat_map mine (used_inodes f o i t)
     uses-flat i (File bytes) = sym (append-nil (mine i))
     uses-flat i (Dir es) = ap (λ xs. mine i ++ xs) (uses_in-flat (rows_in f (o i)) es)
 
+    -- entries use what the inodes of their trees use, one after another
     pub uses_in-flat : (rs : List DirRow) (es : Entries) → entries_use f o mine rs es ≡ flat_map mine (inodes_in f o rs es)
     uses_in-flat rs Nil = refl
     uses_in-flat rs (Entry c t es) =
@@ -62,9 +64,11 @@ apart mine a i k (x ∷ is) ne h g =
 
 -- what one used inode uses, and what two use
 module _ (f : Form) (o : Table) (mine : ℕ → List ℕ) (a i k n : ℕ) (t : Tree) where
+  -- a tree uses a number at least as often as any one of its inodes does
   pub used-one : 0 < times (used_inodes f o n t) i → times (mine i) a ≤ times (tree_uses f o mine n t) a
   used-one h = omega (arith, one_of mine a i (used_inodes f o n t) h, ap (λ xs. times xs a) (uses-flat f o mine n t))
 
+  -- a tree uses a number at least as often as any two of its inodes do together
   pub used-apart : i ≢ k → 0 < times (used_inodes f o n t) i → 0 < times (used_inodes f o n t) k → times (mine i) a + times (mine k) a ≤ times (tree_uses f o mine n t) a
   used-apart ne h g = omega (arith, apart mine a i k (used_inodes f o n t) ne h g, ap (λ xs. times xs a) (uses-flat f o mine n t))
 
@@ -100,13 +104,16 @@ module _ (f : Form) (lot : LotView) (o : Table) where
             | false ↦ λ e. absurd (omega (arith, times-other k j [] e))
           ] refl
 
+  -- each inode that a tree uses is one of the lot
   pub Reads-number : (k i h : ℕ) (t : Tree) → Reads f lot o i h t → 0 < times (used_inodes f o i t) k → k < 64 * length lot.groups
   Reads-number k i h t r c = (Reads-inode k i h t r c).1.number
 
+  -- each block that a tree uses is a data place
   pub Reads-data : (b i h : ℕ) (t : Tree) → Reads f lot o i h t → 0 < times (used_blocks f o i t) b → is_data lot b ≡ true
   Reads-data b i h t r c = used-all f lot o (λ i. (o i).uses) b (is_data lot b ≡ true) (λ j d own q. own.places b (times-has (o j).uses b (omega (arith, q)))) i h t r c
 
   mutual
+    -- the depth of an inode that stands for a tree leaves room for the tree's height
     pub Reads-depth : (i h : ℕ) (t : Tree) → Reads f lot o i h t → h + height t ≤ deepest
     Reads-depth i h (File bytes) r = omega (arith, r.0.depth)
     Reads-depth i h (Dir es) r = omega (arith, r.0.depth, ReadsEach-depth (rows_in f (o i)) (h + 1) es (omega (arith, r.0.depth)) r.2)

@@ -29,6 +29,7 @@ use Rattle.ice_reads.proofs.Unique.{Reads-unique}
 
 -- ---- one tree, one count, one mode
 
+-- a map of a lot's blocks recovers one tree at most, with one count and one mode
 pub recovers_one : (f : Form) (mode other : ℕ) (lot : LotView) (m : Map) (t u : Tree) (j k : ℕ) → MapRecovers f mode lot m t j → MapRecovers f other lot m u k → (t ≡ u) × (j ≡ k) × (mode ≡ other)
 recovers_one f mode other lot m t u j k a b =
     (Reads-unique f lot (own f m) t 0 0 0 u a.holds.reads b.holds.reads, sym a.sub.done ∙ b.sub.done, sym a.sub.mode ∙ b.sub.mode)
@@ -50,6 +51,7 @@ sub_small slot bytes h =
     last_passes (word_at bytes 0 == sub_magic) (word_at bytes 4 == 1) (slice_index bytes 8 == slot) (slice_index bytes 9 == 0) (nat_lt (long_at bytes 16) (2 ^ 63)) Magic Version Slot Mode Done h in
     grind (arith, nat_tests)
 
+-- the count with which a map recovers a tree is below 2 ^ 63
 pub recovers_small : (f : Form) (mode : ℕ) (lot : LotView) (m : Map) (t : Tree) (k : ℕ) → MapRecovers f mode lot m t k → k < 2 ^ 63
 recovers_small f mode lot m t k a =
     let s : long_at (m sub_address) 16 < 2 ^ 63 = sub_small lot.slot (m sub_address) a.sub.sound in

@@ -14,6 +14,7 @@ both false b p q = p
 
 module _ (f : Form) (lot : LotView) (o : Table) where
   mutual
+    -- a tree that an inode stands for has the names of each directory in order
     pub Reads-ordered : (i h : ℕ) (t : Tree) → Reads f lot o i h t → T (is_ordered t)
     Reads-ordered i h (File bytes) r = tt
     Reads-ordered i h (Dir es) r = both _ _ r.1.sorted (ReadsEach-ordered (rows_in f (o i)) (h + 1) es r.2)

@@ -49,6 +49,7 @@ module _ (rs ss : List DirRow) where
   uses_in-rows f o mine (Entry c t es) same = λ i. tree_uses f o mine (at_head c t es same i) t ++ uses_in-rows f o mine es (at_tail c t es same) i
 
 module _ (f : Form) (lot : LotView) (o : Table) (rs : List DirRow) (h : ℕ) where
+  -- rows that stand for entries, and for a tree at a name, stand for the entries with that tree put at the name
   pub ReadsEach-put : (c : List ℕ) (v : Tree) (es : Entries) → ReadsEach f lot o rs h es → Reads f lot o (inode_named c rs) h v → ReadsEach f lot o rs h (from_rows (put by_bytes c v (rows es)))
   ReadsEach-put c v Nil r new = (new, tt)
   ReadsEach-put c v (Entry d t es) r new =
@@ -67,6 +68,7 @@ module _ (f : Form) (lot : LotView) (o : Table) (rs : List DirRow) (h : ℕ) whe
       ]
 
 module _ (f : Form) (o : Table) (mine : ℕ → List ℕ) (rs : List DirRow) (measure : List ℕ → ℕ) (adds : (xs ys : List ℕ) → measure (xs ++ ys) ≡ measure xs + measure ys) where
+  -- entries to which a new name was put use what they used, and what the tree of the name uses
   pub uses_in-put : (c : List ℕ) (v : Tree) (es : Entries) → find by_bytes c (rows es) ≡ None → measure (entries_use f o mine rs (from_rows (put by_bytes c v (rows es)))) ≡ measure (tree_uses f o mine (inode_named c rs) v) + measure (entries_use f o mine rs es)
   uses_in-put c v Nil none = adds (tree_uses f o mine (inode_named c rs) v) []
   uses_in-put c v (Entry d t es) none =
@@ -85,6 +87,7 @@ pub record AddsRow (f : Form) (lot : LotView) (x y : Own) (i h : ℕ) (c : List 
   pub more : y.inode.size ≡ x.inode.size + 1
   pub added : rows_in f y ≡ rows_in f x ++ (c, j) ∷ []
 
+-- an option that doesn't have a value is the one without
 pub not_some : {A : Type 0} (r : Option A) → is_some r ≡ false → r ≡ None
 not_some None e = refl
 not_some (Some x) e = absurd (subst T e tt)
@@ -189,6 +192,7 @@ module _ (f : Form) (o p : Table) (q : List (List ℕ)) (i : ℕ) (t : Tree) (es
 
 -- ---- the step of a tree that gains an entry: `mkdir`, `make`, and the second half of `rename`
 module _ (f : Form) (lot : LotView) (o p : Table) (q : List (List ℕ)) (c : List ℕ) (j : ℕ) (v t : Tree) (es : Entries) where
+  -- the root stands for the tree with the new entry
   pub Reads-with_entry : Reads f lot o 0 0 t → walk q t ≡ Found (Dir es) → find by_bytes c (rows es) ≡ None → IsNameOf f c → IsOnce (used_inodes f o 0 t)
       → SameBut o p (inode_on f o 0 q) (used_inodes f o 0 t) → AddsRow f lot (o (inode_on f o 0 q)) (p (inode_on f o 0 q)) (inode_on f o 0 q) (length q) c j → Reads f lot p j (length q + 1) v
       → Reads f lot p 0 0 (at q (with_entry c v) t)
@@ -198,6 +202,7 @@ module _ (f : Form) (lot : LotView) (o p : Table) (q : List (List ℕ)) (c : Lis
       (subst (λ x. Reads f lot p (inode_on f o 0 q) x (with_entry c v (Dir es))) (sym level) (Reads-gains f lot o p (inode_on f o 0 q) (length q) c j v es (subst (λ x. Reads f lot o (inode_on f o 0 q) x (Dir es)) level (Reads-part f lot o q 0 0 t (Dir es) found r)) none name a (in_dir f o p q 0 t es found once same) new))
       (outside_dir f o p q 0 t es found once same)
 
+  -- the tree uses more by what the new entry's tree uses, and more or less by what the directory's inode does
   pub uses-with_entry : (mine yours : ℕ → List ℕ) → ((k : ℕ) → p k ≡ o k → yours k ≡ mine k) → (measure : List ℕ → ℕ) → ((xs ys : List ℕ) → measure (xs ++ ys) ≡ measure xs + measure ys)
       → Reads f lot o 0 0 t → walk q t ≡ Found (Dir es) → find by_bytes c (rows es) ≡ None → IsOnce (used_inodes f o 0 t)
       → SameBut o p (inode_on f o 0 q) (used_inodes f o 0 t) → AddsRow f lot (o (inode_on f o 0 q)) (p (inode_on f o 0 q)) (inode_on f o 0 q) (length q) c j

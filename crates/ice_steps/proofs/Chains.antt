@@ -46,12 +46,14 @@ module _ (mode : ℕ) (lot : LotView) (m0 m1 m2 m3 : Map) (t : Tree) (k : ℕ) (
   here-set : DirSet lot form_one m2 m3 (inode_on form_one (own form_one m2) 0 q) (dir_rows_of form_one m2 (inode_on form_one (own form_one m2) 0 q) ++ (c, j) ∷ [])
   here-set = subst (λ p. DirSet lot form_one m2 m3 p (dir_rows_of form_one m2 p ++ (c, j) ∷ [])) (sym place) set
 
+  -- where the inode is a fresh directory's, the map recovers the tree with an empty directory at the name
   pub dir_made : IsFresh 2 inode → MapRecovers form_one mode lot m3 (at q (with_entry c (Dir Nil)) t) k
   dir_made fresh =
       let f : IsFresh 2 (inode_of m2 j) = subst (IsFresh 2) (sym put.value) fresh in
       beside_recovers form_one mode lot m3 (at q (with_entry c (Dir Nil)) t) k
       (gains_row mode lot m2 m3 t k q c j (Dir Nil) es (dir_beside mode lot m2 t k j b2 f) found free name (fresh_dir lot m2 j (length q + 1) deep small f) here-set)
 
+  -- where the inode is a fresh file's, the map recovers the tree with an empty file at the name
   pub file_made : IsFresh 1 inode → MapRecovers form_one mode lot m3 (at q (with_entry c (File [])) t) k
   file_made fresh =
       let f : IsFresh 1 (inode_of m2 j) = subst (IsFresh 1) (sym put.value) fresh in

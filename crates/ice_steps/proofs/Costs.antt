@@ -40,6 +40,7 @@ dir-few n h = let e = dir-sixteenth form_one n refl in let d = div-add-mod' (n +
 pub file_cost : (n : ℕ) → n ≤ 274432 → uses_of (blocks_for n) ≡ map_cost (file_blocks n)
 file_cost n h = uses-cost (blocks_for n) (file-few n h) ∙ ap map_cost (let e : (n + 1023) / 1024 ≡ (n + 1024 - 1) / 1024 = ap (λ x. x / 1024) (omega arith) in e)
 
+-- the map of a directory of at most 4,096 entries uses as many blocks as the tree's costs say
 pub dir_cost : (n : ℕ) → n ≤ 4096 → uses_of (entry_blocks form_one n) ≡ map_cost (tree.dir_blocks form_one n)
 dir_cost n h =
     let f = dir-few n h in
@@ -54,6 +55,7 @@ module _ (mode : ℕ) (lot : LotView) (m : Map) (t : Tree) (k : ℕ) (few : leng
         let e = beside_free_nodes mode lot m t k xs is b in
         omega arith
 
+    -- the count of used inodes is not the greatest that its field can hold
     pub inode_counts : counted true m ≢ 2 ^ 32 - 1
     inode_counts e = let c = (beside_counts mode lot m t k xs is b).1 in omega arith
 
@@ -63,6 +65,7 @@ module _ (mode : ℕ) (lot : LotView) (m : Map) (t : Tree) (k : ℕ) (few : leng
 
       -- a row can be counted, and given back
       module _ (es : Entries) (found : walk q t ≡ Found (Dir es)) where
+        -- with one row more the count of used blocks stays below 2 ^ 32
         pub add_counts : ¬ (2 ^ 32 + uses_of (entry_blocks form_one (inode_of m here).size) ≤ counted false m + uses_of (entry_blocks form_one ((inode_of m here).size + 1)))
         add_counts h =
             let c = (beside_counts mode lot m t k xs is b).0 in
@@ -71,6 +74,7 @@ module _ (mode : ℕ) (lot : LotView) (m : Map) (t : Tree) (k : ℕ) (few : leng
             let u = uses-few (entry_blocks form_one ((inode_of m here).size + 1)) in
             omega arith
 
+        -- the count of used blocks is not below what one row less gives back
         pub take_counts : ¬ (counted false m + uses_of (entry_blocks form_one ((inode_of m here).size - 1)) < uses_of (entry_blocks form_one (inode_of m here).size))
         take_counts h =
             let c = beside_counted mode lot m t k xs is b q (Dir es) found in
@@ -85,6 +89,7 @@ module _ (mode : ℕ) (lot : LotView) (m : Map) (t : Tree) (k : ℕ) (few : leng
             let u = file_uses m here (beside_file mode lot m t k xs is b q bytes found).kind in
             omega arith
 
+        -- with a write that ends at byte 274,432 at most the count of used blocks stays below 2 ^ 32
         pub write_counts : (end : ℕ) → end ≤ 274432 → ¬ (2 ^ 32 + uses_of (blocks_for (inode_of m here).size) ≤ counted false m + uses_of (blocks_with (inode_of m here).size end))
         write_counts end l h =
             let c = (beside_counts mode lot m t k xs is b).0 in
@@ -111,6 +116,7 @@ module _ (mode : ℕ) (lot : LotView) (m : Map) (t : Tree) (k : ℕ) (few : leng
 
   -- a loose file can be given back
   module _ (j h : ℕ) (v : Tree) (is : List ℕ) (b : Beside form_one mode lot m t k (used_blocks form_one (own form_one m) j v) is) (r : Reads form_one lot (own form_one m) j h v) where
+    -- the count of used blocks is not below what the loose file gives back
     pub loose_counts : (inode_of m j).kind ≡ 1 → ¬ (counted false m < uses_of (blocks_for (inode_of m j).size))
     loose_counts kind l =
         let c = loose_blocks_counted mode lot m t k j v is b in

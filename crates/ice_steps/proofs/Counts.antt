@@ -8,6 +8,7 @@ use Rattle.ice_map.specs.Maps.{times}
 use Rattle.ice_map.proofs.ListLaws.{times-cons, count_none, has-head, has-tail}
 use Rattle.ice_map.specs.Own.{mark}
 
+-- a mark is at most 1
 pub mark-small : (t : Bool) → mark t ≤ 1
 mark-small true = omega arith
 mark-small false = omega arith
@@ -21,6 +22,7 @@ pub mark-clear : (t : Bool) → mark t ≡ 0 → t ≡ false
 mark-clear true h = absurd (omega arith)
 mark-clear false h = refl
 
+-- bits whose marks are equal are equal
 pub mark-same : (t u : Bool) → mark t ≡ mark u → t ≡ u
 mark-same true true h = refl
 mark-same true false h = absurd (omega arith)

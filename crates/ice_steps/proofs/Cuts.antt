@@ -41,6 +41,7 @@ module _ (mode : ℕ) (lot : LotView) (m m' : Map) (t : Tree) (k j h : ℕ) (byt
   none : (own form_one m' j).uses ≡ []
   none = fresh-uses m' j (file_length form_one (inode_of m' j) set.kind ∙ ap blocks_for (set-size lot m m' j [] set))
 
+  -- then its inode alone stands beside the tree
   pub loose_cut : Beside form_one mode lot m' t k [] (j ∷ [])
   loose_cut = beside-set mode lot m m' t t k blocks [] (j ∷ []) (j ∷ []) j b loose in-all set.set
       b.dir (Reads-frame form_one lot (own form_one m) (own form_one m') 0 0 t cut_stays b.reads)
@@ -62,5 +63,6 @@ module _ (mode : ℕ) (lot : LotView) (m m' : Map) (t : Tree) (k j h : ℕ) (byt
 pub empty_uses : (lot : LotView) (m : Map) (j h : ℕ) → Reads form_one lot (own form_one m) j h (Dir Nil) → used_blocks form_one (own form_one m) j (Dir Nil) ≡ []
 empty_uses lot m j h r = ap (λ us. us ++ []) (fresh-uses m j (no-map (inode_of m j) (sym r.1.count)))
 
+-- so an empty directory that stands loose has no block beside the tree
 pub loose_empty : (mode : ℕ) (lot : LotView) (m : Map) (t : Tree) (k j h : ℕ) (is : List ℕ) → Beside form_one mode lot m t k (used_blocks form_one (own form_one m) j (Dir Nil)) is → Reads form_one lot (own form_one m) j h (Dir Nil) → Beside form_one mode lot m t k [] is
 loose_empty mode lot m t k j h is b r = subst (λ us. Beside form_one mode lot m t k us is) (empty_uses lot m j h r) b

@@ -42,6 +42,7 @@ pub record IsFresh (kind : ℕ) (x : Inode) : Type 0 where
   pub single : x.single ≡ 0
   pub double : x.double ≡ 0
 
+-- an inode of this kind whose size and pointers are 0 is fresh
 pub fresh_value : (kind : ℕ) (x : Inode) → x ≡ record { kind = kind; size = 0; direct = replicate 12 0; single = 0; double = 0 } → IsFresh kind x
 fresh_value kind x e = record {
   is = ap (λ (i : Inode). i.kind) e;
@@ -51,6 +52,7 @@ fresh_value kind x e = record {
   double = ap (λ (i : Inode). i.double) e;
 }
 
+-- an inode of size 0 has a map of no blocks
 pub no-map : (x : Inode) → x.size ≡ 0 → map_length form_one x ≡ 0
 no-map x e = ap blocks_for (none (x.kind == 2) x.size e)
   where
@@ -81,6 +83,7 @@ unfolding IsDistinct
 IsDistinct-nil = tt
 
 module _ (lot : LotView) (m : Map) (j h : ℕ) (deep : h ≤ deepest) (small : j < 64 * length lot.groups) where
+  -- a fresh inode of a directory stands for the empty directory
   pub fresh_dir : IsFresh 2 (inode_of m j) → Reads form_one lot (own form_one m) j h (Dir Nil)
   fresh_dir f =
       let none : rows_in form_one (own form_one m j) ≡ [] = empty (rows_in form_one (own form_one m j)) (length-rows_in form_one (own form_one m j) ∙ f.none) in (
@@ -97,6 +100,7 @@ module _ (lot : LotView) (m : Map) (j h : ℕ) (deep : h ≤ deepest) (small : j
         tt,
       )
 
+  -- a fresh inode of a file stands for the empty file
   pub fresh_file : IsFresh 1 (inode_of m j) → Reads form_one lot (own form_one m) j h (File [])
   fresh_file f = (
     fresh-inode lot m j h 1 deep small f,
@@ -137,6 +141,7 @@ put_stays mode lot m m' t k xs j inode b set at = record {
       (used-places lot m 0 0 t b.reads x h);
 }
 
+-- an inode that stands loose and is put stands loose afterwards
 pub put_loose : (mode : ℕ) (lot : LotView) (m m' : Map) (t : Tree) (k j : ℕ) (inode : Inode) → Beside form_one mode lot m t k [] (j ∷ []) → InodeSet m m' j inode → OnlyAt (inode_address j ∷ []) m m' → Beside form_one mode lot m' t k [] (j ∷ [])
 put_loose mode lot m m' t k j inode b set at =
     let only = only-one (inode_address j) m m' at in
@@ -159,5 +164,6 @@ put_loose mode lot m m' t k j inode b set at =
 pub dir_beside : (mode : ℕ) (lot : LotView) (m : Map) (t : Tree) (k j : ℕ) → Beside form_one mode lot m t k [] (j ∷ []) → IsFresh 2 (inode_of m j) → Beside form_one mode lot m t k (used_blocks form_one (own form_one m) j (Dir Nil)) (used_inodes form_one (own form_one m) j (Dir Nil))
 dir_beside mode lot m t k j b f = subst (λ us. Beside form_one mode lot m t k us (j ∷ [])) (sym (fresh_dir_blocks m j f)) b
 
+-- a loose inode that is a fresh file's stands beside the tree as the empty file
 pub file_beside : (mode : ℕ) (lot : LotView) (m : Map) (t : Tree) (k j : ℕ) → Beside form_one mode lot m t k [] (j ∷ []) → IsFresh 1 (inode_of m j) → Beside form_one mode lot m t k (used_blocks form_one (own form_one m) j (File [])) (used_inodes form_one (own form_one m) j (File []))
 file_beside mode lot m t k j b f = subst (λ us. Beside form_one mode lot m t k us (j ∷ [])) (sym (fresh_file_blocks m j f)) b

@@ -37,9 +37,11 @@ apart-one x a p =
     let s : (x == a) ≡ false = grind (arith, nat_tests) in
     grind arith
 
+-- a change at two addresses leaves the block of each other one
 pub only-two : (x y : ℕ) (m m' : Map) → OnlyAt (x ∷ y ∷ []) m m' → (a : ℕ) → a ≢ x → a ≢ y → m' a ≡ m a
 only-two x y m m' only a p q = except_elim a (x ∷ y ∷ []) (m' a ≡ m a) (only a) (apart-two x y a p q)
 
+-- a change at one address leaves the block of each other one
 pub only-one : (x : ℕ) (m m' : Map) → OnlyAt (x ∷ []) m m' → (a : ℕ) → a ≢ x → m' a ≡ m a
 only-one x m m' only a p = except_elim a (x ∷ []) (m' a ≡ m a) (only a) (apart-one x a p)
 

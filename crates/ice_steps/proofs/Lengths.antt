@@ -20,6 +20,7 @@ use Rattle.ice_reads.specs.Reads.{Reads, entries_use, used_blocks, used_inodes}
 -- each file and directory has one inode
 module _ (f : Form) (o : Table) where
   mutual
+    -- a tree uses as many inodes as it has files and directories
     pub length-inodes : (i : ℕ) (t : Tree) → length (used_inodes f o i t) ≡ nodes t
     length-inodes i (File bytes) = refl
     length-inodes i (Dir es) = let r = length-inodes_in (rows_in f (o i)) es in omega arith
@@ -36,6 +37,7 @@ module _ (f : Form) (o : Table) where
 pub uses-cost : (c : ℕ) → c ≤ 268 → uses_of c ≡ map_cost c
 uses-cost c h = grind (arith, nat_tests)
 
+-- the size of a file's inode is the number of the file's bytes
 pub file-size : (m : Map) (i : ℕ) (bytes : List ℕ) → IsFileInode form_one (own form_one m i) bytes → (inode_of m i).size ≡ length bytes
 file-size m i bytes r =
     let e = all_bytes form_one refl m i r.is_file in
@@ -43,5 +45,6 @@ file-size m i bytes r =
     sym l ∙ ap (λ (xs : List ℕ). length xs) (sym e ∙ r.bytes_are)
 
 module _ (lot : LotView) (few : length lot.groups ≤ 64) (m : Map) where
+  -- a tree that an inode stands for uses as many blocks as its costs say
   pub length-blocks : (i h : ℕ) (t : Tree) → Reads form_one lot (own form_one m) i h t → length (used_blocks form_one (own form_one m) i t) ≡ blocks form_one t
   length-blocks i h t r = cost_is_used form_one lot m i h t refl few r

@@ -126,6 +126,7 @@ module _ (mode : ℕ) (lot : LotView) (m m' : Map) (t : Tree) (k : ℕ) (q : Lis
       (λ a h. Reads-data form_one lot (own form_one m') a gone (length q + 1) v gone_reads (has-times (used_blocks form_one (own form_one m') gone v) a h))
       (λ i h. Reads-number form_one lot (own form_one m') i gone (length q + 1) v gone_reads (has-times (used_inodes form_one (own form_one m') gone v) i h))
 
+  -- the map holds the tree without the entry, and the entry's tree loose beside it
   pub loses_row : Beside form_one mode lot m' (at q (without_entry c) t) k (used_blocks form_one (own form_one m') gone v) (used_inodes form_one (own form_one m') gone v) × Reads form_one lot (own form_one m') gone (length q + 1) v
   loses_row = (after, gone_reads)
 

@@ -49,6 +49,7 @@ module _ (lot : LotView) (few : length lot.groups ≤ 64) (m : Map) where
 
 -- what a walk comes to
 module _ (mode : ℕ) (lot : LotView) (m : Map) (t : Tree) (k : ℕ) (xs is : List ℕ) (b : Beside form_one mode lot m t k xs is) where
+  -- the inode to which a walk comes stands for what the walk found
   pub beside_part : (q : List (List ℕ)) (s : Tree) → walk q t ≡ Found s → Reads form_one lot (own form_one m) (inode_on form_one (own form_one m) 0 q) (length q) s
   beside_part q s found =
       let level : 0 + length q ≡ length q = omega arith in
@@ -62,6 +63,7 @@ module _ (mode : ℕ) (lot : LotView) (m : Map) (t : Tree) (k : ℕ) (xs is : Li
       let f = own-first form_one (own form_one m) (inode_on form_one (own form_one m) 0 q) s a in
       omega arith
 
+  -- the inode to which a walk comes is well made, in a lot of at most 64 groups
   pub beside_made : length lot.groups ≤ 64 → (q : List (List ℕ)) (s : Tree) → walk q t ≡ Found s → WellMade lot form_one m (inode_on form_one (own form_one m) 0 q)
   beside_made few q s found = made-reads lot few m (inode_on form_one (own form_one m) 0 q) (length q) s (beside_part q s found) (own-within q s found)
 

@@ -104,11 +104,14 @@ module _ (mode : ℕ) (lot : LotView) (m : Map) (t : Tree) (k : ℕ) (xs is : Li
 
 -- what is free beside the tree
 module _ (mode : ℕ) (lot : LotView) (m : Map) (t : Tree) (k : ℕ) (r : MapRecovers form_one mode lot m t k) where
+  -- free inodes, and the files and directories of the tree, together are those that the groups have room for
   pub free_nodes_are : free_count true lot m + nodes t ≡ node_quota (length lot.groups)
   free_nodes_are = let e = beside_free_nodes mode lot m t k [] [] (recovers_beside form_one mode lot m t k r) in omega arith
 
+  -- free blocks, and those that the tree uses, together are those that the groups have room for
   pub free_blocks_are : length lot.groups ≤ 64 → free_count false lot m + blocks form_one t ≡ block_quota (length lot.groups)
   free_blocks_are few = let e = beside_free_blocks mode lot m t k [] [] (recovers_beside form_one mode lot m t k r) few in omega arith
 
+  -- the counts of used blocks and inodes are at most 247 and 64 for each group
   pub counts_small : (counted false m ≤ 247 * length lot.groups) × (counted true m ≤ 64 * length lot.groups)
   counts_small = beside_counts mode lot m t k [] [] (recovers_beside form_one mode lot m t k r)

@@ -12,6 +12,7 @@ use Rattle.ice_reads.specs.Reads.{used_blocks, used_inodes}
 use Rattle.ice_reads.specs.Recovers.{MapRecovers}
 use Rattle.ice_steps.specs.Beside.{Beside}
 
+-- a map that holds a tree with nothing beside it recovers the tree
 pub beside_recovers : (f : Form) (mode : ℕ) (lot : LotView) (m : Map) (t : Tree) (k : ℕ) → Beside f mode lot m t k [] [] → MapRecovers f mode lot m t k
 beside_recovers f mode lot m t k b =
     let xs = append-nil (used_blocks f (own f m) 0 t) in
@@ -29,6 +30,7 @@ beside_recovers f mode lot m t k b =
       };
     }
 
+-- a map that recovers a tree holds it with nothing beside it
 pub recovers_beside : (f : Form) (mode : ℕ) (lot : LotView) (m : Map) (t : Tree) (k : ℕ) → MapRecovers f mode lot m t k → Beside f mode lot m t k [] []
 recovers_beside f mode lot m t k r =
     let xs = append-nil (used_blocks f (own f m) 0 t) in

@@ -26,6 +26,7 @@ module _ (f : Form) (o p : Table) where
       ] refl found
 
 module _ (m m' : Map) (t : Tree) (same : SameAt (own form_one m) (own form_one m') (used_inodes form_one (own form_one m) 0 t)) (q : List (List ℕ)) (s : Tree) (found : walk q t ≡ Found s) where
+  -- the walk comes to the inode to which it came
   pub stays_walk : inode_on form_one (own form_one m') 0 q ≡ inode_on form_one (own form_one m) 0 q
   stays_walk = same_walk form_one (own form_one m) (own form_one m') q 0 t s found same.at
 

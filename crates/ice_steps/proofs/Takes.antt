@@ -35,6 +35,7 @@ took_stays mode lot m m' t k xs is j few b only = record { at = λ x h. marks-ow
 pub done_stays : (mode : ℕ) (lot : LotView) (m m' : Map) (t : Tree) (k done : ℕ) (xs is : List ℕ) → length lot.groups ≤ 64 → Beside form_one mode lot m t k xs is → DoneSet m m' done → SameAt (own form_one m) (own form_one m') (used_inodes form_one (own form_one m) 0 t)
 done_stays mode lot m m' t k done xs is few b set = record { at = λ x h. sub-own lot few m m' (only-one sub_address m m' set.others) x (used-places lot m 0 0 t b.reads x h) }
 
+-- where an inode was taken, it stands loose beside the tree
 pub took_inode : (mode : ℕ) (lot : LotView) (m m' : Map) (t : Tree) (k : ℕ) (xs : List ℕ) (j : ℕ) → length lot.groups ≤ 64 → Beside form_one mode lot m t k xs [] → TookInode m m' j → j < 64 * length lot.groups
     → OnlyAt (sub_address ∷ bitmap_of true j ∷ []) m m' → Beside form_one mode lot m' t k xs (j ∷ [])
 took_inode mode lot m m' t k xs j few b took small only =
@@ -65,6 +66,7 @@ took_inode mode lot m m' t k xs j few b took small only =
       others_small = λ i h. let o = has-one j i in let q : i ≡ j = grind (arith, nat_tests) in omega arith;
     })
 
+-- where a loose inode was given back, nothing stands beside the tree
 pub gave_inode : (mode : ℕ) (lot : LotView) (m m' : Map) (t : Tree) (k j : ℕ) → length lot.groups ≤ 64 → Beside form_one mode lot m t k [] (j ∷ []) → GaveInode m m' j
     → OnlyAt (sub_address ∷ bitmap_of true j ∷ []) m m' → Beside form_one mode lot m' t k [] []
 gave_inode mode lot m m' t k j few b gave only =
@@ -117,5 +119,6 @@ beside_done mode lot m m' t k done xs is few b set =
       others_small = b.others_small;
     })
 
+-- where the count of operations was set, the map recovers the same tree with the new count
 pub done_set : (mode : ℕ) (lot : LotView) (m m' : Map) (t : Tree) (k done : ℕ) → length lot.groups ≤ 64 → MapRecovers form_one mode lot m t k → DoneSet m m' done → MapRecovers form_one mode lot m' t done
 done_set mode lot m m' t k done few r set = beside_recovers form_one mode lot m' t done (beside_done mode lot m m' t k done [] [] few (recovers_beside form_one mode lot m t k r) set)

@@ -30,6 +30,7 @@ pub record DirAt (lot : LotView) (m : Map) (i : ℕ) (es : Entries) : Type 0 whe
   pub is : IsDirectory lot (inode_of m i)
   pub size : (inode_of m i).size ≡ length (rows es)
 
+-- an inode that stands for a file is a file of its bytes
 pub file_at : (lot : LotView) (m : Map) (i h : ℕ) (bytes : List ℕ) → Reads form_one lot (own form_one m) i h (File bytes) → FileAt m i bytes
 file_at lot m i h bytes r = record { kind = r.1.is_file; size = file-size m i bytes r.1; within = r.1.within; bytes_are = r.1.bytes_are }
 
@@ -54,23 +55,28 @@ module _ (mode : ℕ) (lot : LotView) (m : Map) (t : Tree) (k : ℕ) where
     recovers_reserved = r.holds.reserved
 
     module _ (q : List (List ℕ)) where
+      -- the inode to which a walk comes stands for what the walk found
       pub walk_part : (s : Tree) → walk q t ≡ Found s → Reads form_one lot (own form_one m) (inode_on form_one (own form_one m) 0 q) (length q) s
       walk_part s found = beside_part mode lot m t k [] [] whole q s found
 
+      -- the inode to which a walk comes is well made, in a lot of at most 64 groups
       pub walk_made : length lot.groups ≤ 64 → (s : Tree) → walk q t ≡ Found s → WellMade lot form_one m (inode_on form_one (own form_one m) 0 q)
       walk_made few s found = beside_made mode lot m t k [] [] whole few q s found
 
       pub walk_number : (s : Tree) → walk q t ≡ Found s → inode_on form_one (own form_one m) 0 q < 64 * length lot.groups
       walk_number s found = beside_number mode lot m t k [] [] whole q s found
 
+      -- where the walk found a file, its inode is a file of these bytes
       pub walk_file : (bytes : List ℕ) → walk q t ≡ Found (File bytes) → FileAt m (inode_on form_one (own form_one m) 0 q) bytes
       walk_file bytes found = beside_file [] [] whole q bytes found
 
+      -- where the walk found a directory, its inode is a directory of these entries
       pub walk_dir : (es : Entries) → walk q t ≡ Found (Dir es) → DirAt lot m (inode_on form_one (own form_one m) 0 q) es
       walk_dir es found = beside_dir [] [] whole q es found
 
 -- a tree that stands loose beside the other
 module _ (mode : ℕ) (lot : LotView) (m : Map) (t : Tree) (k : ℕ) (is : List ℕ) (j h : ℕ) (v : Tree) (b : Beside form_one mode lot m t k (used_blocks form_one (own form_one m) j v) is) (r : Reads form_one lot (own form_one m) j h v) where
+  -- the inode of a tree that stands loose is well made, in a lot of at most 64 groups
   pub loose_made : length lot.groups ≤ 64 → WellMade lot form_one m j
   loose_made few = made-reads lot few m j h v r (λ a d.
       let e = b.blocks a d in
@@ -80,6 +86,7 @@ module _ (mode : ℕ) (lot : LotView) (m : Map) (t : Tree) (k : ℕ) (is : List 
 
 -- a loose inode
 module _ (mode : ℕ) (lot : LotView) (m : Map) (t : Tree) (k : ℕ) (xs : List ℕ) (j : ℕ) (is : List ℕ) (b : Beside form_one mode lot m t k xs (j ∷ is)) where
+  -- a loose inode is marked used
   pub loose_used : used_inode m j ≡ true
   loose_used =
       let e = b.inodes j (b.others_small j (has-head j is)) in
@@ -87,6 +94,7 @@ module _ (mode : ℕ) (lot : LotView) (m : Map) (t : Tree) (k : ℕ) (xs : List 
       let n = times-here j is in
       mark-set (used_inode m j) (omega arith)
 
+  -- where an inode stands loose, the count of used inodes is at least 1
   pub loose_counted : 1 ≤ counted true m
   loose_counted =
       let e = b.inode_count in

@@ -22,12 +22,14 @@ not_held (e ∷ entries) at h =
     let f : e.at ≢ at = h zero (omega arith) in
     grind (arith, nat_tests)
 
+-- a list of entries holds the address of each entry
 pub held_at : (entries : List Entry) (j : ℕ) → j < length entries → holds entries (address entries j) ≡ true
 unfolding holds address
 held_at [] j less = absurd (omega arith)
 held_at (e ∷ entries) zero less = grind (arith, nat_tests)
 held_at (e ∷ entries) (suc j) less = let r = held_at entries j (omega arith) in grind (arith, nat_tests)
 
+-- a list of entries holds an address that is the address of one of them
 pub held_here : (entries : List Entry) (j at : ℕ) → j < length entries → address entries j ≡ at → holds entries at ≡ true
 held_here entries j at less e = subst (λ a. holds entries a ≡ true) e (held_at entries j less)
 
@@ -227,10 +229,12 @@ pub over_here : (entries : List Entry) (m : ℕ → List ℕ) (j : ℕ) → Diff
 unfolding contents
 over_here entries m j differ less = over_at entries m j (record { at = 0; block = [] }) differ less
 
+-- there are as many addresses as entries
 pub count_addresses : (entries : List Entry) → length (addresses entries) ≡ length entries
 count_addresses [] = refl
 count_addresses (e ∷ entries) = ap suc (count_addresses entries)
 
+-- the address at a position is that of the entry there
 pub address_index : (entries : List Entry) (j : ℕ) → slice_index (addresses entries) j ≡ address entries j
 unfolding address
 address_index [] j = refl

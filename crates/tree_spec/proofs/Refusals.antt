@@ -121,6 +121,7 @@ module _ (t : Tree) (done n : ℕ) (f : Form) (op : Operation) where
       by None h = cc
       by (Some r) h = cc
 
+  -- the model refuses no operation for damage
   pub refusal-no_damage : (rule : ℕ) → refusal t done n f op ≢ Some (why.Damaged rule)
   refusal-no_damage rule h = subst T (sym (refusal-applies (why.Damaged rule) h)) tt
 

@@ -22,6 +22,7 @@ not_true false h = refl
 no_slash : (b : ℕ) → is_name_byte b ≡ true → nat_eq b 47 ≡ false
 no_slash b h = not_true (nat_eq b 47) (second (nat_le b 126) _ (second (nat_le 33 b) _ h))
 
+-- each byte of a name is one that a name can have
 pub bytes_of_name : (c : List ℕ) → is_name c ≡ true → list_all is_name_byte c ≡ true
 unfolding is_name
 bytes_of_name c h = first (list_all is_name_byte c) _ (second (nat_le (length c) longest_name) _ (second (nat_lt 0 (length c)) _ h))
