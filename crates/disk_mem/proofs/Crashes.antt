@@ -10,7 +10,8 @@ use Rattle.disk_mem.specs.Crash.{LeavesFilled, ShowsMoment}
 beyond : (flags : List Bool) (k : ℕ) → length flags ≤ k → slice_index_or flags k false ≡ false
 beyond flags k le = grind (arith, common_steps)
 
-module _ (fill : ℕ) (m : Moment) (blocks settled filled : Image) (flags : List Bool) (shows : ShowsMoment m blocks settled flags) (count : length filled ≡ length blocks)
+module _ (fill : ℕ) (m : Moment) (blocks settled filled : Image) (flags : List Bool) (shows : ShowsMoment m blocks settled flags)
+    (count : length filled ≡ length blocks)
     (kept : (k : ℕ) → slice_index_or flags k false ≡ false → block filled k ≡ block blocks k)
     (loose : (k : ℕ) → slice_index_or flags k false ≡ true → Filled fill k (block settled k) (block blocks k) (block filled k)) where
   unflagged : (k : ℕ) → m.loose k ≡ false → slice_index_or flags k false ≡ false
@@ -29,4 +30,5 @@ module _ (fill : ℕ) (m : Moment) (blocks settled filled : Image) (flags : List
   }
 
 pub filled_left : (fill : ℕ) (m next : Moment) (image : Image) (output : List ℕ) → LeavesFilled fill m image → IsLeft output m next image (take m.given output)
-filled_left fill m next image output is = record { count = is.count; same = is.settled; more = 0; few = omega arith; given = let e : m.given ≡ m.given + 0 = omega arith in ap (λ n. take n output) e }
+filled_left fill m next image output is =
+    record { count = is.count; same = is.settled; more = 0; few = omega arith; given = let e : m.given ≡ m.given + 0 = omega arith in ap (λ n. take n output) e }

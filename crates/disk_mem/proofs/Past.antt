@@ -11,7 +11,8 @@ use Rattle.disk_mem.specs.Record.{FailedNoted}
 use Rattle.disk_mem.specs.declared.step.Step.{Step}
 use Rattle.disk_mem.specs.declared.step.Step.TheVariants.{Write, Failed, Barrier, Give}
 
-after_push : (t : ℕ) (m : Moment) (steps : List Step) (s : Step) → after t m (steps ++ s ∷ []) ≡ (if nat_lt (call_number s) t then applied (after t m steps) s else after t m steps)
+after_push : (t : ℕ) (m : Moment) (steps : List Step) (s : Step)
+    → after t m (steps ++ s ∷ []) ≡ (if nat_lt (call_number s) t then applied (after t m steps) s else after t m steps)
 after_push t m [] s = refl
 after_push t m (x ∷ steps) s = after_push t (if nat_lt (call_number x) t then applied m x else m) steps s
 
@@ -33,7 +34,8 @@ take_fewer (x ∷ xs) (suc m) zero le = absurd (omega arith)
 take_fewer (x ∷ xs) (suc m) (suc n) le = ap (λ t. x ∷ t) (take_fewer xs m n (omega arith))
 
 -- some first bytes of a piece are some first bytes of all
-pub some_first : (aside bytes : List ℕ) (n : ℕ) (out : List ℕ) → n ≤ length bytes → FirstOf aside (take n bytes) (length (take n bytes)) out → FirstOf aside bytes n out
+pub some_first : (aside bytes : List ℕ) (n : ℕ) (out : List ℕ) → n ≤ length bytes
+    → FirstOf aside (take n bytes) (length (take n bytes)) out → FirstOf aside bytes n out
 some_first aside bytes n out le f =
     let few : f.0 ≤ n = omega (arith, f.1, length-take-le n bytes le) in
     (f.0, few, f.2 ∙ ap (λ (x : List ℕ). aside ++ x) (take_fewer bytes f.0 n few))
@@ -47,16 +49,19 @@ pub record Grows (calls : ℕ) (s : Step) (past later : ℕ → Moment) : Type 0
   pub old : (u : ℕ) → u ≤ calls → later u ≡ past u
   pub new : (u : ℕ) → calls < u → later u ≡ applied (past u) s
 
-pub grows : (first : Image) (steps steps' : List Step) (s : Step) (calls : ℕ) → call_number s ≡ calls → steps' ≡ steps ++ s ∷ [] → Grows calls s (past_of first steps) (past_of first steps')
+pub grows : (first : Image) (steps steps' : List Step) (s : Step) (calls : ℕ) → call_number s ≡ calls → steps' ≡ steps ++ s ∷ []
+    → Grows calls s (past_of first steps) (past_of first steps')
 grows first steps steps' s calls is e = record {
   old = λ u le. ap (λ (x : List Step). after u (fresh_state first) x) e ∙ after_push u (fresh_state first) steps s ∙ not_yet u le;
   new = λ u less. ap (λ (x : List Step). after u (fresh_state first) x) e ∙ after_push u (fresh_state first) steps s ∙ already u less;
 }
   where
-    not_yet : (u : ℕ) → u ≤ calls → (if nat_lt (call_number s) u then applied (after u (fresh_state first) steps) s else after u (fresh_state first) steps) ≡ after u (fresh_state first) steps
+    not_yet : (u : ℕ) → u ≤ calls
+        → (if nat_lt (call_number s) u then applied (after u (fresh_state first) steps) s else after u (fresh_state first) steps) ≡ after u (fresh_state first) steps
     not_yet u le = grind (arith, nat_tests, is)
 
-    already : (u : ℕ) → calls < u → (if nat_lt (call_number s) u then applied (after u (fresh_state first) steps) s else after u (fresh_state first) steps) ≡ applied (after u (fresh_state first) steps) s
+    already : (u : ℕ) → calls < u
+        → (if nat_lt (call_number s) u then applied (after u (fresh_state first) steps) s else after u (fresh_state first) steps) ≡ applied (after u (fresh_state first) steps) s
     already u less = grind (arith, nat_tests, is)
 
 pub block_set_same : (image : Image) (at : ℕ) (bytes : List ℕ) → at < length image → block (slice_set image at bytes) at ≡ bytes
@@ -95,14 +100,16 @@ marked_only flags loose at k was set = elim (cases_eq k at) as (λ _. loosened l
   | inr other ↦ let before = was (sym (flag_other flags at k other) ∙ set) in grind (arith, nat_tests)
 ]
 
-module _ (past : ℕ → Moment) (calls remembered : ℕ) (blocks : Image) (flags : List Bool) (output : List ℕ) (linked : Linked past calls remembered blocks flags output) where
+module _ (past : ℕ → Moment) (calls remembered : ℕ) (blocks : Image) (flags : List Bool) (output : List ℕ)
+    (linked : Linked past calls remembered blocks flags output) where
   -- what a crash shows of the present
   abbrev Now : Image → List ℕ → Type 0
   Now i o = (length i ≡ length blocks) × ((k : ℕ) → slice_index_or flags k false ≡ false → block i k ≡ block blocks k) × (o ≡ output)
 
   -- what a crash leaves after a call: as before it, or as the call leaves it
   pub left_grown : (later : ℕ → Moment) (d : ℕ) (output' : List ℕ) (Q : Image → List ℕ → Type 0) → ((u : ℕ) → u ≤ calls → later u ≡ past u)
-      → ((n : ℕ) → n ≤ length output → take n output' ≡ take n output) → ((u : ℕ) → calls ≤ u → (i : Image) (o : List ℕ) → IsLeft output' (later u) (later (u + 1)) i o → Q i o)
+      → ((n : ℕ) → n ≤ length output → take n output' ≡ take n output)
+      → ((u : ℕ) → calls ≤ u → (i : Image) (o : List ℕ) → IsLeft output' (later u) (later (u + 1)) i o → Q i o)
       → (t : ℕ) (i : Image) (o : List ℕ) → LeftSince later d output' t i o → LeftSince past calls output t i o ⊎ Q i o
   left_grown later d output' Q old taken new t i o left = elim (cases_lt left.moment calls) [
     | inl less ↦
@@ -126,11 +133,14 @@ module _ (past : ℕ → Moment) (calls remembered : ℕ) (blocks : Image) (flag
         moment = left.moment;
         from = left.from;
         until = omega (arith, left.until);
-        is = subst (λ (m : Moment). IsLeft output' m (later (left.moment + 1)) i o) (sym (old left.moment left.until)) (record { count = is.count; same = is.same; more = is.more; few = few; given = is.given ∙ sym (taken _ most) });
+        is =
+            subst (λ (m : Moment). IsLeft output' m (later (left.moment + 1)) i o) (sym (old left.moment left.until))
+            (record { count = is.count; same = is.same; more = is.more; few = few; given = is.given ∙ sym (taken _ most) });
       }
 
   -- how many bytes had been given at each moment from now on, where the call gave none
-  none_given : (s : Step) (later : ℕ → Moment) → Grows calls s past later → ((m : Moment) → (applied m s).given ≡ m.given) → (u : ℕ) → calls ≤ u → (later u).given ≡ length output
+  none_given : (s : Step) (later : ℕ → Moment) → Grows calls s past later → ((m : Moment) → (applied m s).given ≡ m.given) → (u : ℕ)
+      → calls ≤ u → (later u).given ≡ length output
   none_given s later grown none u ge = elim (cases_lt calls u) [
     | inl less ↦ ap (λ (m : Moment). m.given) (grown.new u less) ∙ none (past u) ∙ linked.given u ge
     | inr le ↦ ap (λ (m : Moment). m.given) (grown.old u le) ∙ linked.given u ge
@@ -142,7 +152,9 @@ module _ (past : ℕ → Moment) (calls remembered : ℕ) (blocks : Image) (flag
   image_now m i e count same =
       let now : m.now ≡ blocks = ap (λ (x : Moment). x.now) e ∙ linked.now calls (omega arith) in (
         count ∙ ap (λ (x : Image). length x) now,
-        λ k flag. same k (ap (λ (x : Moment). x.loose k) e ∙ settled_flag flags (past calls).loose k (linked.loose calls k (omega arith)) flag) ∙ ap (λ (x : Image). block x k) now,
+        λ k flag. same k
+            (ap (λ (x : Moment). x.loose k) e ∙ settled_flag flags (past calls).loose k (linked.loose calls k (omega arith)) flag)
+            ∙ ap (λ (x : Image). block x k) now,
       )
 
   at_call : (later : ℕ → Moment) (u : ℕ) → ((u : ℕ) → u ≤ calls → later u ≡ past u) → u ≤ calls → calls ≤ u → later u ≡ past calls
@@ -173,7 +185,8 @@ module _ (past : ℕ → Moment) (calls remembered : ℕ) (blocks : Image) (flag
       → Linked later d remembered (slice_set blocks at bytes) (slice_set flags at true) output
   linked_write later d at bytes grown less fits = record {
     count = λ u. elim (cases_lt calls u) [
-      | inl after_it ↦ ap (λ (m : Moment). length m.now) (grown.new u after_it) ∙ length-set (past u).now at bytes ∙ linked.count u ∙ sym (length-set blocks at bytes)
+      | inl after_it ↦
+          ap (λ (m : Moment). length m.now) (grown.new u after_it) ∙ length-set (past u).now at bytes ∙ linked.count u ∙ sym (length-set blocks at bytes)
       | inr before_it ↦ ap (λ (m : Moment). length m.now) (grown.old u before_it) ∙ linked.count u ∙ sym (length-set blocks at bytes)
     ];
     reach = λ u. elim (cases_lt calls u) [
@@ -182,9 +195,15 @@ module _ (past : ℕ → Moment) (calls remembered : ℕ) (blocks : Image) (flag
     ];
     now = λ u ge. ap (λ (m : Moment). m.now) (grown.new u (omega arith)) ∙ ap (λ (x : Image). slice_set x at bytes) (linked.now u (omega arith));
     given = λ u ge. ap (λ (m : Moment). m.given) (grown.new u (omega arith)) ∙ linked.given u (omega arith);
-    still = λ u ge. ap (λ (m : Moment). m.settled) (grown.new u (omega arith)) ∙ linked.still u (omega arith) ∙ sym (linked.still d (omega arith)) ∙ sym (ap (λ (m : Moment). m.settled) (grown.new d (omega arith)));
-    loose = λ u k ge is. marked flags (past u).loose at k (omega (arith, linked.marks)) (λ l. linked.loose u k (omega arith) l) (sym (ap (λ (m : Moment). m.loose k) (grown.new u (omega arith))) ∙ is);
-    exact = λ rem low u k ge set. ap (λ (m : Moment). m.loose k) (grown.new u (omega arith)) ∙ marked_only flags (past u).loose at k (λ f. linked.exact (omega arith) (omega arith) u k (omega arith) f) set;
+    still =
+        λ u ge. ap (λ (m : Moment). m.settled) (grown.new u (omega arith)) ∙ linked.still u (omega arith)
+        ∙ sym (linked.still d (omega arith)) ∙ sym (ap (λ (m : Moment). m.settled) (grown.new d (omega arith)));
+    loose =
+        λ u k ge is. marked flags (past u).loose at k (omega (arith, linked.marks)) (λ l. linked.loose u k (omega arith) l)
+        (sym (ap (λ (m : Moment). m.loose k) (grown.new u (omega arith))) ∙ is);
+    exact =
+        λ rem low u k ge set. ap (λ (m : Moment). m.loose k) (grown.new u (omega arith))
+        ∙ marked_only flags (past u).loose at k (λ f. linked.exact (omega arith) (omega arith) u k (omega arith) f) set;
     marks = length-set flags at true ∙ linked.marks ∙ sym (length-set blocks at bytes);
   }
 
@@ -206,14 +225,16 @@ module _ (past : ℕ → Moment) (calls remembered : ℕ) (blocks : Image) (flag
       go u ge i o is = let out = all_given output (later u) (later (u + 1)) i o (given u ge) (given (u + 1) (omega arith)) is in elim (cases_lt calls u) [
         | inl less ↦ let l = subst (λ (m : Moment). IsLeft output m (later (u + 1)) i o) (grown.new u less) is in (
           l.count ∙ length-set (past u).now at bytes ∙ linked.count u,
-          λ k other flag. l.same k (still u at k ge other flag) ∙ block_set_other (past u).now at bytes k other ∙ ap (λ (x : Image). block x k) (linked.now u ge),
+          λ k other flag. l.same k (still u at k ge other flag) ∙ block_set_other (past u).now at bytes k other
+              ∙ ap (λ (x : Image). block x k) (linked.now u ge),
           out,
         )
         | inr le ↦ let now = image_now (later u) i (at_call later u grown.old le ge) is.count is.same in (now.0, λ k other flag. now.1 k flag, out)
       ]
 
   -- a failed write that is remembered
-  pub linked_mark : (later : ℕ → Moment) (d at : ℕ) → Grows calls (Failed calls at) past later → d ≡ min (calls + 1) (2 ^ 64 - 1) → calls ≤ 2 ^ 64 - 1 → at < length blocks
+  pub linked_mark : (later : ℕ → Moment) (d at : ℕ) → Grows calls (Failed calls at) past later → d ≡ min (calls + 1) (2 ^ 64 - 1)
+      → calls ≤ 2 ^ 64 - 1 → at < length blocks
       → Linked later d remembered blocks (slice_set flags at true) output
   linked_mark later d at grown step last fits = record {
     count = λ u. elim (cases_lt calls u) [
@@ -234,10 +255,14 @@ module _ (past : ℕ → Moment) (calls remembered : ℕ) (blocks : Image) (flag
     ];
     still = λ u ge. mark_settled u (omega arith) ∙ sym (mark_settled d (omega arith));
     loose = λ u k ge is. elim (cases_lt calls u) [
-      | inl after_it ↦ marked flags (past u).loose at k (omega (arith, linked.marks)) (λ l. linked.loose u k (omega arith) l) (sym (ap (λ (m : Moment). m.loose k) (grown.new u after_it)) ∙ is)
+      | inl after_it ↦
+          marked flags (past u).loose at k (omega (arith, linked.marks)) (λ l. linked.loose u k (omega arith) l)
+          (sym (ap (λ (m : Moment). m.loose k) (grown.new u after_it)) ∙ is)
       | inr before_it ↦ mark_stays k (linked.loose u k (omega arith) (sym (ap (λ (m : Moment). m.loose k) (grown.old u before_it)) ∙ is))
     ];
-    exact = λ rem low u k ge set. ap (λ (m : Moment). m.loose k) (grown.new u (omega arith)) ∙ marked_only flags (past u).loose at k (λ f. linked.exact (omega arith) (omega arith) u k (omega arith) f) set;
+    exact =
+        λ rem low u k ge set. ap (λ (m : Moment). m.loose k) (grown.new u (omega arith))
+        ∙ marked_only flags (past u).loose at k (λ f. linked.exact (omega arith) (omega arith) u k (omega arith) f) set;
     marks = length-set flags at true ∙ linked.marks;
   }
     where
@@ -291,7 +316,8 @@ module _ (past : ℕ → Moment) (calls remembered : ℕ) (blocks : Image) (flag
       ]
 
   -- a good barrier
-  pub linked_barrier : (later : ℕ → Moment) (d : ℕ) (flags' : List Bool) → Grows calls (Barrier calls) past later → calls < d → ((k : ℕ) → slice_index_or flags' k false ≡ false) → length flags' ≡ length flags
+  pub linked_barrier : (later : ℕ → Moment) (d : ℕ) (flags' : List Bool) → Grows calls (Barrier calls) past later → calls < d
+      → ((k : ℕ) → slice_index_or flags' k false ≡ false) → length flags' ≡ length flags
       → Linked later d remembered blocks flags' output
   linked_barrier later d flags' grown less clear marks = record {
     count = λ u. elim (cases_lt calls u) [
@@ -304,7 +330,9 @@ module _ (past : ℕ → Moment) (calls remembered : ℕ) (blocks : Image) (flag
     ];
     now = λ u ge. ap (λ (m : Moment). m.now) (grown.new u (omega arith)) ∙ linked.now u (omega arith);
     given = λ u ge. ap (λ (m : Moment). m.given) (grown.new u (omega arith)) ∙ linked.given u (omega arith);
-    still = λ u ge. ap (λ (m : Moment). m.settled) (grown.new u (omega arith)) ∙ linked.now u (omega arith) ∙ sym (linked.now d (omega arith)) ∙ sym (ap (λ (m : Moment). m.settled) (grown.new d (omega arith)));
+    still =
+        λ u ge. ap (λ (m : Moment). m.settled) (grown.new u (omega arith)) ∙ linked.now u (omega arith) ∙ sym (linked.now d (omega arith))
+        ∙ sym (ap (λ (m : Moment). m.settled) (grown.new d (omega arith)));
     loose = λ u k ge is. absurd (false≢true (sym (ap (λ (m : Moment). m.loose k) (grown.new u (omega arith))) ∙ is));
     exact = λ rem low u k ge set. absurd (false≢true (sym (clear k) ∙ set));
     marks = marks ∙ linked.marks;
@@ -328,7 +356,8 @@ module _ (past : ℕ → Moment) (calls remembered : ℕ) (blocks : Image) (flag
       ]
 
   -- a good give
-  pub linked_give : (later : ℕ → Moment) (d : ℕ) (more longer : List ℕ) → Grows calls (Give calls (length output + length more)) past later → longer ≡ output ++ more → calls < d
+  pub linked_give : (later : ℕ → Moment) (d : ℕ) (more longer : List ℕ) → Grows calls (Give calls (length output + length more)) past later
+      → longer ≡ output ++ more → calls < d
       → Linked later d remembered blocks flags longer
   linked_give later d more longer grown is less = subst (λ (x : List ℕ). Linked later d remembered blocks flags x) (sym is) (record {
     count = λ u. elim (cases_lt calls u) [
@@ -336,12 +365,17 @@ module _ (past : ℕ → Moment) (calls remembered : ℕ) (blocks : Image) (flag
       | inr before_it ↦ ap (λ (m : Moment). length m.now) (grown.old u before_it) ∙ linked.count u
     ];
     reach = λ u. elim (cases_lt calls u) [
-      | inl after_it ↦ subst (λ x. x ≤ length (output ++ more)) (sym (ap (λ (m : Moment). m.given) (grown.new u after_it))) (omega (arith, length-append output more))
-      | inr before_it ↦ subst (λ x. x ≤ length (output ++ more)) (sym (ap (λ (m : Moment). m.given) (grown.old u before_it))) (omega (arith, linked.reach u, length-append output more))
+      | inl after_it ↦
+          subst (λ x. x ≤ length (output ++ more)) (sym (ap (λ (m : Moment). m.given) (grown.new u after_it))) (omega (arith, length-append output more))
+      | inr before_it ↦
+          subst (λ x. x ≤ length (output ++ more)) (sym (ap (λ (m : Moment). m.given) (grown.old u before_it)))
+          (omega (arith, linked.reach u, length-append output more))
     ];
     now = λ u ge. ap (λ (m : Moment). m.now) (grown.new u (omega arith)) ∙ linked.now u (omega arith);
     given = λ u ge. ap (λ (m : Moment). m.given) (grown.new u (omega arith)) ∙ sym (length-append output more);
-    still = λ u ge. ap (λ (m : Moment). m.settled) (grown.new u (omega arith)) ∙ linked.still u (omega arith) ∙ sym (linked.still d (omega arith)) ∙ sym (ap (λ (m : Moment). m.settled) (grown.new d (omega arith)));
+    still =
+        λ u ge. ap (λ (m : Moment). m.settled) (grown.new u (omega arith)) ∙ linked.still u (omega arith)
+        ∙ sym (linked.still d (omega arith)) ∙ sym (ap (λ (m : Moment). m.settled) (grown.new d (omega arith)));
     loose = λ u k ge is. linked.loose u k (omega arith) (sym (ap (λ (m : Moment). m.loose k) (grown.new u (omega arith))) ∙ is);
     exact = λ rem low u k ge set. ap (λ (m : Moment). m.loose k) (grown.new u (omega arith)) ∙ linked.exact (omega arith) (omega arith) u k (omega arith) set;
     marks = linked.marks;
@@ -352,13 +386,16 @@ module _ (past : ℕ → Moment) (calls remembered : ℕ) (blocks : Image) (flag
 
   -- what a crash shows of the present, with some more given
   abbrev Given : List ℕ → Image → List ℕ → Type 0
-  Given more i o = (length i ≡ length blocks) × ((k : ℕ) → slice_index_or flags k false ≡ false → block i k ≡ block blocks k) × FirstOf output more (length more) o
+  Given more i o =
+      (length i ≡ length blocks) × ((k : ℕ) → slice_index_or flags k false ≡ false → block i k ≡ block blocks k) × FirstOf output more (length more) o
 
   -- the first bytes of what is longer
-  front_given : (more longer o : List ℕ) (n : ℕ) → longer ≡ output ++ more → length output ≤ n → n ≤ length output + length more → o ≡ take n longer → FirstOf output more (length more) o
+  front_given : (more longer o : List ℕ) (n : ℕ) → longer ≡ output ++ more → length output ≤ n → n ≤ length output + length more
+      → o ≡ take n longer → FirstOf output more (length more) o
   front_given more longer o n is low high e = (n - length output, omega arith, e ∙ ap (λ (x : List ℕ). take n x) is ∙ take_past output more n low)
 
-  pub give_left : (later : ℕ → Moment) (d : ℕ) (more longer : List ℕ) → Grows calls (Give calls (length output + length more)) past later → longer ≡ output ++ more
+  pub give_left : (later : ℕ → Moment) (d : ℕ) (more longer : List ℕ) → Grows calls (Give calls (length output + length more)) past later
+      → longer ≡ output ++ more
       → (t : ℕ) (i : Image) (o : List ℕ) → LeftSince later d longer t i o
       → LeftSince past calls output t i o ⊎ Given more i o
   give_left later d more longer grown is t i o left = left_grown later d longer (Given more) grown.old (grown_take more longer is) go t i o left
@@ -371,7 +408,8 @@ module _ (past : ℕ → Moment) (calls remembered : ℕ) (blocks : Image) (flag
         | inl less ↦ let l = subst (λ (m : Moment). IsLeft longer m (later (u + 1)) i o) (grown.new u less) left in (
           l.count ∙ linked.count u,
           λ k flag. l.same k (settled_flag flags (past u).loose k (linked.loose u k ge) flag) ∙ ap (λ (x : Image). block x k) (linked.now u ge),
-          front_given more longer o ((later u).given + left.more) is (omega (arith, given u less)) (omega (arith, left.few, given u less, given (u + 1) (omega arith))) left.given,
+          front_given more longer o ((later u).given + left.more) is (omega (arith, given u less))
+              (omega (arith, left.few, given u less, given (u + 1) (omega arith))) left.given,
         )
         | inr le ↦
             let now = image_now (later u) i (at_call later u grown.old le ge) left.count left.same in
@@ -379,15 +417,18 @@ module _ (past : ℕ → Moment) (calls remembered : ℕ) (blocks : Image) (flag
             (now.0, now.1, front_given more longer o ((later u).given + left.more) is (omega arith) (omega (arith, left.few, given (u + 1) (omega arith))) left.given)
       ]
 
-  pub give_kept : (later : ℕ → Moment) (d : ℕ) (more longer : List ℕ) → Grows calls (Give calls (length output + length more)) past later → longer ≡ output ++ more → calls ≤ d
+  pub give_kept : (later : ℕ → Moment) (d : ℕ) (more longer : List ℕ) → Grows calls (Give calls (length output + length more)) past later
+      → longer ≡ output ++ more → calls ≤ d
       → (t : ℕ) (i : Image) (o : List ℕ) → LeftSince past calls output t i o → LeftSince later d longer t i o
   give_kept later d more longer grown is le t i o left = left_kept later d longer le grown.old (grown_take more longer is) t i o left
 
-  pub grown_kept : (s : Step) (later : ℕ → Moment) (d : ℕ) → Grows calls s past later → calls ≤ d → (t : ℕ) (i : Image) (o : List ℕ) → LeftSince past calls output t i o → LeftSince later d output t i o
+  pub grown_kept : (s : Step) (later : ℕ → Moment) (d : ℕ) → Grows calls s past later → calls ≤ d → (t : ℕ) (i : Image) (o : List ℕ)
+      → LeftSince past calls output t i o → LeftSince later d output t i o
   grown_kept s later d grown le t i o left = left_kept later d output le grown.old (λ n le. refl) t i o left
 
   -- a good write settles nothing
-  pub write_settled : (later : ℕ → Moment) (d at : ℕ) (bytes : List ℕ) → Grows calls (Write calls at bytes) past later → calls < d → (later d).settled ≡ (past calls).settled
+  pub write_settled : (later : ℕ → Moment) (d at : ℕ) (bytes : List ℕ) → Grows calls (Write calls at bytes) past later → calls < d
+      → (later d).settled ≡ (past calls).settled
   write_settled later d at bytes grown less = ap (λ (m : Moment). m.settled) (grown.new d less) ∙ linked.still d (omega arith)
 
   pub give_settled : (later : ℕ → Moment) (d until : ℕ) → Grows calls (Give calls until) past later → calls < d → (later d).settled ≡ (past calls).settled
@@ -400,26 +441,32 @@ module _ (past : ℕ → Moment) (calls remembered : ℕ) (blocks : Image) (flag
   ]
 
 -- a failed write, remembered or not
-module _ (first : Image) (steps steps' : List Step) (calls remembered remembered' : ℕ) (blocks : Image) (flags : List Bool) (output : List ℕ) (linked : Linked (past_of first steps) calls remembered blocks flags output)
+module _ (first : Image) (steps steps' : List Step) (calls remembered remembered' : ℕ) (blocks : Image) (flags : List Bool)
+    (output : List ℕ) (linked : Linked (past_of first steps) calls remembered blocks flags output)
     (at d : ℕ) (noted : FailedNoted calls at steps steps' remembered remembered') (step : d ≡ min (calls + 1) (2 ^ 64 - 1)) (last : calls ≤ 2 ^ 64 - 1) where
   pub failed_linked : at < length blocks → Linked (past_of first steps') d remembered' blocks (slice_set flags at true) output
   failed_linked fits = ⊎_elim
       (λ is. subst (λ r. Linked (past_of first steps') d r blocks (slice_set flags at true) output) (sym is.1)
-      (linked_mark (past_of first steps) calls remembered blocks flags output linked (past_of first steps') d at (grows first steps steps' (Failed calls at) calls refl is.0) step last fits))
+      (linked_mark (past_of first steps) calls remembered blocks flags output linked (past_of first steps') d at
+      (grows first steps steps' (Failed calls at) calls refl is.0) step last fits))
       (λ is. subst (λ (x : List Step). Linked (past_of first x) d remembered' blocks (slice_set flags at true) output) (sym is.0)
       (linked_lost (past_of first steps) calls remembered blocks flags output linked d at remembered' is.1 step last fits)) noted
 
   pub failed_left : (t : ℕ) (i : Image) (o : List ℕ) → LeftSince (past_of first steps') d output t i o
       → LeftSince (past_of first steps) calls output t i o ⊎ But (past_of first steps) calls remembered blocks flags output linked at i o
   failed_left t i o left = ⊎_elim
-      (λ is. mark_left (past_of first steps) calls remembered blocks flags output linked (past_of first steps') d at (grows first steps steps' (Failed calls at) calls refl is.0) t i o left)
+      (λ is. mark_left (past_of first steps) calls remembered blocks flags output linked (past_of first steps') d at
+      (grows first steps steps' (Failed calls at) calls refl is.0) t i o left)
       (λ is. ⊎_elim (λ l. inl l) (λ now. inr (now.0, λ k other flag. now.1 k flag, now.2))
-      (pass_left (past_of first steps) calls remembered blocks flags output linked d t i o (subst (λ (x : List Step). LeftSince (past_of first x) d output t i o) is.0 left))) noted
+      (pass_left (past_of first steps) calls remembered blocks flags output linked d t i o
+      (subst (λ (x : List Step). LeftSince (past_of first x) d output t i o) is.0 left))) noted
 
   pub failed_kept : (t : ℕ) (i : Image) (o : List ℕ) → LeftSince (past_of first steps) calls output t i o → LeftSince (past_of first steps') d output t i o
   failed_kept t i o left = ⊎_elim
-      (λ is. grown_kept (past_of first steps) calls remembered blocks flags output linked (Failed calls at) (past_of first steps') d (grows first steps steps' (Failed calls at) calls refl is.0) (omega arith) t i o left)
-      (λ is. subst (λ (x : List Step). LeftSince (past_of first x) d output t i o) (sym is.0) (pass_kept (past_of first steps) calls remembered blocks flags output linked d t i o (omega arith) left)) noted
+      (λ is. grown_kept (past_of first steps) calls remembered blocks flags output linked (Failed calls at) (past_of first steps') d
+      (grows first steps steps' (Failed calls at) calls refl is.0) (omega arith) t i o left)
+      (λ is. subst (λ (x : List Step). LeftSince (past_of first x) d output t i o) (sym is.0)
+      (pass_kept (past_of first steps) calls remembered blocks flags output linked d t i o (omega arith) left)) noted
 
   pub failed_past : (t : ℕ) → t ≤ calls → past_of first steps' t ≡ past_of first steps t
   failed_past t le = ⊎_elim
@@ -428,5 +475,6 @@ module _ (first : Image) (steps steps' : List Step) (calls remembered remembered
 
   pub failed_settled : (past_of first steps' d).settled ≡ (past_of first steps calls).settled
   failed_settled = ⊎_elim
-      (λ is. mark_settled (past_of first steps) calls remembered blocks flags output linked (past_of first steps') d at (grows first steps steps' (Failed calls at) calls refl is.0) (omega arith))
+      (λ is. mark_settled (past_of first steps) calls remembered blocks flags output linked (past_of first steps') d at
+      (grows first steps steps' (Failed calls at) calls refl is.0) (omega arith))
       (λ is. ap (λ (x : List Step). (past_of first x d).settled) is.0 ∙ linked.still d (omega arith)) noted

@@ -9,13 +9,16 @@ pub contains_any : (xs : List ℕ) (x : ℕ) → list_any (λ y. nat_eq y x) xs 
 contains_any [] x is = absurd (false≢true is)
 contains_any (y ∷ xs) x is = elim (cases_eq y x) as (λ _. Contains (y ∷ xs) x) [
   | inl same ↦ (0, omega arith, same)
-  | inr other ↦ let rest : list_any (λ z. nat_eq z x) xs ≡ true = grind (arith, nat_tests, is) in let there = contains_any xs x rest in (suc there.0, omega arith, there.2)
+  | inr other ↦
+      let rest : list_any (λ z. nat_eq z x) xs ≡ true = grind (arith, nat_tests, is) in let there = contains_any xs x rest in
+      (suc there.0, omega arith, there.2)
 ]
 
 pub any_contains : (xs : List ℕ) (x k : ℕ) → k < length xs → slice_index_or xs k x ≡ x → list_any (λ y. nat_eq y x) xs ≡ true
 any_contains [] x k less is = absurd (omega arith)
 any_contains (y ∷ xs) x zero less is = grind (arith, nat_tests)
-any_contains (y ∷ xs) x (suc k) less is = let rest = any_contains xs x k (omega arith) is in elim (cases_eq y x) as (λ _. list_any (λ z. nat_eq z x) (y ∷ xs) ≡ true) [
-  | inl same ↦ grind (arith, nat_tests)
-  | inr other ↦ grind (arith, nat_tests)
-]
+any_contains (y ∷ xs) x (suc k) less is =
+    let rest = any_contains xs x k (omega arith) is in elim (cases_eq y x) as (λ _. list_any (λ z. nat_eq z x) (y ∷ xs) ≡ true) [
+      | inl same ↦ grind (arith, nat_tests)
+      | inr other ↦ grind (arith, nat_tests)
+    ]

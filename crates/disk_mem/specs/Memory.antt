@@ -173,18 +173,21 @@ pub record IsNew (image : Image) (m : Memory) : Type 0 where
 pub take_whole : (xs : List ℕ) (n : ℕ) → n ≡ length xs → take n xs ≡ xs
 take_whole xs n is = grind (arith, take_all)
 
-pub settled_flag : (flags : List Bool) (loose : ℕ → Bool) (k : ℕ) → (loose k ≡ true → slice_index_or flags k false ≡ true) → slice_index_or flags k false ≡ false → loose k ≡ false
+pub settled_flag : (flags : List Bool) (loose : ℕ → Bool) (k : ℕ) → (loose k ≡ true → slice_index_or flags k false ≡ true)
+    → slice_index_or flags k false ≡ false → loose k ≡ false
 settled_flag flags loose k tells is = elim (cases_Bool (loose k)) [
   | inl set ↦ absurd (false≢true (sym is ∙ tells set))
   | inr clear ↦ clear
 ]
 
 -- where no call gave more, all that was given is left
-pub all_given : (output : List ℕ) (m next : Moment) (image : Image) (out : List ℕ) → m.given ≡ length output → next.given ≡ length output → IsLeft output m next image out → out ≡ output
+pub all_given : (output : List ℕ) (m next : Moment) (image : Image) (out : List ℕ) → m.given ≡ length output → next.given ≡ length output
+    → IsLeft output m next image out → out ≡ output
 all_given output m next image out a b is = is.given ∙ take_whole output _ (omega (arith, is.few, a, b))
 
 -- what a crash leaves of a moment that is not over agrees with the present
-pub agrees : (past : ℕ → Moment) (calls remembered : ℕ) (blocks : Image) (flags : List Bool) (output : List ℕ) → Linked past calls remembered blocks flags output
+pub agrees : (past : ℕ → Moment) (calls remembered : ℕ) (blocks : Image) (flags : List Bool) (output : List ℕ)
+    → Linked past calls remembered blocks flags output
     → (u : ℕ) → calls ≤ u → (image : Image) (out : List ℕ) → IsLeft output (past u) (past (u + 1)) image out
     → (length image ≡ length blocks) × ((k : ℕ) → slice_index_or flags k false ≡ false → block image k ≡ block blocks k) × (out ≡ output)
 agrees past calls remembered blocks flags output linked u le image out is = (
@@ -193,12 +196,15 @@ agrees past calls remembered blocks flags output linked u le image out is = (
   all_given output (past u) (past (u + 1)) image out (linked.given u le) (linked.given (u + 1) (omega arith)) is,
 )
 
-pub holds_now : (past : ℕ → Moment) (calls remembered : ℕ) (blocks : Image) (flags : List Bool) (output : List ℕ) → Linked past calls remembered blocks flags output
+pub holds_now : (past : ℕ → Moment) (calls remembered : ℕ) (blocks : Image) (flags : List Bool) (output : List ℕ)
+    → Linked past calls remembered blocks flags output
     → (image : Image) (out : List ℕ) → LeftSince past calls output calls image out
     → (length image ≡ length blocks) × ((k : ℕ) → slice_index_or flags k false ≡ false → block image k ≡ block blocks k) × (out ≡ output)
-holds_now past calls remembered blocks flags output linked image out left = agrees past calls remembered blocks flags output linked left.moment left.from image out left.is
+holds_now past calls remembered blocks flags output linked image out left =
+    agrees past calls remembered blocks flags output linked left.moment left.from image out left.is
 
-pub may_leave_now : (past : ℕ → Moment) (calls remembered : ℕ) (blocks : Image) (flags : List Bool) (output : List ℕ) → Linked past calls remembered blocks flags output
+pub may_leave_now : (past : ℕ → Moment) (calls remembered : ℕ) (blocks : Image) (flags : List Bool) (output : List ℕ)
+    → Linked past calls remembered blocks flags output
     → (t : ℕ) → t ≤ calls → LeftSince past calls output t blocks output
 may_leave_now past calls remembered blocks flags output linked t le = record {
   moment = calls;

@@ -29,7 +29,8 @@ word_moves xs ys a h e =
     let e3 = mid_inside xs ys a 4 3 (omega arith) (omega arith) in
     grind arith
 
-put_word_4 : (xs ys zs : List ℕ) (a v : ℕ) → ys ≡ bytes_low_first 0 4 v ++ zs → length ys ≡ 4 → a + 4 ≤ length xs → v < 2 ^ 32 → WordSet xs a v (put_mid a 4 xs ys)
+put_word_4 : (xs ys zs : List ℕ) (a v : ℕ) → ys ≡ bytes_low_first 0 4 v ++ zs → length ys ≡ 4 → a + 4 ≤ length xs → v < 2 ^ 32
+    → WordSet xs a v (put_mid a 4 xs ys)
 put_word_4 xs ys zs a v e l h f = record {
   value = word_moves xs ys a h l ∙ word_of ys ∙ ap (little_number 4) e ∙ little_number-reads_back 4 v zs f;
   others = λ k c. ⊎_elim
@@ -39,8 +40,11 @@ put_word_4 xs ys zs a v e l h f = record {
 }
 
 -- after a write of v to the four bytes from a on
-pub put_word : (xs ys zs : List ℕ) (a n v : ℕ) → n ≡ 4 → ys ≡ bytes_low_first 0 4 v ++ zs → length ys ≡ n → a + 4 ≤ length xs → v < 2 ^ 32 → WordSet xs a v (put_mid a n xs ys)
-put_word xs ys zs a n v e = subst (λ (m : ℕ). ys ≡ bytes_low_first 0 4 v ++ zs → length ys ≡ m → a + 4 ≤ length xs → v < 2 ^ 32 → WordSet xs a v (put_mid a m xs ys)) (sym e) (put_word_4 xs ys zs a v)
+pub put_word : (xs ys zs : List ℕ) (a n v : ℕ) → n ≡ 4 → ys ≡ bytes_low_first 0 4 v ++ zs → length ys ≡ n → a + 4 ≤ length xs → v < 2 ^ 32
+    → WordSet xs a v (put_mid a n xs ys)
+put_word xs ys zs a n v e =
+    subst (λ (m : ℕ). ys ≡ bytes_low_first 0 4 v ++ zs → length ys ≡ m → a + 4 ≤ length xs → v < 2 ^ 32 → WordSet xs a v (put_mid a m xs ys))
+    (sym e) (put_word_4 xs ys zs a v)
 
 -- eight bytes read as two words
 long_of : (ys : List ℕ) → long_at ys 0 ≡ little_number 8 ys
@@ -60,7 +64,8 @@ long_moves xs ys a h e =
     let e7 = mid_inside xs ys a 8 7 (omega arith) (omega arith) in
     grind arith
 
-put_long_8 : (xs ys zs : List ℕ) (a v : ℕ) → ys ≡ bytes_low_first 0 8 v ++ zs → length ys ≡ 8 → a + 8 ≤ length xs → v < 2 ^ 64 → LongSet xs a v (put_mid a 8 xs ys)
+put_long_8 : (xs ys zs : List ℕ) (a v : ℕ) → ys ≡ bytes_low_first 0 8 v ++ zs → length ys ≡ 8 → a + 8 ≤ length xs → v < 2 ^ 64
+    → LongSet xs a v (put_mid a 8 xs ys)
 put_long_8 xs ys zs a v e l h f = record {
   value = long_moves xs ys a h l ∙ long_of ys ∙ ap (little_number 8) e ∙ little_number-reads_back 8 v zs f;
   others = λ k c. ⊎_elim
@@ -70,8 +75,11 @@ put_long_8 xs ys zs a v e l h f = record {
 }
 
 -- after a write of v to the eight bytes from a on
-pub put_long : (xs ys zs : List ℕ) (a n v : ℕ) → n ≡ 8 → ys ≡ bytes_low_first 0 8 v ++ zs → length ys ≡ n → a + 8 ≤ length xs → v < 2 ^ 64 → LongSet xs a v (put_mid a n xs ys)
-put_long xs ys zs a n v e = subst (λ (m : ℕ). ys ≡ bytes_low_first 0 8 v ++ zs → length ys ≡ m → a + 8 ≤ length xs → v < 2 ^ 64 → LongSet xs a v (put_mid a m xs ys)) (sym e) (put_long_8 xs ys zs a v)
+pub put_long : (xs ys zs : List ℕ) (a n v : ℕ) → n ≡ 8 → ys ≡ bytes_low_first 0 8 v ++ zs → length ys ≡ n → a + 8 ≤ length xs → v < 2 ^ 64
+    → LongSet xs a v (put_mid a n xs ys)
+put_long xs ys zs a n v e =
+    subst (λ (m : ℕ). ys ≡ bytes_low_first 0 8 v ++ zs → length ys ≡ m → a + 8 ≤ length xs → v < 2 ^ 64 → LongSet xs a v (put_mid a m xs ys))
+    (sym e) (put_long_8 xs ys zs a v)
 
 -- numbers that lie apart stay
 pub word-others : (old new : List ℕ) (at v other : ℕ) → WordSet old at v new → (other + 4 ≤ at) ⊎ (at + 4 ≤ other) → word_at new other ≡ word_at old other

@@ -20,7 +20,8 @@ module _ {D : Type 0} (state : D → DiskState) (left : D → ℕ → Image → 
   every_after E S a b P w every image agrees = every image (agrees_back E S a b image w agrees)
 
   -- others write elsewhere, and make barriers
-  pub every_apart : (E S : ℕ → Type 0) (a b : D) (P : Image → Type 0) → ((k : ℕ) → E k → S k → ⊥) → Within state left S a b → Every E (state a) P → Every E (state b) P
+  pub every_apart : (E S : ℕ → Type 0) (a b : D) (P : Image → Type 0) → ((k : ℕ) → E k → S k → ⊥) → Within state left S a b
+      → Every E (state a) P → Every E (state b) P
   every_apart E S a b P apart w every image agrees = every image (record {
     count = agrees.count ∙ w.size;
     same = λ k inside s. agrees.same k inside (w.settled k (apart k inside) s) ∙ w.same k (apart k inside);
@@ -56,23 +57,28 @@ module _ {D : Type 0} (state : D → DiskState) (left : D → ℕ → Image → 
   pub step_from_now : (E S R : ℕ → Type 0) (P : Image → Type 0) (a b : D) → RestsOn R P → ((k : ℕ) → R k → E k) → ((k : ℕ) → R k → ¬ S k)
       → Within state left S a b → Settled E (state a) → P (state a).now → CrashStep state left E P a b
   step_from_now E S R P a b rests inside outside w settled p =
-      let every : Every (Minus E S) (state a) P = λ image agrees. rests (state a).now image (λ k r. agrees.same k (inside k r, outside k r) (settled.settled k (inside k r))) p in
+      let every : Every (Minus E S) (state a) P = λ image agrees. rests (state a).now image
+      (λ k r. agrees.same k (inside k r, outside k r) (settled.settled k (inside k r))) p in
       record { leaves = leaves_within E S a b P w every; after = every_after E S a b P w every }
 
   -- what reads give keeps P likewise
-  pub now_after : (S R : ℕ → Type 0) (P : Image → Type 0) (a b : D) → RestsOn R P → ((k : ℕ) → R k → ¬ S k) → Within state left S a b → P (state a).now → P (state b).now
+  pub now_after : (S R : ℕ → Type 0) (P : Image → Type 0) (a b : D) → RestsOn R P → ((k : ℕ) → R k → ¬ S k) → Within state left S a b
+      → P (state a).now → P (state b).now
   now_after S R P a b rests outside w p = rests (state a).now (state b).now (λ k r. w.same k (outside k r)) p
 
   -- two steps whose crashes leave what has P are one such step, where the streams stay in the first
-  pub step_then : (E : ℕ → Type 0) (P : Image → Type 0) (a b c : D) → (state b).streams ≡ (state a).streams → CrashStep state left E P a b → CrashStep state left E P b c → CrashStep state left E P a c
+  pub step_then : (E : ℕ → Type 0) (P : Image → Type 0) (a b c : D) → (state b).streams ≡ (state a).streams → CrashStep state left E P a b
+      → CrashStep state left E P b c → CrashStep state left E P a c
   step_then E P a b c streams v w = record {
     leaves = leaves_then _ a b c v.leaves
-        (leaves_more (With (state b).streams.aside P) (With (state a).streams.aside P) b c (λ i o p. (p.0, p.1 ∙ ap (λ (x : Streams). x.aside) streams)) w.leaves);
+        (leaves_more (With (state b).streams.aside P) (With (state a).streams.aside P) b c
+        (λ i o p. (p.0, p.1 ∙ ap (λ (x : Streams). x.aside) streams)) w.leaves);
     after = w.after;
   }
 
   -- a barrier, or others' calls
-  pub step_apart : (E S : ℕ → Type 0) (P : Image → Type 0) (a b : D) → ((k : ℕ) → E k → S k → ⊥) → Within state left S a b → Every E (state a) P → CrashStep state left E P a b
+  pub step_apart : (E S : ℕ → Type 0) (P : Image → Type 0) (a b : D) → ((k : ℕ) → E k → S k → ⊥) → Within state left S a b
+      → Every E (state a) P → CrashStep state left E P a b
   step_apart E S P a b apart w every = record { leaves = leaves_apart E S a b P apart w every; after = every_apart E S a b P apart w every }
 
   -- a step whose crashes leave what has P is one whose crashes leave what has any weaker Q
@@ -90,7 +96,8 @@ module _ {D : Type 0} (state : D → DiskState) (left : D → ℕ → Image → 
       step_then E P a b c w.streams first (step_apart E Nowhere P b c (λ k e n. n) v first.after)
 
 -- after a good barrier
-pub settles : (T X : Type 0) (on : ℕ → Type 0) (r : Result T X) (old new : DiskState) → new.tells ≡ true → BarrierCounts (is_ok r) old new → OnOk r (Settled on new)
+pub settles : (T X : Type 0) (on : ℕ → Type 0) (r : Result T X) (old new : DiskState) → new.tells ≡ true → BarrierCounts (is_ok r) old new
+    → OnOk r (Settled on new)
 settles T X on (Ok x) old new told counts = record { told = told; settled = λ k inside. counts.loose k }
 settles T X on (Err e) old new told counts = tt
 
@@ -104,7 +111,8 @@ OnOk-always (Err e) p = tt
 
 module _ {D : Type 0} (state : D → DiskState) (left : D → ℕ → Image → List ℕ → Type 0) where
   -- one step: writes, and a barrier
-  pub moves_barrier : {T X : Type 0} (E S R R' : ℕ → Type 0) (P after : Image → Type 0) (a b c : D) (r : Result T X) → RestsOn R P → ((k : ℕ) → R k → E k) → ((k : ℕ) → R k → ¬ S k)
+  pub moves_barrier : {T X : Type 0} (E S R R' : ℕ → Type 0) (P after : Image → Type 0) (a b c : D) (r : Result T X) → RestsOn R P
+      → ((k : ℕ) → R k → E k) → ((k : ℕ) → R k → ¬ S k)
       → RestsOn R' after → Within state left S a b → Within state left Nowhere b c → ((state b).tells ≡ true → BarrierCounts (is_ok r) (state b) (state c))
       → ((state a).tells ≡ true → P (state a).now → after (state b).now) → Moves state left E r P P after a c
   moves_barrier {T} {X} E S R R' P after a b c r rests inside outside rests' w v counts next = record {
@@ -120,7 +128,8 @@ OnOk-err P (Ok x) is = absurd (cc is)
 OnOk-err P (Err e) is = tt
 
 module _ {D : Type 0} (state : D → DiskState) (left : D → ℕ → Image → List ℕ → Type 0) where
-  pub moves_err : {T X : Type 0} (E S R : ℕ → Type 0) (P after : Image → Type 0) (a b : D) (r : Result T X) → RestsOn R P → ((k : ℕ) → R k → E k) → ((k : ℕ) → R k → ¬ S k)
+  pub moves_err : {T X : Type 0} (E S R : ℕ → Type 0) (P after : Image → Type 0) (a b : D) (r : Result T X) → RestsOn R P
+      → ((k : ℕ) → R k → E k) → ((k : ℕ) → R k → ¬ S k)
       → Within state left S a b → IsErr r → Moves state left E r P P after a b
   moves_err E S R P after a b r rests inside outside w is = record {
     crash = λ settled p. step_from_now state left E S R P a b rests inside outside w settled p;
@@ -128,17 +137,21 @@ module _ {D : Type 0} (state : D → DiskState) (left : D → ℕ → Image → 
   }
 
   -- one step after another
-  pub moves_then : {T X U Y : Type 0} (E S : ℕ → Type 0) (P Q before mid after : Image → Type 0) (a b c : D) (r : Result T X) (x : T) (q : Result U Y) → Within state left S a b
-      → r ≡ Ok x → ((i : Image) → Q i → P i) → Moves state left E r before P mid a b → Moves state left E q mid Q after b c → Moves state left E q before P after a c
+  pub moves_then : {T X U Y : Type 0} (E S : ℕ → Type 0) (P Q before mid after : Image → Type 0) (a b c : D) (r : Result T X) (x : T) (q : Result U Y)
+      → Within state left S a b
+      → r ≡ Ok x → ((i : Image) → Q i → P i) → Moves state left E r before P mid a b → Moves state left E q mid Q after b c
+      → Moves state left E q before P after a c
   moves_then E S P Q before mid after a b c r x q w is sub v u =
-      let here : Settled E (state a) → before (state a).now → Settled E (state b) × mid (state b).now = λ settled p. subst (λ y. OnOk y (Settled E (state b) × mid (state b).now)) is (v.done settled p) in record {
+      let here : Settled E (state a) → before (state a).now
+      → Settled E (state b) × mid (state b).now = λ settled p. subst (λ y. OnOk y (Settled E (state b) × mid (state b).now)) is (v.done settled p) in record {
         crash = λ settled p. let at = here settled p in
             step_then state left E P a b c w.streams (v.crash settled p) (step_more state left E Q P b c sub (u.crash at.0 at.1));
         done = λ settled p. let at = here settled p in u.done at.0 at.1;
       }
 
   -- and one that failed
-  pub moves_fail : {T X U Y : Type 0} (E : ℕ → Type 0) (before P after after' : Image → Type 0) (a b : D) (r : Result T X) (q : Result U Y) → IsErr q → Moves state left E r before P after a b → Moves state left E q before P after' a b
+  pub moves_fail : {T X U Y : Type 0} (E : ℕ → Type 0) (before P after after' : Image → Type 0) (a b : D) (r : Result T X) (q : Result U Y)
+      → IsErr q → Moves state left E r before P after a b → Moves state left E q before P after' a b
   moves_fail E before P after after' a b r q is v = record { crash = v.crash; done = λ settled p. OnOk-err _ q is }
 
   -- a step between settled states promises of its crashes any weaker fact as well
@@ -148,7 +161,8 @@ module _ {D : Type 0} (state : D → DiskState) (left : D → ℕ → Image → 
 
 module _ {D : Type 0} (state : D → DiskState) (left : D → ℕ → Image → List ℕ → Type 0) where
   -- what is sure outlasts calls that write elsewhere, and each crash in them leaves it
-  pub sure_after : (S R : ℕ → Type 0) (P : Image → Type 0) (a b : D) → RestsOn R P → ((k : ℕ) → R k → ¬ S k) → Within state left S a b → Sure R P (state a) → Sure R P (state b)
+  pub sure_after : (S R : ℕ → Type 0) (P : Image → Type 0) (a b : D) → RestsOn R P → ((k : ℕ) → R k → ¬ S k) → Within state left S a b
+      → Sure R P (state a) → Sure R P (state b)
   sure_after S R P a b rests outside w sure = record {
     settled = record { told = w.tells ∙ sure.settled.told; settled = λ k r. w.settled k (outside k r) (sure.settled.settled k r) };
     now = rests (state a).now (state b).now (λ k r. w.same k (outside k r)) sure.now;
@@ -161,7 +175,8 @@ module _ {D : Type 0} (state : D → DiskState) (left : D → ℕ → Image → 
         (λ here. inr (rests (state a).now i (λ k r. here.0.same k (outside k r) (sure.settled.settled k r)) sure.now, here.1)) (w.left_new t i o l);
   }
 
-  pub leaves_with : (P Q : Image → Type 0) (aside : List ℕ) (a b : D) → ((i : Image) → P i → Q i) → LeavesOnly left a b (With aside P) → LeavesOnly left a b (With aside Q)
+  pub leaves_with : (P Q : Image → Type 0) (aside : List ℕ) (a b : D) → ((i : Image) → P i → Q i) → LeavesOnly left a b (With aside P)
+      → LeavesOnly left a b (With aside Q)
   leaves_with P Q aside a b sub v = leaves_more state left (With aside P) (With aside Q) a b (λ i o p. (sub i p.0, p.1)) v
 
 -- what holds anyway holds at Err

@@ -44,18 +44,23 @@ module _ {D : Type 0} (state : D → DiskState) (left : D → ℕ → Image → 
   pub leaves_outs : (P Q : List ℕ → Type 0) (s m : D) → ((o : List ℕ) → P o → Q o) → Leaves state left P s m → Leaves state left Q s m
   leaves_outs P Q s m sub v = record { left_new = λ t i o l. ⊎_elim (λ b. inl b) (λ h. inr (h.0, sub o h.1)) (v.left_new t i o l); left_old = v.left_old }
 
-  pub leaves_next : (P : List ℕ → Type 0) (s m n : D) → SameDisk (state s) (state m) → Leaves state left P s m → Leaves state left P m n → Leaves state left P s n
+  pub leaves_next : (P : List ℕ → Type 0) (s m n : D) → SameDisk (state s) (state m) → Leaves state left P s m → Leaves state left P m n
+      → Leaves state left P s n
   leaves_next P s m n same v w = record {
     left_new = λ t i o l. ⊎_elim (λ b. v.left_new t i o b) (λ h. inr (agrees_same (state s) (state m) i same h.0, h.1)) (w.left_new t i o l);
     left_old = λ t i o l. w.left_old t i o (v.left_old t i o l);
   }
 
   pub leaves_give : (aside bytes : List ℕ) (at n : ℕ) (s m e : D) → SameDisk (state s) (state m) → (state m).streams.aside ≡ aside ++ take at bytes
-      → Leaves state left (FirstOf aside bytes at) s m → Leaves state left (FirstOf (state m).streams.aside (drop at bytes) n) m e → Leaves state left (FirstOf aside bytes (at + n)) s e
+      → Leaves state left (FirstOf aside bytes at) s m → Leaves state left (FirstOf (state m).streams.aside (drop at bytes) n) m e
+      → Leaves state left (FirstOf aside bytes (at + n)) s e
   leaves_give aside bytes at n s m e same is v w = leaves_next (FirstOf aside bytes (at + n)) s m e same
       (leaves_outs (FirstOf aside bytes at) (FirstOf aside bytes (at + n)) s m (λ o f. (f.0, omega (arith, f.1), f.2)) v)
       (leaves_outs (FirstOf (state m).streams.aside (drop at bytes) n) (FirstOf aside bytes (at + n)) m e
       (λ o f. (at + f.0, omega (arith, f.1), f.2 ∙ ap (λ (x : List ℕ). x ++ take f.0 (drop at bytes)) is ∙ append_assoc aside (take at bytes) (take f.0 (drop at bytes)) ∙ ap (λ (x : List ℕ). aside ++ x) (take_more_of bytes at f.0))) w)
 
-pub aside_give : (aside now new bytes : List ℕ) (at n : ℕ) → now ≡ aside ++ take at bytes → new ≡ now ++ take n (drop at bytes) → new ≡ aside ++ take (at + n) bytes
-aside_give aside now new bytes at n is more = more ∙ ap (λ (x : List ℕ). x ++ take n (drop at bytes)) is ∙ append_assoc aside (take at bytes) (take n (drop at bytes)) ∙ ap (λ (x : List ℕ). aside ++ x) (take_more_of bytes at n)
+pub aside_give : (aside now new bytes : List ℕ) (at n : ℕ) → now ≡ aside ++ take at bytes → new ≡ now ++ take n (drop at bytes)
+    → new ≡ aside ++ take (at + n) bytes
+aside_give aside now new bytes at n is more =
+    more ∙ ap (λ (x : List ℕ). x ++ take n (drop at bytes)) is ∙ append_assoc aside (take at bytes) (take n (drop at bytes))
+    ∙ ap (λ (x : List ℕ). aside ++ x) (take_more_of bytes at n)

@@ -35,7 +35,8 @@ home_one lot a b k l h g = place-apart lot a b l h.0 g.0 (sym h.1 ∙ g.1)
 pub extent_past_tables : (lot : LotView) (k : ℕ) → IsLot lot → extent lot k → 32 ≤ k
 extent_past_tables lot k l e = let low = l.low in ⊎_elim (λ a. omega arith) (λ g. let from = g.2 in omega arith) (extent_cases lot k e)
 
-all_below : (base n : ℕ) (groups : List ℕ) → ((i : ℕ) → i < length groups → base + 256 * slice_index groups i + 256 ≤ n) → list_all (λ g. nat_le (base + 256 * g + 256) n) groups ≡ true
+all_below : (base n : ℕ) (groups : List ℕ) → ((i : ℕ) → i < length groups → base + 256 * slice_index groups i + 256 ≤ n)
+    → list_all (λ g. nat_le (base + 256 * g + 256) n) groups ≡ true
 all_below base n [] h = refl
 all_below base n (g ∷ groups) h =
     let rest = all_below base n groups (λ i less. h (suc i) (omega (arith, less))) in

@@ -22,12 +22,15 @@ pub kept_fewer : (on less : ℕ → Type 0) (a b : DiskState) → ((k : ℕ) →
 kept_fewer on less a b sub v = record { size = v.size; tells = v.tells; same = λ k here. v.same k (sub k here); settled = λ k here. v.settled k (sub k here) }
 
 -- calls that write elsewhere keep these blocks
-pub kept_within : {D : Type 0} (state : D → DiskState) (left : D → ℕ → Image → List ℕ → Type 0) (on S : ℕ → Type 0) (a b : D) → ((k : ℕ) → on k → S k → ⊥) → Within state left S a b → Kept on (state a) (state b)
-kept_within state left on S a b apart w = record { size = w.size; tells = w.tells; same = λ k here. w.same k (apart k here); settled = λ k here. w.settled k (apart k here) }
+pub kept_within : {D : Type 0} (state : D → DiskState) (left : D → ℕ → Image → List ℕ → Type 0) (on S : ℕ → Type 0) (a b : D)
+    → ((k : ℕ) → on k → S k → ⊥) → Within state left S a b → Kept on (state a) (state b)
+kept_within state left on S a b apart w =
+    record { size = w.size; tells = w.tells; same = λ k here. w.same k (apart k here); settled = λ k here. w.settled k (apart k here) }
 
 -- a take or a give keeps all blocks
 pub kept_same : (on : ℕ → Type 0) (a b : DiskState) → SameDisk a b → Kept on a b
-kept_same on a b same = record { size = same.size; tells = same.tells; same = λ k here. ap (λ (x : Image). block x k) same.now; settled = λ k here was. same.loose k ∙ was }
+kept_same on a b same =
+    record { size = same.size; tells = same.tells; same = λ k here. ap (λ (x : Image). block x k) same.now; settled = λ k here was. same.loose k ∙ was }
 
 -- a sure fact that rests on blocks that outlasted the calls of others is sure after these calls
 pub sure_kept : (on : ℕ → Type 0) (P : Image → Type 0) (a b : DiskState) → RestsOn on P → Kept on a b → Sure on P a → Sure on P b
@@ -38,4 +41,5 @@ sure_kept on P a b rests kept sure = record {
 
 -- what every image of some blocks has, every image has where these blocks are kept
 pub every_kept : (on : ℕ → Type 0) (P : Image → Type 0) (a b : DiskState) → Kept on a b → Every on a P → Every on b P
-every_kept on P a b kept every i agrees = every i (record { count = agrees.count ∙ kept.size; same = λ k here was. agrees.same k here (kept.settled k here was) ∙ kept.same k here })
+every_kept on P a b kept every i agrees =
+    every i (record { count = agrees.count ∙ kept.size; same = λ k here was. agrees.same k here (kept.settled k here was) ∙ kept.same k here })

@@ -42,13 +42,15 @@ place-below lot n a h k = ⊎_elim
     grind (arith, nat_tests))
     (address_cases lot a k)
 
-same-ordinal : (gs : List ℕ) (i j : ℕ) → ((i j : ℕ) → i < j → j < length gs → slice_index gs i ≢ slice_index gs j) → i < length gs → j < length gs → slice_index gs i ≡ slice_index gs j → i ≡ j
+same-ordinal : (gs : List ℕ) (i j : ℕ) → ((i j : ℕ) → i < j → j < length gs → slice_index gs i ≢ slice_index gs j) → i < length gs
+    → j < length gs → slice_index gs i ≡ slice_index gs j → i ≡ j
 same-ordinal gs i j apart hi hj e =
     let below : i < j → ⊥ = λ h. apart i j h hj e in
     let above : j < i → ⊥ = λ h. apart j i h hi (sym e) in
     omega arith
 
-group-apart : (lot : LotView) (a b : ℕ) → IsLot lot → a < 256 * length lot.groups → b < 256 * length lot.groups → 256 * slice_index lot.groups (a / 256) + a % 256 ≡ 256 * slice_index lot.groups (b / 256) + b % 256 → a ≡ b
+group-apart : (lot : LotView) (a b : ℕ) → IsLot lot → a < 256 * length lot.groups → b < 256 * length lot.groups
+    → 256 * slice_index lot.groups (a / 256) + a % 256 ≡ 256 * slice_index lot.groups (b / 256) + b % 256 → a ≡ b
 group-apart lot a b l ha hb e =
     let r = mod_below a 256 (omega arith) in
     let t = mod_below b 256 (omega arith) in
@@ -81,8 +83,10 @@ place-in lot a k = ⊎_elim
     (λ e. let s = place-sub lot a e in grind (arith, nat_tests))
     (λ e. let s = place-group lot a e.0 in
     let r = mod_below a 256 (omega arith) in
-    let one : (nat_le (lot.base + 256 * slice_index lot.groups (a / 256)) (place lot a) && nat_lt (place lot a) (lot.base + 256 * slice_index lot.groups (a / 256) + 256)) ≡ true = grind (arith, nat_tests) in
-    let all = list_any_at (λ g. nat_le (lot.base + 256 * g) (place lot a) && nat_lt (place lot a) (lot.base + 256 * g + 256)) lot.groups (a / 256) 0 (ordinal-below lot a e.1) one in
+    let one : (nat_le (lot.base + 256 * slice_index lot.groups (a / 256)) (place lot a) && nat_lt (place lot a)
+    (lot.base + 256 * slice_index lot.groups (a / 256) + 256)) ≡ true = grind (arith, nat_tests) in
+    let all = list_any_at (λ g. nat_le (lot.base + 256 * g) (place lot a) && nat_lt (place lot a) (lot.base + 256 * g + 256)) lot.groups
+    (a / 256) 0 (ordinal-below lot a e.1) one in
     grind (arith, nat_tests))
     (address_cases lot a k)
 
@@ -169,7 +173,8 @@ pub home_not_body : (lot : LotView) (a i : ℕ) → IsLot lot → i < 240 → is
 home_not_body lot a i l h k e = ⊎_elim (λ s. omega arith) (λ s. omega arith) (home_at lot a l k)
 
 -- the journal's blocks differ
-pub journal_apart : (lot : LotView) (i j : ℕ) → (gate_place lot ≢ header_place lot) × (gate_place lot ≢ body_place lot i) × (header_place lot ≢ body_place lot i) × (body_place lot i ≡ body_place lot j → i ≡ j)
+pub journal_apart : (lot : LotView) (i j : ℕ)
+    → (gate_place lot ≢ header_place lot) × (gate_place lot ≢ body_place lot i) × (header_place lot ≢ body_place lot i) × (body_place lot i ≡ body_place lot j → i ≡ j)
 journal_apart lot i j = ((λ e. omega arith), (λ e. omega arith), (λ e. omega arith), (λ e. omega arith))
 
 -- where a block of a lot lies: in its slot's area, or in one of its groups
@@ -191,7 +196,8 @@ any_index test (x ∷ xs) h =
 pub extent_cases : (lot : LotView) (k : ℕ) → extent lot k → ((area lot ≤ k) × (k < area lot + 256)) ⊎ InGroup lot k
 unfolding in_extent
 extent_cases lot k h =
-    elim (nat_le (area lot) k && nat_lt k (area lot + 256)) as (λ b. (nat_le (area lot) k && nat_lt k (area lot + 256)) ≡ b → ((area lot ≤ k) × (k < area lot + 256)) ⊎ InGroup lot k) [
+    elim (nat_le (area lot) k && nat_lt k (area lot + 256)) as (λ b. (nat_le (area lot) k && nat_lt k (area lot + 256)) ≡ b
+    → ((area lot ≤ k) × (k < area lot + 256)) ⊎ InGroup lot k) [
       | true ↦ λ e. inl ((grind (arith, nat_tests)), (grind (arith, nat_tests)))
       | false ↦ λ e.
           let any : list_any (λ g. nat_le (lot.base + 256 * g) k && nat_lt k (lot.base + 256 * g + 256)) lot.groups ≡ true = grind arith in
@@ -237,6 +243,7 @@ inside_at lot m a h = grind arith
 -- and where two maps agree on the lot
 pub inside_same : (lot : LotView) (m n : ℕ → List ℕ) (a : ℕ) → (is_address lot a ≡ true → n a ≡ m a) → inside lot n a ≡ inside lot m a
 unfolding inside
-inside_same lot m n a h = elim (is_address lot a) as (λ b. is_address lot a ≡ b → cond b (n a) [] ≡ cond b (m a) []) [ true ↦ λ e. h e | false ↦ λ e. refl ] refl
+inside_same lot m n a h =
+    elim (is_address lot a) as (λ b. is_address lot a ≡ b → cond b (n a) [] ≡ cond b (m a) []) [ true ↦ λ e. h e | false ↦ λ e. refl ] refl
 
 pub ruleset inside_laws = (inside_at)

@@ -38,7 +38,8 @@ lacks-grows held0 held1 [] h = grind arith
 lacks-grows held0 held1 (a ∷ wide) h = let r = lacks-grows held0 held1 wide h in let g = h a in grind arith
 
 -- a list of which one address is newly held
-pub lacks-falls : (held0 held1 : ℕ → Bool) (wide : List ℕ) (at : ℕ) → ((a : ℕ) → held0 a ≡ true → held1 a ≡ true) → held0 at ≡ false → held1 at ≡ true → has wide at ≡ true → 1 + lacks held1 wide ≤ lacks held0 wide
+pub lacks-falls : (held0 held1 : ℕ → Bool) (wide : List ℕ) (at : ℕ) → ((a : ℕ) → held0 a ≡ true → held1 a ≡ true) → held0 at ≡ false
+    → held1 at ≡ true → has wide at ≡ true → 1 + lacks held1 wide ≤ lacks held0 wide
 unfolding lacks has
 lacks-falls held0 held1 [] at h p q e = absurd cc
 lacks-falls held0 held1 (a ∷ wide) at h p q e =
@@ -48,7 +49,8 @@ lacks-falls held0 held1 (a ∷ wide) at h p q e =
     grind (arith, nat_tests)
 
 -- what an implementation owes of a put
-pub put-pays : (held0 held1 : ℕ → Bool) (room0 room1 at : ℕ) (ok : Bool) → ((a : ℕ) → held0 a ≡ true → held1 a ≡ true) → (ok ≡ true → held1 at ≡ true) → room0 ≤ room1 + 1 → (held0 at ≡ true → room0 ≤ room1) → Pays held0 room0 held1 room1 ok (at ∷ [])
+pub put-pays : (held0 held1 : ℕ → Bool) (room0 room1 at : ℕ) (ok : Bool) → ((a : ℕ) → held0 a ≡ true → held1 a ≡ true)
+    → (ok ≡ true → held1 at ≡ true) → room0 ≤ room1 + 1 → (held0 at ≡ true → room0 ≤ room1) → Pays held0 room0 held1 room1 ok (at ∷ [])
 put-pays held0 held1 room0 room1 at ok h q r k = λ wide e.
     let g = lacks-grows held0 held1 wide h in
     let f = λ (p : held0 at ≡ false) (o : ok ≡ true). lacks-falls held0 held1 wide at h p (q o) e in

@@ -21,7 +21,8 @@ unfolding used
 used-bit inodes map i = refl
 
 -- a bit of a group
-pub used-at : (inodes : Bool) (map : ℕ → List ℕ) (o i : ℕ) → i < bits_of inodes → used inodes map (bits_of inodes * o + i) ≡ bit_of (map (256 * o)) (bit_index inodes i)
+pub used-at : (inodes : Bool) (map : ℕ → List ℕ) (o i : ℕ) → i < bits_of inodes
+    → used inodes map (bits_of inodes * o + i) ≡ bit_of (map (256 * o)) (bit_index inodes i)
 used-at inodes map o i h =
     used-bit inodes map (bits_of inodes * o + i)
     ∙ ap (λ x. bit_of (map (256 * x)) (bit_place inodes (bits_of inodes * o + i))) (group_div inodes o i h)
@@ -50,7 +51,8 @@ group_full inodes map block o e all below b h =
           let i : bits_of inodes * o + (b - bits_of inodes * o) ≡ b = split (bits_of inodes) o b lt ge in
           let small : b - bits_of inodes * o < bits_of inodes = omega arith in
           let f : used inodes map (bits_of inodes * o + (b - bits_of inodes * o)) ≡ true =
-          used-at inodes map o (b - bits_of inodes * o) small ∙ ap (λ x. bit_of x (bit_index inodes (b - bits_of inodes * o))) (sym e) ∙ all (b - bits_of inodes * o) small in
+          used-at inodes map o (b - bits_of inodes * o) small ∙ ap (λ x. bit_of x (bit_index inodes (b - bits_of inodes * o))) (sym e)
+          ∙ all (b - bits_of inodes * o) small in
           rw i at f
     ] refl
 
@@ -70,7 +72,8 @@ group_least inodes map block o i e h clear all below = (
             let k : bits_of inodes * o + (b - bits_of inodes * o) ≡ b = omega arith in
             let small : b - bits_of inodes * o < i = omega arith in
             let f : used inodes map (bits_of inodes * o + (b - bits_of inodes * o)) ≡ true =
-            used-at inodes map o (b - bits_of inodes * o) (omega arith) ∙ ap (λ x. bit_of x (bit_index inodes (b - bits_of inodes * o))) (sym e) ∙ all (b - bits_of inodes * o) small in
+            used-at inodes map o (b - bits_of inodes * o) (omega arith)
+            ∙ ap (λ x. bit_of x (bit_index inodes (b - bits_of inodes * o))) (sym e) ∙ all (b - bits_of inodes * o) small in
             rw k at f
       ] refl,
 )
@@ -122,7 +125,8 @@ unfolding used
 bit_moves inodes v m0 m1 block i bits at only b =
     elim (b == i) as (λ t. (b == i) ≡ t → used inodes m1 b ≡ cond t v (used inodes m0 b)) [
       | true ↦ λ t. let same : b ≡ i = grind (arith, nat_tests) in
-          ap (used inodes m1) same ∙ ap (λ x. bit_of x (bit_place inodes i)) at ∙ bits (bit_place inodes i) ∙ ap (λ x. cond x v (bit_of (m0 (bitmap_of inodes i)) (bit_place inodes i))) (test_same _ _ refl)
+          ap (used inodes m1) same ∙ ap (λ x. bit_of x (bit_place inodes i)) at ∙ bits (bit_place inodes i)
+          ∙ ap (λ x. cond x v (bit_of (m0 (bitmap_of inodes i)) (bit_place inodes i))) (test_same _ _ refl)
       | false ↦ λ t. let apart : b ≢ i = grind (arith, nat_tests) in
           elim (b / bits_of inodes == i / bits_of inodes) as (λ u. (b / bits_of inodes == i / bits_of inodes) ≡ u → used inodes m1 b ≡ used inodes m0 b) [
             | true ↦ λ u. let group : b / bits_of inodes ≡ i / bits_of inodes = grind (arith, nat_tests) in
@@ -145,7 +149,8 @@ pub bit_keeps : (inodes v : Bool) (m0 m1 : ℕ → List ℕ) (block : List ℕ) 
     → (b : ℕ) → used (not inodes) m1 b ≡ used (not inodes) m0 b
 unfolding used
 bit_keeps inodes v m0 m1 block i bits at only b =
-    elim (b / bits_of (not inodes) == i / bits_of inodes) as (λ u. (b / bits_of (not inodes) == i / bits_of inodes) ≡ u → used (not inodes) m1 b ≡ used (not inodes) m0 b) [
+    elim (b / bits_of (not inodes) == i / bits_of inodes) as (λ u. (b / bits_of (not inodes) == i / bits_of inodes) ≡ u
+    → used (not inodes) m1 b ≡ used (not inodes) m0 b) [
       | true ↦ λ u. let group : b / bits_of (not inodes) ≡ i / bits_of inodes = grind (arith, nat_tests) in
           ap (λ x. bit_of (m1 (256 * x)) (bit_place (not inodes) b)) group
           ∙ ap (λ x. bit_of x (bit_place (not inodes) b)) at
@@ -173,7 +178,8 @@ unfolding is_data
 data_place lot a h = grind (arith, nat_tests)
 
 -- a clear bit of a place that holds no data
-pub unreserved : (lot : LotView) (map : ℕ → List ℕ) (block : List ℕ) (o i : ℕ) → block ≡ map (256 * o) → o < length lot.groups → i < 9 → bit_of block i ≡ false → ¬ Reserved lot map
+pub unreserved : (lot : LotView) (map : ℕ → List ℕ) (block : List ℕ) (o i : ℕ) → block ≡ map (256 * o) → o < length lot.groups → i < 9
+    → bit_of block i ≡ false → ¬ Reserved lot map
 unreserved lot map block o i e h p clear r =
     let m = group_mod false o i (omega arith) in
     let s = r.set (256 * o + i) (omega arith) (omega arith) in

@@ -51,15 +51,19 @@ pub record Kept (on : ℕ → Type 0) (old new : DiskState) : Type 0 where
   pub settled : (k : ℕ) → on k → old.loose k ≡ false → new.loose k ≡ false
 
 -- All crashes within a step leave what has P, and so does a crash after it.
-pub record CrashStep {D : Type 0} (state : D → DiskState) (left : D → ℕ → Image → List ℕ → Type 0) (on : ℕ → Type 0) (P : Image → Type 0) (old new : D) : Type 0 where
+pub record CrashStep {D : Type 0} (state : D → DiskState) (left : D → ℕ → Image → List ℕ → Type 0) (on : ℕ → Type 0) (P : Image → Type 0)
+    (old new : D) : Type 0 where
   pub leaves : LeavesOnly left old new (With (state old).streams.aside P)
   pub after : Every on (state new) P
 
--- One step from a state that has `before` with the blocks `from` settled: each crash leaves what has P, and an Ok leaves what has `after` with the blocks `on` settled.
-pub record MovesFrom {D T X : Type 0} (state : D → DiskState) (left : D → ℕ → Image → List ℕ → Type 0) (from on : ℕ → Type 0) (result : Result T X) (before P after : Image → Type 0) (old new : D) : Type 0 where
+-- One step from a state that has `before` with the blocks `from` settled: each crash leaves what has P,
+-- and an Ok leaves what has `after` with the blocks `on` settled.
+pub record MovesFrom {D T X : Type 0} (state : D → DiskState) (left : D → ℕ → Image → List ℕ → Type 0) (from on : ℕ → Type 0)
+    (result : Result T X) (before P after : Image → Type 0) (old new : D) : Type 0 where
   pub crash : Settled from (state old) → before (state old).now → CrashStep state left on P old new
   pub done : Settled from (state old) → before (state old).now → OnOk result (Settled on (state new) × after (state new).now)
 
 -- one step between settled states
-abbrev pub Moves : {D T X : Type 0} (state : D → DiskState) (left : D → ℕ → Image → List ℕ → Type 0) (on : ℕ → Type 0) (result : Result T X) (before P after : Image → Type 0) (old new : D) → Type 0
+abbrev pub Moves : {D T X : Type 0} (state : D → DiskState) (left : D → ℕ → Image → List ℕ → Type 0) (on : ℕ → Type 0) (result : Result T X) (before P after : Image → Type 0) (old new : D)
+    → Type 0
 Moves state left on result before P after old new = MovesFrom state left on on result before P after old new

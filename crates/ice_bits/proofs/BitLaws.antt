@@ -26,7 +26,8 @@ set_same xs k h =
     let e = bit_at_set_same w8 (slice_index xs (k / 8)) (k % 8) (mod_below k 8 (omega arith)) in
     bit_of-set xs k _ k h refl ∙ ap (λ x. x == 1) e
 
-set_other : (xs : List ℕ) (k j : ℕ) → k / 8 < length xs → j ≢ k → bit_of (slice_set xs (k / 8) (bit_or (slice_index xs (k / 8)) (1 * 2 ^ (k % 8) % 256))) j ≡ bit_of xs j
+set_other : (xs : List ℕ) (k j : ℕ) → k / 8 < length xs → j ≢ k
+    → bit_of (slice_set xs (k / 8) (bit_or (slice_index xs (k / 8)) (1 * 2 ^ (k % 8) % 256))) j ≡ bit_of xs j
 set_other xs k j h ne =
     elim (j / 8 == k / 8) as (λ b. (j / 8 == k / 8) ≡ b
     → bit_of (slice_set xs (k / 8) (bit_or (slice_index xs (k / 8)) (1 * 2 ^ (k % 8) % 256))) j ≡ bit_of xs j) [
@@ -36,21 +37,26 @@ set_other xs k j h ne =
       | false ↦ λ t. let apart : j / 8 ≢ k / 8 = grind (arith, nat_tests) in bit_of-other xs k _ j apart
     ] refl
 
-clear_same : (xs : List ℕ) (k : ℕ) → k / 8 < length xs → bit_of (slice_set xs (k / 8) (bit_and (slice_index xs (k / 8)) (255 - 1 * 2 ^ (k % 8) % 256))) k ≡ false
+clear_same : (xs : List ℕ) (k : ℕ) → k / 8 < length xs
+    → bit_of (slice_set xs (k / 8) (bit_and (slice_index xs (k / 8)) (255 - 1 * 2 ^ (k % 8) % 256))) k ≡ false
 clear_same xs k h =
     let e = bit_at_clear_same w8 (slice_index xs (k / 8)) (k % 8) (mod_below k 8 (omega arith)) in
     bit_of-set xs k _ k h refl ∙ ap (λ x. x == 1) e
 
-clear_other : (xs : List ℕ) (k j : ℕ) → k / 8 < length xs → j ≢ k → bit_of (slice_set xs (k / 8) (bit_and (slice_index xs (k / 8)) (255 - 1 * 2 ^ (k % 8) % 256))) j ≡ bit_of xs j
+clear_other : (xs : List ℕ) (k j : ℕ) → k / 8 < length xs → j ≢ k
+    → bit_of (slice_set xs (k / 8) (bit_and (slice_index xs (k / 8)) (255 - 1 * 2 ^ (k % 8) % 256))) j ≡ bit_of xs j
 clear_other xs k j h ne =
-    elim (j / 8 == k / 8) as (λ b. (j / 8 == k / 8) ≡ b → bit_of (slice_set xs (k / 8) (bit_and (slice_index xs (k / 8)) (255 - 1 * 2 ^ (k % 8) % 256))) j ≡ bit_of xs j) [
+    elim (j / 8 == k / 8) as (λ b. (j / 8 == k / 8) ≡ b
+    → bit_of (slice_set xs (k / 8) (bit_and (slice_index xs (k / 8)) (255 - 1 * 2 ^ (k % 8) % 256))) j ≡ bit_of xs j) [
       | true ↦ λ t. let same : j / 8 ≡ k / 8 = grind (arith, nat_tests) in
-          let e = bit_at_clear_other w8 (slice_index xs (k / 8)) (k % 8) (mod_below k 8 (omega arith)) (j % 8) (mod_below j 8 (omega arith)) (same_byte j k ne same) in
+          let e = bit_at_clear_other w8 (slice_index xs (k / 8)) (k % 8) (mod_below k 8 (omega arith)) (j % 8)
+          (mod_below j 8 (omega arith)) (same_byte j k ne same) in
           bit_of-set xs k _ j h same ∙ ap (λ x. x == 1) e ∙ sym (bit_of-byte xs k j same)
       | false ↦ λ t. let apart : j / 8 ≢ k / 8 = grind (arith, nat_tests) in bit_of-other xs k _ j apart
     ] refl
 
-one_bit : (v : Bool) (xs ys : List ℕ) (k : ℕ) → bit_of ys k ≡ v → ((j : ℕ) → j ≢ k → bit_of ys j ≡ bit_of xs j) → (j : ℕ) → bit_of ys j ≡ cond (j == k) v (bit_of xs j)
+one_bit : (v : Bool) (xs ys : List ℕ) (k : ℕ) → bit_of ys k ≡ v → ((j : ℕ) → j ≢ k → bit_of ys j ≡ bit_of xs j) → (j : ℕ)
+    → bit_of ys j ≡ cond (j == k) v (bit_of xs j)
 one_bit v xs ys k here else j =
     elim (j == k) as (λ b. (j == k) ≡ b → bit_of ys j ≡ cond b v (bit_of xs j)) [
       | true ↦ λ t. let same : j ≡ k = grind (arith, nat_tests) in ap (bit_of ys) same ∙ here
@@ -64,8 +70,11 @@ set_takes xs k h = one_bit true xs (slice_set xs (k / 8) (bit_or (slice_index xs
     (set_same xs k h) (λ j ne. set_other xs k j h ne)
 
 -- or cleared
-pub clear_gives : (xs : List ℕ) (k : ℕ) → k / 8 < length xs → Deletes (bit_of xs) k (bit_of (slice_set xs (k / 8) (bit_and (slice_index xs (k / 8)) (255 - 1 * 2 ^ (k % 8) % 256))))
-clear_gives xs k h = one_bit false xs (slice_set xs (k / 8) (bit_and (slice_index xs (k / 8)) (255 - 1 * 2 ^ (k % 8) % 256))) k (clear_same xs k h) (λ j ne. clear_other xs k j h ne)
+pub clear_gives : (xs : List ℕ) (k : ℕ) → k / 8 < length xs
+    → Deletes (bit_of xs) k (bit_of (slice_set xs (k / 8) (bit_and (slice_index xs (k / 8)) (255 - 1 * 2 ^ (k % 8) % 256))))
+clear_gives xs k h =
+    one_bit false xs (slice_set xs (k / 8) (bit_and (slice_index xs (k / 8)) (255 - 1 * 2 ^ (k % 8) % 256))) k (clear_same xs k h)
+    (λ j ne. clear_other xs k j h ne)
 
 pub ruleset bit_tests = (shr_and_one, bit_at-lt, nat_tests)
 

@@ -16,15 +16,19 @@ use Rattle.ice_check.specs.Shown.{Broke, IfBitmap, HoldsSome}
 use Rattle.ice_check.proofs.Ends.{whole_holds, whole_broken}
 
 module _ (lot : LotView) (m : Map) (ins bls : List Bool) where
-  pub agreed : (bs ns : ℕ) → counted false m ≡ bs → counted true m ≡ ns → BitsAgree lot m ins bls → count_below (marked bls) (256 * length lot.groups) ≡ bs → count_below (marked ins) (64 * length lot.groups) ≡ ns → Agrees lot m ins bls
+  pub agreed : (bs ns : ℕ) → counted false m ≡ bs → counted true m ≡ ns → BitsAgree lot m ins bls
+      → count_below (marked bls) (256 * length lot.groups) ≡ bs → count_below (marked ins) (64 * length lot.groups) ≡ ns → Agrees lot m ins bls
   agreed bs ns eb en a cb cn = record {
-    reserved = record { set = λ b low place. used-bit false m b ∙ (a.each (b / 256) (div_below b 256 (length lot.groups) (omega arith) (omega (arith, low)))).reserved (b % 256) place };
+    reserved =
+        record { set = λ b low place. used-bit false m b ∙ (a.each (b / 256) (div_below b 256 (length lot.groups) (omega arith) (omega (arith, low)))).reserved (b % 256) place };
     blocks = λ b data_is.
         let low = data_below lot b data_is in
-        used-bit false m b ∙ (a.each (b / 256) (div_below b 256 (length lot.groups) (omega arith) (omega (arith, low)))).blocks (b % 256) (data_place lot b data_is) (mod_below b 256 (omega arith))
+        used-bit false m b ∙ (a.each (b / 256) (div_below b 256 (length lot.groups) (omega arith) (omega (arith, low)))).blocks (b % 256)
+        (data_place lot b data_is) (mod_below b 256 (omega arith))
         ∙ ap (marked bls) (let d = div-add-mod' b 256 in omega arith);
     inodes = λ i low.
-        used-bit true m i ∙ (a.each (i / 64) (div_below i 64 (length lot.groups) (omega arith) (omega (arith, low)))).inodes (i % 64) (mod_below i 64 (omega arith))
+        used-bit true m i ∙ (a.each (i / 64) (div_below i 64 (length lot.groups) (omega arith) (omega (arith, low)))).inodes (i % 64)
+        (mod_below i 64 (omega arith))
         ∙ ap (marked ins) (let d = div-add-mod' i 64 in omega arith);
     block_count = eb ∙ sym cb;
     inode_count = en ∙ sym cn;

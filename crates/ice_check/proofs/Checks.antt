@@ -56,15 +56,19 @@ module _ (f : Form) (lot : LotView) (m : Map) where
   }
 
   -- a directory
-  pub dir_checked : (i h count : ℕ) (in0 in1 in2 bl0 bl1 bl2 : List Bool) → i < 64 * length lot.groups → h ≤ deepest → IsSound f lot m i → (o i).inode.kind ≡ 2 → count ≡ length (rows_in f (o i))
-      → GotMarks in0 in1 (i ∷ []) → GotMarks bl0 bl1 (o i).uses → CheckedRows f lot m (rows_in f (o i)) (h + 1) count in1 in2 bl1 bl2 → Checked f lot m i h in0 in2 bl0 bl2
+  pub dir_checked : (i h count : ℕ) (in0 in1 in2 bl0 bl1 bl2 : List Bool) → i < 64 * length lot.groups → h ≤ deepest → IsSound f lot m i
+      → (o i).inode.kind ≡ 2 → count ≡ length (rows_in f (o i))
+      → GotMarks in0 in1 (i ∷ []) → GotMarks bl0 bl1 (o i).uses → CheckedRows f lot m (rows_in f (o i)) (h + 1) count in1 in2 bl1 bl2
+      → Checked f lot m i h in0 in2 bl0 bl2
   dir_checked i h count in0 in1 in2 bl0 bl1 bl2 low deep s two is a b c =
       let rs : List DirRow = rows_in f (o i) in
       record {
         tree = Dir c.entries;
         sound = s;
         reads = (is-inode i h low deep s, all_rows f lot o i (h + 1) count c.entries two (dir-size i s.kind two) is c.rows, c.rows.reads);
-        used = λ j q. ⊎_elim (λ e. subst (λ n. used_inode m n ≡ true) (alone i j e) s.marked) (λ e. c.used j e) (split (i ∷ []) (entries_use f o (λ n. n ∷ []) rs c.entries) j q);
+        used =
+            λ j q. ⊎_elim (λ e. subst (λ n. used_inode m n ≡ true) (alone i j e) s.marked) (λ e. c.used j e)
+            (split (i ∷ []) (entries_use f o (λ n. n ∷ []) rs c.entries) j q);
         inodes = marked_both in0 in1 in2 (i ∷ []) (entries_use f o (λ n. n ∷ []) rs c.entries) a c.inodes;
         blocks = marked_both bl0 bl1 bl2 (o i).uses (entries_use f o (λ n. (o n).uses) rs c.entries) b c.blocks;
       }
@@ -78,18 +82,22 @@ module _ (f : Form) (lot : LotView) (m : Map) where
 
   -- no row
   pub none_checked : (rs : List DirRow) (h : ℕ) (ins bls : List Bool) → CheckedRows f lot m rs h 0 ins ins bls bls
-  none_checked rs h ins bls = record { entries = Nil; rows = no_rows f lot o rs h; used = λ j c. absurd (omega (arith, c)); inodes = marked_none ins; blocks = marked_none bls }
+  none_checked rs h ins bls =
+      record { entries = Nil; rows = no_rows f lot o rs h; used = λ j c. absurd (omega (arith, c)); inodes = marked_none ins; blocks = marked_none bls }
 
   -- one row more
-  module _ (i h k j : ℕ) (in0 in1 in2 bl0 bl1 bl2 : List Bool) (good : IsGood f lot m i k j) (t : Checked f lot m j h in1 in2 bl1 bl2) (c : CheckedRows f lot m (rows_in f (o i)) h k in0 in1 bl0 bl1) where
+  module _ (i h k j : ℕ) (in0 in1 in2 bl0 bl1 bl2 : List Bool) (good : IsGood f lot m i k j) (t : Checked f lot m j h in1 in2 bl1 bl2)
+      (c : CheckedRows f lot m (rows_in f (o i)) h k in0 in1 bl0 bl1) where
     abbrev rs : List DirRow
     rs = rows_in f (o i)
 
     abbrev more : Entries
     more = with_row f lot o rs h k good.row good.is good.name good.new c.entries c.rows t.tree
 
-    uses : (mine : ℕ → List ℕ) (x : ℕ) → times (entries_use f o mine rs more) x ≡ times (entries_use f o mine rs c.entries) x + times (tree_uses f o mine j t.tree) x
-    uses mine x = omega (arith, uses-more f lot o rs h k good.row good.is good.name good.new c.entries c.rows t.tree mine x, ap (λ n. times (tree_uses f o mine n t.tree) x) good.same)
+    uses : (mine : ℕ → List ℕ) (x : ℕ)
+        → times (entries_use f o mine rs more) x ≡ times (entries_use f o mine rs c.entries) x + times (tree_uses f o mine j t.tree) x
+    uses mine x =
+        omega (arith, uses-more f lot o rs h k good.row good.is good.name good.new c.entries c.rows t.tree mine x, ap (λ n. times (tree_uses f o mine n t.tree) x) good.same)
 
     either : (a b : ℕ) → 0 < a + b → (0 < a) ⊎ (0 < b)
     either zero b h = inr (omega arith)
@@ -99,7 +107,14 @@ module _ (f : Form) (lot : LotView) (m : Map) where
     more_checked = record {
       entries = more;
       rows = rows_more f lot o rs h k good.row good.is good.name good.new c.entries c.rows t.tree (subst (λ n. Reads f lot o n h t.tree) good.same t.reads);
-      used = λ x q. ⊎_elim (λ a. c.used x a) (λ b. t.used x b) (either (times (entries_use f o (λ n. n ∷ []) rs c.entries) x) (times (used_inodes f o j t.tree) x) (subst (λ n. 0 < n) (uses (λ n. n ∷ []) x) q));
-      inodes = marked_as in0 in1 in2 (entries_use f o (λ n. n ∷ []) rs c.entries) (used_inodes f o j t.tree) (entries_use f o (λ n. n ∷ []) rs more) (uses (λ n. n ∷ [])) c.inodes t.inodes;
-      blocks = marked_as bl0 bl1 bl2 (entries_use f o (λ n. (o n).uses) rs c.entries) (used_blocks f o j t.tree) (entries_use f o (λ n. (o n).uses) rs more) (uses (λ n. (o n).uses)) c.blocks t.blocks;
+      used =
+          λ x q. ⊎_elim (λ a. c.used x a) (λ b. t.used x b)
+          (either (times (entries_use f o (λ n. n ∷ []) rs c.entries) x) (times (used_inodes f o j t.tree) x)
+          (subst (λ n. 0 < n) (uses (λ n. n ∷ []) x) q));
+      inodes =
+          marked_as in0 in1 in2 (entries_use f o (λ n. n ∷ []) rs c.entries) (used_inodes f o j t.tree)
+          (entries_use f o (λ n. n ∷ []) rs more) (uses (λ n. n ∷ [])) c.inodes t.inodes;
+      blocks =
+          marked_as bl0 bl1 bl2 (entries_use f o (λ n. (o n).uses) rs c.entries) (used_blocks f o j t.tree)
+          (entries_use f o (λ n. (o n).uses) rs more) (uses (λ n. (o n).uses)) c.blocks t.blocks;
     }

@@ -63,11 +63,13 @@ module _ (f : Form) (lot : LotView) (m : Map) where
 
     inodes-counted : count_below (marked in1) (64 * length lot.groups) ≡ length (used_inodes f o 0 c.tree)
     inodes-counted =
-        count-times (marked in1) (64 * length lot.groups) (used_inodes f o 0 c.tree) (λ i h. Reads-number f lot o i 0 0 c.tree c.reads (has-times (used_inodes f o 0 c.tree) i h)) (λ i low. inode-marks i)
+        count-times (marked in1) (64 * length lot.groups) (used_inodes f o 0 c.tree)
+        (λ i h. Reads-number f lot o i 0 0 c.tree c.reads (has-times (used_inodes f o 0 c.tree) i h)) (λ i low. inode-marks i)
 
     blocks-counted : count_below (marked bl1) (256 * length lot.groups) ≡ length (used_blocks f o 0 c.tree)
     blocks-counted =
-        count-times (marked bl1) (256 * length lot.groups) (used_blocks f o 0 c.tree) (λ b h. data_below lot b (Reads-data f lot o b 0 0 c.tree c.reads (has-times (used_blocks f o 0 c.tree) b h))) (λ b low. block-marks b)
+        count-times (marked bl1) (256 * length lot.groups) (used_blocks f o 0 c.tree)
+        (λ b h. data_below lot b (Reads-data f lot o b 0 0 c.tree c.reads (has-times (used_blocks f o 0 c.tree) b h))) (λ b low. block-marks b)
 
     pub whole_holds : Agrees lot m in1 bl1 → (t : Tree) × HoldsTree f lot m t
     whole_holds a = (
@@ -86,9 +88,11 @@ module _ (f : Form) (lot : LotView) (m : Map) where
     pub whole_broken : (r : Rule) → Disagrees lot m in1 bl1 r → Breaks f lot m r
     whole_broken rule.Bitmap (inl x) = inl x
     whole_broken rule.Bitmap (inr (inl x)) =
-        inr (inl (block-bit f lot m c.tree read inode-once block-once x.0 x.1 (λ e. x.2 (mark-same (used_block m x.0) (marked bl1 x.0) (sym e ∙ block-marks x.0)))))
+        inr (inl (block-bit f lot m c.tree read inode-once block-once x.0 x.1
+        (λ e. x.2 (mark-same (used_block m x.0) (marked bl1 x.0) (sym e ∙ block-marks x.0)))))
     whole_broken rule.Bitmap (inr (inr x)) =
-        inr (inr (inode-bit f lot m c.tree read inode-once block-once x.0 x.1 (λ e. x.2 (mark-same (used_inode m x.0) (marked in1 x.0) (sym e ∙ inode-marks x.0)))))
+        inr (inr (inode-bit f lot m c.tree read inode-once block-once x.0 x.1
+        (λ e. x.2 (mark-same (used_inode m x.0) (marked in1 x.0) (sym e ∙ inode-marks x.0)))))
     whole_broken rule.Counts (inl x) = block-count f lot m c.tree read inode-once block-once (λ e. x (sym e ∙ sym blocks-counted))
     whole_broken rule.Counts (inr x) = inode-count f lot m c.tree read inode-once block-once (λ e. x (sym e ∙ sym inodes-counted))
     whole_broken rule.Magic x = absurd x

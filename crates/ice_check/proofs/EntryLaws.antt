@@ -43,11 +43,13 @@ told_disk (op.Damaged r) h t = absurd cc
 told_disk op.NoSpace h t = absurd h
 told_disk op.NoNodes h t = absurd h
 
-few_entries : (lot : LotView) (i : ℕ) (k : ℕ) (m : Map) → KindFits form_one lot i (inode_of m i) → (inode_of m i).kind ≡ 2 → (inode_of m i).size < 64 * length lot.groups
+few_entries : (lot : LotView) (i : ℕ) (k : ℕ) (m : Map) → KindFits form_one lot i (inode_of m i) → (inode_of m i).kind ≡ 2
+    → (inode_of m i).size < 64 * length lot.groups
 few_entries lot i k m (inl h) two = absurd (let one = h.0 in omega arith)
 few_entries lot i k m (inr h) two = h.1
 
-module _ (lot : LotView) (m : Map) (w : List ℕ) (dir k : ℕ) (looks : LooksInto form_one lot m w dir) (below : k < length (rows_in form_one (own form_one m dir))) where
+module _ (lot : LotView) (m : Map) (w : List ℕ) (dir k : ℕ) (looks : LooksInto form_one lot m w dir)
+    (below : k < length (rows_in form_one (own form_one m dir))) where
   short : k < (inode_of m dir).size
   short = omega (arith, below, length-rows_in form_one (own form_one m dir))
 
@@ -79,7 +81,8 @@ module _ (lot : LotView) (m : Map) (w : List ℕ) (dir k : ℕ) (looks : LooksIn
       let out : is_name (get_or (dir_rows_of form_one m dir) k ([], 0)).0 ≡ false = subst (λ o. IfSome o (λ (row : DirRow). is_name row.0 ≡ false)) at bad in
       record { walk = w; dir = dir; entry = k; row = get_or (dir_rows_of form_one m dir) k ([], 0); looks = looks; is = at; bad = λ f. no (sym f.is ∙ out) }
 
-  pub entry_broken : (e : OpFault) → IsEntryFault e → (e ≡ op.Damaged rule.Kind → ¬ HasEntry lot k (inode_of m dir)) → (e ≡ op.Damaged rule.Pointer → leads lot m (inode_of m dir) (k / 16) ≡ false)
+  pub entry_broken : (e : OpFault) → IsEntryFault e → (e ≡ op.Damaged rule.Kind → ¬ HasEntry lot k (inode_of m dir))
+      → (e ≡ op.Damaged rule.Pointer → leads lot m (inode_of m dir) (k / 16) ≡ false)
       → (e ≡ op.Damaged rule.Name → IfSome (slice_get (dir_rows_of form_one m dir) k) (λ row. is_name row.0 ≡ false)) → Broke lot m (told_as e)
   entry_broken op.Disk h a b c = tt
   entry_broken (op.Damaged rule.Kind) h a b c = absurd (a refl entry-there)

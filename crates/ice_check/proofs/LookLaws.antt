@@ -57,7 +57,8 @@ in_range f a (suc n) b h =
     ] refl
 
 -- the block that names pointers is the map's, or isn't used
-same_nth : (m : Map) (inode : Inode) (pointers : List ℕ) (count n : ℕ) → (12 < count → pointers ≡ m inode.single) → n < count → nth_block m inode n ≡ nth_block (λ _. pointers) inode n
+same_nth : (m : Map) (inode : Inode) (pointers : List ℕ) (count n : ℕ) → (12 < count → pointers ≡ m inode.single) → n < count
+    → nth_block m inode n ≡ nth_block (λ _. pointers) inode n
 same_nth m inode pointers count n same h =
     elim (nat_lt n 12) as (λ t. nat_lt n 12 ≡ t → nth_block m inode n ≡ nth_block (λ _. pointers) inode n) [
       | true ↦ λ t. let low : n < 12 = grind (arith, nat_tests) in nth-direct m inode n low ∙ sym (nth-direct (λ _. pointers) inode n low)
@@ -69,12 +70,15 @@ same_nth m inode pointers count n same h =
           cc
     ] refl
 
-pub same_uses : (m : Map) (inode : Inode) (pointers : List ℕ) (count : ℕ) → (12 < count → pointers ≡ m inode.single) → uses m inode count ≡ uses (λ _. pointers) inode count
+pub same_uses : (m : Map) (inode : Inode) (pointers : List ℕ) (count : ℕ) → (12 < count → pointers ≡ m inode.single)
+    → uses m inode count ≡ uses (λ _. pointers) inode count
 same_uses m inode pointers count same =
-    ap (λ xs. indirect_of inode count ++ xs) (map_range_same (nth_block m inode) (nth_block (λ _. pointers) inode) 0 count (λ k low high. same_nth m inode pointers count k same (omega arith)))
+    ap (λ xs. indirect_of inode count ++ xs)
+    (map_range_same (nth_block m inode) (nth_block (λ _. pointers) inode) 0 count (λ k low high. same_nth m inode pointers count k same (omega arith)))
 
 -- all that a map uses are data places
-pub uses_data : (lot : LotView) (m : Map) (inode : Inode) (count : ℕ) → (12 < count → is_data lot inode.single ≡ true) → ((n : ℕ) → n < count → is_data lot (nth_block m inode n) ≡ true) → (b : ℕ) → has (uses m inode count) b ≡ true → is_data lot b ≡ true
+pub uses_data : (lot : LotView) (m : Map) (inode : Inode) (count : ℕ) → (12 < count → is_data lot inode.single ≡ true)
+    → ((n : ℕ) → n < count → is_data lot (nth_block m inode n) ≡ true) → (b : ℕ) → has (uses m inode count) b ≡ true → is_data lot b ≡ true
 uses_data lot m inode count single each b h =
     elim (has (indirect_of inode count) b) as (λ t. has (indirect_of inode count) b ≡ t → is_data lot b ≡ true) [
       | true ↦ λ t. by_single t
@@ -103,15 +107,19 @@ uses_data lot m inode count single each b h =
 
 -- what a map uses
 pub single_used : (m : Map) (inode : Inode) (count : ℕ) → 12 < count → has (uses m inode count) inode.single ≡ true
-single_used m inode count h = has-left (indirect_of inode count) (blocks_of m inode count) inode.single (subst (λ xs. has xs inode.single ≡ true) (sym (indirect_one inode count h)) (has-head inode.single []))
+single_used m inode count h =
+    has-left (indirect_of inode count) (blocks_of m inode count) inode.single
+    (subst (λ xs. has xs inode.single ≡ true) (sym (indirect_one inode count h)) (has-head inode.single []))
 
 pub nth_used : (m : Map) (inode : Inode) (count n : ℕ) → n < count → has (uses m inode count) (nth_block m inode n) ≡ true
-nth_used m inode count n h = has-right (indirect_of inode count) (blocks_of m inode count) (nth_block m inode n) (has-range (nth_block m inode) 0 count n (omega arith) (omega arith))
+nth_used m inode count n h =
+    has-right (indirect_of inode count) (blocks_of m inode count) (nth_block m inode n) (has-range (nth_block m inode) 0 count n (omega arith) (omega arith))
 
 -- ---- pointers that fit, or don't
 
 module _ (lot : LotView) (m : Map) (i : ℕ) (inode : Inode) (is : inode ≡ inode_of m i) where
-  pub fits_here : (pointers : List ℕ) → (12 < map_length form_one inode → pointers ≡ m inode.single) → PointersFit form_one lot (own_of (λ _. pointers) inode (map_length form_one inode)) → PointersFit form_one lot (own form_one m i)
+  pub fits_here : (pointers : List ℕ) → (12 < map_length form_one inode → pointers ≡ m inode.single)
+      → PointersFit form_one lot (own_of (λ _. pointers) inode (map_length form_one inode)) → PointersFit form_one lot (own form_one m i)
   fits_here pointers same p =
       subst (λ (x : Inode). PointersFit form_one lot (own_of m x (map_length form_one x))) is (record {
         places = λ b h. p.places b (subst (λ xs. has xs b ≡ true) (same_uses m inode pointers (map_length form_one inode) same) h);
@@ -126,15 +134,20 @@ module _ (lot : LotView) (m : Map) (i : ℕ) (inode : Inode) (is : inode ≡ ino
     pub kind_broken : ¬ KindFits form_one lot i inode → Breaks form_one lot m rule.Kind
     kind_broken bad = record { walk = w; inode = i; by = by; marked = used; bad = λ k. bad (subst (λ (x : Inode). KindFits form_one lot i x) (sym is) k) }
 
-    pointer_broken : KindFits form_one lot i inode → ¬ PointersFit form_one lot (own_of m inode (map_length form_one inode)) → Breaks form_one lot m rule.Pointer
-    pointer_broken k bad = record { walk = w; inode = i; by = by; marked = used; kind = kind_here k; bad = λ p. bad (subst (λ (x : Inode). PointersFit form_one lot (own_of m x (map_length form_one x))) (sym is) p) }
+    pointer_broken : KindFits form_one lot i inode → ¬ PointersFit form_one lot (own_of m inode (map_length form_one inode))
+        → Breaks form_one lot m rule.Pointer
+    pointer_broken k bad =
+        record { walk = w; inode = i; by = by; marked = used; kind = kind_here k; bad = λ p. bad (subst (λ (x : Inode). PointersFit form_one lot (own_of m x (map_length form_one x))) (sym is) p) }
 
     pub single_broken : KindFits form_one lot i inode → 12 < map_length form_one inode → is_data lot inode.single ≡ false → Breaks form_one lot m rule.Pointer
     single_broken k h out = pointer_broken k (λ p. no (sym (p.places inode.single (single_used m inode (map_length form_one inode) h)) ∙ out))
 
-    pub nth_broken : KindFits form_one lot i inode → (pointers : List ℕ) → (12 < map_length form_one inode → pointers ≡ m inode.single) → (n : ℕ) → n < map_length form_one inode → is_data lot (nth_block (λ _. pointers) inode n) ≡ false → Breaks form_one lot m rule.Pointer
+    pub nth_broken : KindFits form_one lot i inode → (pointers : List ℕ) → (12 < map_length form_one inode → pointers ≡ m inode.single)
+        → (n : ℕ) → n < map_length form_one inode → is_data lot (nth_block (λ _. pointers) inode n) ≡ false → Breaks form_one lot m rule.Pointer
     nth_broken k pointers same n h out =
-        pointer_broken k (λ p. no (sym (p.places (nth_block m inode n) (nth_used m inode (map_length form_one inode) n h)) ∙ ap (is_data lot) (same_nth m inode pointers (map_length form_one inode) n same h) ∙ out))
+        pointer_broken k
+        (λ p. no (sym (p.places (nth_block m inode n) (nth_used m inode (map_length form_one inode) n h))
+        ∙ ap (is_data lot) (same_nth m inode pointers (map_length form_one inode) n same h) ∙ out))
 
     pub rest_broken : KindFits form_one lot i inode → ¬ RestIsZero inode (map_length form_one inode) → Breaks form_one lot m rule.Pointer
     rest_broken k bad = pointer_broken k (λ p. bad p.rest)

@@ -13,7 +13,8 @@ use Rattle.ice_check.specs.Marks.{marked, GotMarks, MarkedTwice}
 pub marked_both : (old middle new : List Bool) (xs ys : List ℕ) → GotMarks old middle xs → GotMarks middle new ys → GotMarks old new (xs ++ ys)
 marked_both old middle new xs ys a b = record { each = λ k. omega (arith, a.each k, b.each k, times-append xs ys k) }
 
-pub marked_as : (old middle new : List Bool) (xs ys zs : List ℕ) → ((k : ℕ) → times zs k ≡ times xs k + times ys k) → GotMarks old middle xs → GotMarks middle new ys → GotMarks old new zs
+pub marked_as : (old middle new : List Bool) (xs ys zs : List ℕ) → ((k : ℕ) → times zs k ≡ times xs k + times ys k)
+    → GotMarks old middle xs → GotMarks middle new ys → GotMarks old new zs
 marked_as old middle new xs ys zs e a b = record { each = λ k. omega (arith, a.each k, b.each k, e k) }
 
 pub marked_none : (old : List Bool) → GotMarks old old []
@@ -29,7 +30,8 @@ marked_one marks i h clear = record { each = at }
     at k = elim (i == k) as (λ b. (i == k) ≡ b → mark (marked (set marks i true) k) ≡ mark (marked marks k) + times (i ∷ []) k) [
       | true ↦ λ e.
           let same : i ≡ k = grind (arith, nat_tests) in
-          subst (λ n. mark (marked (set marks i true) n) ≡ mark (marked marks n) + times (i ∷ []) n) same (omega (arith, ap mark (get_or-set_same marks i true false h), ap mark clear, times-here i []))
+          subst (λ n. mark (marked (set marks i true) n) ≡ mark (marked marks n) + times (i ∷ []) n) same
+          (omega (arith, ap mark (get_or-set_same marks i true false h), ap mark clear, times-here i []))
       | false ↦ λ e.
           let other : k ≢ i = λ same. apart i k e (sym same) in
           omega (arith, ap mark (get_or-set_other marks i k true false other), times-other k i [] e)
@@ -53,9 +55,11 @@ times_more f n b =
     let s : 0 + n ≡ n = omega arith in
     omega (arith, times-append (map f (range_with_len 0 n)) (map f (range_with_len (0 + n) 1)) b, ap (λ xs. times xs b) e, ap (λ x. times (f x ∷ []) b) s)
 
-pub each_more : (m : ℕ → List ℕ) (inode : Inode) (n at : ℕ) (old middle new : List Bool) → at ≡ nth_block m inode n → GotMarks old middle (blocks_of m inode n) → GotMarks middle new (at ∷ []) → GotMarks old new (blocks_of m inode (n + 1))
+pub each_more : (m : ℕ → List ℕ) (inode : Inode) (n at : ℕ) (old middle new : List Bool) → at ≡ nth_block m inode n
+    → GotMarks old middle (blocks_of m inode n) → GotMarks middle new (at ∷ []) → GotMarks old new (blocks_of m inode (n + 1))
 each_more m inode n at old middle new e a b =
-    marked_as old middle new (blocks_of m inode n) (nth_block m inode n ∷ []) (blocks_of m inode (n + 1)) (times_more (nth_block m inode) n) a (subst (λ x. GotMarks middle new (x ∷ [])) e b)
+    marked_as old middle new (blocks_of m inode n) (nth_block m inode n ∷ []) (blocks_of m inode (n + 1))
+    (times_more (nth_block m inode) n) a (subst (λ x. GotMarks middle new (x ∷ [])) e b)
 
 -- a number that is marked had a mark, or stands in the list
 was : (old new : List Bool) (xs : List ℕ) (b : ℕ) → GotMarks old new xs → marked new b ≡ true → (marked old b ≡ true) ⊎ (0 < times xs b)
@@ -65,16 +69,19 @@ was old new xs b a t = by (marked old b) refl
     by true e = inl e
     by false e = inr (omega (arith, a.each b, ap mark t, ap mark e))
 
-pub each_twice : (m : ℕ → List ℕ) (inode : Inode) (n count at : ℕ) (old now : List Bool) → n < count → at ≡ nth_block m inode n → GotMarks old now (blocks_of m inode n) → marked now at ≡ true → MarkedTwice old (blocks_of m inode count)
+pub each_twice : (m : ℕ → List ℕ) (inode : Inode) (n count at : ℕ) (old now : List Bool) → n < count → at ≡ nth_block m inode n
+    → GotMarks old now (blocks_of m inode n) → marked now at ≡ true → MarkedTwice old (blocks_of m inode count)
 each_twice m inode n count at old now h e a t = record {
   number = nth_block m inode n;
   among = has-range (nth_block m inode) 0 count n (omega arith) (omega arith);
   why = by (was old now (blocks_of m inode n) (nth_block m inode n) a (subst (λ x. marked now x ≡ true) e t));
 }
   where
-    by : (marked old (nth_block m inode n) ≡ true) ⊎ (0 < times (blocks_of m inode n) (nth_block m inode n)) → (marked old (nth_block m inode n) ≡ true) ⊎ (1 < times (blocks_of m inode count) (nth_block m inode n))
+    by : (marked old (nth_block m inode n) ≡ true) ⊎ (0 < times (blocks_of m inode n) (nth_block m inode n))
+        → (marked old (nth_block m inode n) ≡ true) ⊎ (1 < times (blocks_of m inode count) (nth_block m inode n))
     by (inl x) = inl x
-    by (inr x) = inr (omega (arith, x, times-here (nth_block m inode n) [], times_more (nth_block m inode) n (nth_block m inode n), times_to (nth_block m inode) (n + 1) count (nth_block m inode n) (omega arith)))
+    by (inr x) =
+        inr (omega (arith, x, times-here (nth_block m inode n) [], times_more (nth_block m inode) n (nth_block m inode n), times_to (nth_block m inode) (n + 1) count (nth_block m inode n) (omega arith)))
 
 pub indirect_none : (inode : Inode) (count : ℕ) → count ≤ 12 → indirect_of inode count ≡ []
 indirect_none inode count h = let t : nat_lt 12 count ≡ false = grind (arith, nat_tests) in rw t refl
@@ -87,31 +94,38 @@ pub one_twice : (old : List Bool) (a : ℕ) → marked old a ≡ true → Marked
 one_twice old a t = record { number = a; among = has-head a []; why = inl t }
 
 -- the indirect block, and then the others
-pub uses_marked : (m : ℕ → List ℕ) (inode : Inode) (count : ℕ) (old middle new : List Bool) → GotMarks old middle (indirect_of inode count) → GotMarks middle new (blocks_of m inode count) → GotMarks old new (uses m inode count)
+pub uses_marked : (m : ℕ → List ℕ) (inode : Inode) (count : ℕ) (old middle new : List Bool) → GotMarks old middle (indirect_of inode count)
+    → GotMarks middle new (blocks_of m inode count) → GotMarks old new (uses m inode count)
 uses_marked m inode count old middle new a b = marked_both old middle new (indirect_of inode count) (blocks_of m inode count) a b
 
-pub first_twice : (m : ℕ → List ℕ) (inode : Inode) (count : ℕ) (old : List Bool) → MarkedTwice old (indirect_of inode count) → MarkedTwice old (uses m inode count)
+pub first_twice : (m : ℕ → List ℕ) (inode : Inode) (count : ℕ) (old : List Bool) → MarkedTwice old (indirect_of inode count)
+    → MarkedTwice old (uses m inode count)
 first_twice m inode count old t = record {
   number = t.number;
   among = has-left (indirect_of inode count) (blocks_of m inode count) t.number t.among;
   why = by t.why;
 }
   where
-    by : (marked old t.number ≡ true) ⊎ (1 < times (indirect_of inode count) t.number) → (marked old t.number ≡ true) ⊎ (1 < times (uses m inode count) t.number)
+    by : (marked old t.number ≡ true) ⊎ (1 < times (indirect_of inode count) t.number)
+        → (marked old t.number ≡ true) ⊎ (1 < times (uses m inode count) t.number)
     by (inl x) = inl x
     by (inr x) = inr (omega (arith, x, times-append (indirect_of inode count) (blocks_of m inode count) t.number))
 
-pub then_twice : (m : ℕ → List ℕ) (inode : Inode) (count : ℕ) (old middle : List Bool) → GotMarks old middle (indirect_of inode count) → MarkedTwice middle (blocks_of m inode count) → MarkedTwice old (uses m inode count)
+pub then_twice : (m : ℕ → List ℕ) (inode : Inode) (count : ℕ) (old middle : List Bool) → GotMarks old middle (indirect_of inode count)
+    → MarkedTwice middle (blocks_of m inode count) → MarkedTwice old (uses m inode count)
 then_twice m inode count old middle a t = record {
   number = t.number;
   among = has-right (indirect_of inode count) (blocks_of m inode count) t.number t.among;
   why = by t.why;
 }
   where
-    again : (marked old t.number ≡ true) ⊎ (0 < times (indirect_of inode count) t.number) → (marked old t.number ≡ true) ⊎ (1 < times (uses m inode count) t.number)
+    again : (marked old t.number ≡ true) ⊎ (0 < times (indirect_of inode count) t.number)
+        → (marked old t.number ≡ true) ⊎ (1 < times (uses m inode count) t.number)
     again (inl x) = inl x
-    again (inr x) = inr (omega (arith, x, times-append (indirect_of inode count) (blocks_of m inode count) t.number, has-times (blocks_of m inode count) t.number t.among))
+    again (inr x) =
+        inr (omega (arith, x, times-append (indirect_of inode count) (blocks_of m inode count) t.number, has-times (blocks_of m inode count) t.number t.among))
 
-    by : (marked middle t.number ≡ true) ⊎ (1 < times (blocks_of m inode count) t.number) → (marked old t.number ≡ true) ⊎ (1 < times (uses m inode count) t.number)
+    by : (marked middle t.number ≡ true) ⊎ (1 < times (blocks_of m inode count) t.number)
+        → (marked old t.number ≡ true) ⊎ (1 < times (uses m inode count) t.number)
     by (inl x) = again (was old middle (indirect_of inode count) t.number a x)
     by (inr x) = inr (omega (arith, x, times-append (indirect_of inode count) (blocks_of m inode count) t.number))

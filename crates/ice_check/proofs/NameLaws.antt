@@ -116,14 +116,16 @@ tied Greater Less e a b = no b
 tied Greater Equal e a b = absurd (cc)
 tied Greater Greater e a b = absurd (cc)
 
-pub sorted_differ : (xs : List (List ℕ)) → IsSorted by_bytes xs → ((k : ℕ) → k + 1 < length xs → get_or xs k [] ≢ get_or xs (k + 1) []) → (i j : ℕ) → i < j → j < length xs → get_or xs i [] ≢ get_or xs j []
+pub sorted_differ : (xs : List (List ℕ)) → IsSorted by_bytes xs → ((k : ℕ) → k + 1 < length xs → get_or xs k [] ≢ get_or xs (k + 1) [])
+    → (i j : ℕ) → i < j → j < length xs → get_or xs i [] ≢ get_or xs j []
 sorted_differ xs up apart i j lt h e =
     let a = get_or xs i [] in
     let b = get_or xs (i + 1) [] in
     let near = up i [] (omega arith) (omega arith) in
     let far = sorted_far (λ x y. is_lt (by_bytes x y)) (ranks_by nat_list_cmp_total (λ (x : List ℕ). x)) xs up (i + 1) j [] (omega arith) h in
     let other : is_lt (by_bytes a b) ≡ false = subst (λ c. is_lt (by_bytes c b) ≡ false) (sym e) far in
-    apart i (omega arith) (slice_cmp-IsAntisymmetric nat_cmp-IsAntisymmetric a b (tied (by_bytes a b) (by_bytes b a) (nat_list_cmp_total.antisymm a b) other near))
+    apart i (omega arith)
+    (slice_cmp-IsAntisymmetric nat_cmp-IsAntisymmetric a b (tied (by_bytes a b) (by_bytes b a) (nat_list_cmp_total.antisymm a b) other near))
 
 -- ---- names in an array
 
@@ -143,23 +145,29 @@ cut_long ks count room = omega (arith, length-map {A = Kept} {B = List ℕ} (tak
 pub kept_set : (ks : List Kept) (k : ℕ) (x : Kept) → k < length ks → get_or (array_names (set ks k x)) k [] ≡ kept_name x
 kept_set ks k x h = kept_at (set ks k x) k x (omega (arith, length-set {A = Kept})) ∙ ap kept_name (get_or-set_same ks k x x h)
 
-pub kept_others : (ks : List Kept) (k j : ℕ) (x : Kept) → k < length ks → j < length ks → j ≢ k → get_or (array_names (set ks k x)) j [] ≡ get_or (array_names ks) j []
-kept_others ks k j x h hj ne = kept_at (set ks k x) j x (omega (arith, length-set {A = Kept})) ∙ ap kept_name (get_or-set_other ks k j x x ne) ∙ sym (kept_at ks j x hj)
+pub kept_others : (ks : List Kept) (k j : ℕ) (x : Kept) → k < length ks → j < length ks → j ≢ k
+    → get_or (array_names (set ks k x)) j [] ≡ get_or (array_names ks) j []
+kept_others ks k j x h hj ne =
+    kept_at (set ks k x) j x (omega (arith, length-set {A = Kept})) ∙ ap kept_name (get_or-set_other ks k j x x ne) ∙ sym (kept_at ks j x hj)
 
 -- names beside each other in a loop over the array
-pub neighbours_alike : (ks : List Kept) (k : ℕ) (d e : Kept) → 1 ≤ k → k < length ks → kept_name (get_or ks (k - 1) d) ≡ kept_name (get_or ks k e) → get_or (array_names ks) (k - 1) [] ≡ get_or (array_names ks) (k - 1 + 1) []
+pub neighbours_alike : (ks : List Kept) (k : ℕ) (d e : Kept) → 1 ≤ k → k < length ks
+    → kept_name (get_or ks (k - 1) d) ≡ kept_name (get_or ks k e) → get_or (array_names ks) (k - 1) [] ≡ get_or (array_names ks) (k - 1 + 1) []
 neighbours_alike ks k d e one h same =
     let next : k ≡ k - 1 + 1 = omega arith in
     kept_at ks (k - 1) d (omega arith) ∙ same ∙ sym (kept_at ks k e h) ∙ ap (λ x. get_or (array_names ks) x []) next
 
-pub neighbours_more : (ks : List Kept) (k : ℕ) (d e : Kept) → 1 ≤ k → k < length ks → ((j : ℕ) → j + 1 < k → get_or (array_names ks) j [] ≡ get_or (array_names ks) (j + 1) [] → ⊥) → kept_name (get_or ks (k - 1) d) ≢ kept_name (get_or ks k e)
+pub neighbours_more : (ks : List Kept) (k : ℕ) (d e : Kept) → 1 ≤ k → k < length ks
+    → ((j : ℕ) → j + 1 < k → get_or (array_names ks) j [] ≡ get_or (array_names ks) (j + 1) [] → ⊥)
+    → kept_name (get_or ks (k - 1) d) ≢ kept_name (get_or ks k e)
     → (j : ℕ) → j + 1 < k + 1 → get_or (array_names ks) j [] ≡ get_or (array_names ks) (j + 1) [] → ⊥
 neighbours_more ks k d e one h before apart j lt same =
     elim (j + 1 == k) as (λ t. (j + 1 == k) ≡ t → ⊥) [
       | true ↦ λ t.
           let here : j + 1 ≡ k = grind (arith, nat_tests) in
           let last : k - 1 ≡ j = omega arith in
-          apart (sym (kept_at ks (k - 1) d (omega arith)) ∙ ap (λ x. get_or (array_names ks) x []) last ∙ same ∙ ap (λ x. get_or (array_names ks) x []) here ∙ kept_at ks k e h)
+          apart (sym (kept_at ks (k - 1) d (omega arith)) ∙ ap (λ x. get_or (array_names ks) x []) last ∙ same
+          ∙ ap (λ x. get_or (array_names ks) x []) here ∙ kept_at ks k e h)
       | false ↦ λ t. let other : j + 1 ≢ k = grind (arith, nat_tests) in before j (omega arith) same
     ] refl
 
@@ -167,29 +175,35 @@ neighbours_more ks k d e one h before apart j lt same =
 pub sorted_names : (old new : List Kept) → IsPermutation old new → IsSortedBy (λ a b. is_lt (by_bytes (kept_name a) (kept_name b))) new
     → ((k : ℕ) → k + 1 < length new → get_or (array_names new) k [] ≢ get_or (array_names new) (k + 1) []) → AllDiffer (array_names old)
 sorted_names old new p up apart =
-    differ_before (array_names old) (array_names new) (IsPermutation-map kept_name old new p) (sorted_differ (array_names new) sorted (λ k h. apart k (omega (arith, length-map {A = Kept} {B = List ℕ} new kept_name))))
+    differ_before (array_names old) (array_names new) (IsPermutation-map kept_name old new p)
+    (sorted_differ (array_names new) sorted (λ k h. apart k (omega (arith, length-map {A = Kept} {B = List ℕ} new kept_name))))
   where
     sorted : IsSorted by_bytes (array_names new)
     sorted k d low h =
         let l = length-map {A = Kept} {B = List ℕ} new kept_name in
         subst (λ x. is_lt (by_bytes x (get_or (array_names new) k d)) ≡ false) (sym (get_or-map kept_name new (k + 1) none d (omega arith)))
-        (subst (λ x. is_lt (by_bytes (kept_name (get_or new (k + 1) none)) x) ≡ false) (sym (get_or-map kept_name new k none d (omega arith))) (up k none low (omega arith)))
+        (subst (λ x. is_lt (by_bytes (kept_name (get_or new (k + 1) none)) x) ≡ false)
+        (sym (get_or-map kept_name new k none d (omega arith))) (up k none low (omega arith)))
 
 -- and whose neighbours are alike somewhere
-pub sorted_alike : (old new : List Kept) (k : ℕ) → IsPermutation old new → k + 1 < length new → get_or (array_names new) k [] ≡ get_or (array_names new) (k + 1) [] → TwoAlike (array_names old)
+pub sorted_alike : (old new : List Kept) (k : ℕ) → IsPermutation old new → k + 1 < length new
+    → get_or (array_names new) k [] ≡ get_or (array_names new) (k + 1) [] → TwoAlike (array_names old)
 sorted_alike old new k p h e =
-    alike_before (array_names old) (array_names new) (IsPermutation-map kept_name old new p) (record { one = k; other = k + 1; below = omega arith; within = omega (arith, length-map {A = Kept} {B = List ℕ} new kept_name); same = e })
+    alike_before (array_names old) (array_names new) (IsPermutation-map kept_name old new p)
+    (record { one = k; other = k + 1; below = omega arith; within = omega (arith, length-map {A = Kept} {B = List ℕ} new kept_name); same = e })
 
 -- ---- the names of a directory
 
-none_taken : (c : List ℕ) (rs : List DirRow) (k : ℕ) → ((i : ℕ) (r : DirRow) → i < k → slice_get rs i ≡ Some r → eq_by_cmp by_bytes c r.0 ≡ false) → stands_before rs k c ≡ false
+none_taken : (c : List ℕ) (rs : List DirRow) (k : ℕ)
+    → ((i : ℕ) (r : DirRow) → i < k → slice_get rs i ≡ Some r → eq_by_cmp by_bytes c r.0 ≡ false) → stands_before rs k c ≡ false
 none_taken c [] zero h = refl
 none_taken c [] (suc k) h = refl
 none_taken c (r ∷ rs) zero h = refl
 none_taken c (r ∷ rs) (suc k) h =
     rw (h 0 r (omega arith) refl) (none_taken c rs k (λ i s lt at. h (suc i) s (omega arith) at))
 
-module _ (lot : LotView) (m : Map) (dir count : ℕ) (names cut : List (List ℕ)) (is : count ≡ length (rows_in form_one (own form_one m dir))) (long : length cut ≡ count) (same : (k : ℕ) → k < count → get_or cut k [] ≡ get_or names k []) (read : AreRead m dir count names) where
+module _ (lot : LotView) (m : Map) (dir count : ℕ) (names cut : List (List ℕ))
+    (is : count ≡ length (rows_in form_one (own form_one m dir))) (long : length cut ≡ count) (same : (k : ℕ) → k < count → get_or cut k [] ≡ get_or names k []) (read : AreRead m dir count names) where
   abbrev rs : List DirRow
   rs = rows_in form_one (own form_one m dir)
 
@@ -199,11 +213,13 @@ module _ (lot : LotView) (m : Map) (dir count : ℕ) (names cut : List (List ℕ
   pub new_names : AllDiffer cut → AllNew m dir
   new_names d = record { each = λ k row at. none_taken row.0 rs k (λ i r lt here. by k row at i r lt here (eq_by_cmp by_bytes row.0 r.0) refl) }
     where
-      by : (k : ℕ) (row : DirRow) → walk_entry form_one m dir k ≡ Some row → (i : ℕ) (r : DirRow) → i < k → slice_get rs i ≡ Some r → (b : Bool) → eq_by_cmp by_bytes row.0 r.0 ≡ b → b ≡ false
+      by : (k : ℕ) (row : DirRow) → walk_entry form_one m dir k ≡ Some row → (i : ℕ) (r : DirRow) → i < k → slice_get rs i ≡ Some r
+          → (b : Bool) → eq_by_cmp by_bytes row.0 r.0 ≡ b → b ≡ false
       by k row at i r lt here false e = refl
       by k row at i r lt here true e =
           let low : k < count = omega (arith, slice_get_within rs k row at) in
-          absurd (d.apart i k (omega (arith, long)) (omega (arith, long)) (omega arith) (name-at i r (omega arith) here ∙ sym (same_name row.0 r.0 e) ∙ sym (name-at k row low at)))
+          absurd (d.apart i k (omega (arith, long)) (omega (arith, long)) (omega arith)
+          (name-at i r (omega arith) here ∙ sym (same_name row.0 r.0 e) ∙ sym (name-at k row low at)))
 
   pub names_alike : (w : List ℕ) → LooksInto form_one lot m w dir → TwoAlike cut → Breaks form_one lot m rule.NameTwice
   names_alike w looks t =
@@ -230,7 +246,9 @@ module _ (lot : LotView) (m : Map) (dir count : ℕ) (names cut : List (List ℕ
       }
 
 -- one name more was read
-pub read_more : (m : Map) (dir k next : ℕ) (name : List ℕ) (ks : List Kept) (x : Kept) → k < length ks → walk_entry form_one m dir k ≡ Some (name, next) → kept_name x ≡ name → IsNameOf form_one name → AreRead m dir k (array_names ks) → AreRead m dir (k + 1) (array_names (set ks k x))
+pub read_more : (m : Map) (dir k next : ℕ) (name : List ℕ) (ks : List Kept) (x : Kept) → k < length ks
+    → walk_entry form_one m dir k ≡ Some (name, next) → kept_name x ≡ name → IsNameOf form_one name → AreRead m dir k (array_names ks)
+    → AreRead m dir (k + 1) (array_names (set ks k x))
 read_more m dir k next name ks x room at is fit old = record { each = each; fit = fits }
   where
     here : get_or (array_names (set ks k x)) k [] ≡ name
@@ -249,8 +267,12 @@ read_more m dir k next name ks x room at is fit old = record { each = each; fit 
     fits : (j : ℕ) → j < k + 1 → IsNameOf form_one (get_or (array_names (set ks k x)) j [])
     fits j lt =
         elim (j == k) as (λ t. (j == k) ≡ t → IsNameOf form_one (get_or (array_names (set ks k x)) j [])) [
-          | true ↦ λ t. let same : j ≡ k = grind (arith, nat_tests) in subst (λ c. IsNameOf form_one c) (sym (ap (λ n. get_or (array_names (set ks k x)) n []) same ∙ here)) fit
-          | false ↦ λ t. let other : j ≢ k = grind (arith, nat_tests) in subst (λ c. IsNameOf form_one c) (sym (kept_others ks k j x room (omega arith) other)) (old.fit j (omega arith))
+          | true ↦ λ t.
+              let same : j ≡ k = grind (arith, nat_tests) in
+              subst (λ c. IsNameOf form_one c) (sym (ap (λ n. get_or (array_names (set ks k x)) n []) same ∙ here)) fit
+          | false ↦ λ t.
+              let other : j ≢ k = grind (arith, nat_tests) in
+              subst (λ c. IsNameOf form_one c) (sym (kept_others ks k j x room (omega arith) other)) (old.fit j (omega arith))
         ] refl
 
 pub none_read : (m : Map) (dir : ℕ) (names : List (List ℕ)) → AreRead m dir 0 names

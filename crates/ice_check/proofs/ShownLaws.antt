@@ -19,7 +19,8 @@ err-then (Ok x) P Q go h = tt
 err-then (Err e) P Q go h = go e h
 
 -- after a look the view shows the same map
-pub still_shows : {V D : Type 0} (d : disk.Ghosts D) (k : view.Ghosts V D) (lot : LotView) (v : V) (e : D) (w : V) (f : D) (m : Map) → Looked d k lot v e w f → Shows k lot v e m → Shows k lot w f m
+pub still_shows : {V D : Type 0} (d : disk.Ghosts D) (k : view.Ghosts V D) (lot : LotView) (v : V) (e : D) (w : V) (f : D) (m : Map)
+    → Looked d k lot v e w f → Shows k lot v e m → Shows k lot w f m
 still_shows d k lot v e w f m l s = record { shows = l.shows s.shows; is = l.map ∙ s.is }
 
 -- the view shows what it shows
@@ -27,7 +28,8 @@ pub shows_itself : {V D : Type 0} (k : view.Ghosts V D) (lot : LotView) (v : V) 
 shows_itself k lot v e s = record { shows = s; is = refl }
 
 -- one look and then another
-pub looked_then : {V D : Type 0} (d : disk.Ghosts D) (k : view.Ghosts V D) (lot : LotView) (u : V) (c : D) (v : V) (e : D) (w : V) (f : D) → Looked d k lot u c v e → Looked d k lot v e w f → Looked d k lot u c w f
+pub looked_then : {V D : Type 0} (d : disk.Ghosts D) (k : view.Ghosts V D) (lot : LotView) (u : V) (c : D) (v : V) (e : D) (w : V) (f : D)
+    → Looked d k lot u c v e → Looked d k lot v e w f → Looked d k lot u c w f
 looked_then d k lot u c v e w f a b = record {
   map = b.map ∙ a.map;
   shows = λ s. b.shows (a.shows s);

@@ -21,18 +21,21 @@ use Rattle.ice_check.specs.Shown.{IfBitmap, Broke}
 use Rattle.ice_check.proofs.LookLaws.{same_uses, fits_here, kind_here}
 
 -- an inode that fits and is no file
-pub dir_kind : (lot : LotView) (i : ℕ) (inode : Inode) → KindFits form_one lot i inode → inode.kind ≢ 1 → (inode.kind ≡ 2) × (inode.size < 64 * length lot.groups)
+pub dir_kind : (lot : LotView) (i : ℕ) (inode : Inode) → KindFits form_one lot i inode → inode.kind ≢ 1
+    → (inode.kind ≡ 2) × (inode.size < 64 * length lot.groups)
 dir_kind lot i inode (inl h) other = absurd (other h.0)
 dir_kind lot i inode (inr h) other = h
 
-module _ (lot : LotView) (m : Map) (i : ℕ) (inode : Inode) (is : inode ≡ inode_of m i) (kind : KindFits form_one lot i inode) (pointers : List ℕ) (count : ℕ) (long : count ≡ map_length form_one inode)
+module _ (lot : LotView) (m : Map) (i : ℕ) (inode : Inode) (is : inode ≡ inode_of m i) (kind : KindFits form_one lot i inode)
+    (pointers : List ℕ) (count : ℕ) (long : count ≡ map_length form_one inode)
     (same : 12 < map_length form_one inode → pointers ≡ m inode.single) (fits : PointersFit form_one lot (own_of (λ _. pointers) inode (map_length form_one inode))) where
   pub sound_here : used_inode m i ≡ true → IsSound form_one lot m i
   sound_here used = record { marked = used; kind = kind_here lot m i inode is kind; pointers = fits_here lot m i inode is pointers same fits }
 
   pub uses_here : uses (λ _. pointers) inode count ≡ (own form_one m i).uses
   uses_here =
-      ap (uses (λ _. pointers) inode) long ∙ sym (same_uses m inode pointers (map_length form_one inode) same) ∙ ap (λ (x : Inode). uses m x (map_length form_one x)) is
+      ap (uses (λ _. pointers) inode) long ∙ sym (same_uses m inode pointers (map_length form_one inode) same)
+      ∙ ap (λ (x : Inode). uses m x (map_length form_one x)) is
 
   pub marks_here : (old new : List Bool) → GotMarks old new (uses (λ _. pointers) inode count) → GotMarks old new (own form_one m i).uses
   marks_here old new a = subst (GotMarks old new) uses_here a
@@ -47,22 +50,27 @@ module _ (lot : LotView) (m : Map) (i : ℕ) (inode : Inode) (is : inode ≡ ino
   )
 
   -- a block that is not marked used
-  pub unused_here : (w : List ℕ) → WalksTo form_one lot m w i → used_inode m i ≡ true → SomeUnused m (uses (λ _. pointers) inode count) → Breaks form_one lot m rule.Bitmap
+  pub unused_here : (w : List ℕ) → WalksTo form_one lot m w i → used_inode m i ≡ true → SomeUnused m (uses (λ _. pointers) inode count)
+      → Breaks form_one lot m rule.Bitmap
   unused_here w by used u =
       let among = subst (λ xs. has xs u.block ≡ true) uses_here u.among in
       inr (inl (record {
         block = u.block;
         place = (sound_here used).pointers.places u.block among;
-        bad = subst (λ b. Differs b (BlockReached form_one lot m u.block)) (sym u.unused) (record { walk = w; inode = i; by = record { by = by; sound = sound_here used; uses = among } });
+        bad =
+            subst (λ b. Differs b (BlockReached form_one lot m u.block)) (sym u.unused)
+            (record { walk = w; inode = i; by = record { by = by; sound = sound_here used; uses = among } });
       }))
 
-  pub unused_broke : (w : List ℕ) (e : CheckFault) → WalksTo form_one lot m w i → used_inode m i ≡ true → IfBitmap (SomeUnused m (uses (λ _. pointers) inode count)) e → Broke lot m e
+  pub unused_broke : (w : List ℕ) (e : CheckFault) → WalksTo form_one lot m w i → used_inode m i ≡ true
+      → IfBitmap (SomeUnused m (uses (λ _. pointers) inode count)) e → Broke lot m e
   unused_broke w check.Disk by used h = tt
   unused_broke w (check.Damaged rule.Bitmap) by used h = unused_here w by used h
   unused_broke w (check.Damaged _) by used h = absurd h
 
   -- a block that has a mark, or that the map has twice
-  pub twice_here : (w : List ℕ) (ins old : List Bool) → WalksTo form_one lot m w i → used_inode m i ≡ true → SeenBefore form_one lot m w ins old → MarkedTwice old (uses (λ _. pointers) inode count) → Breaks form_one lot m rule.BlockTwice
+  pub twice_here : (w : List ℕ) (ins old : List Bool) → WalksTo form_one lot m w i → used_inode m i ≡ true
+      → SeenBefore form_one lot m w ins old → MarkedTwice old (uses (λ _. pointers) inode count) → Breaks form_one lot m rule.BlockTwice
   twice_here w ins old by used seen t =
       ⊎_elim
       (λ was.

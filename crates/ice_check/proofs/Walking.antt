@@ -45,19 +45,22 @@ module _ (f : Form) (lot : LotView) (m : Map) where
     -- ---- the rules that a look at an inode shows
 
     pub bit_broken : depth ≤ 25 → i < 64 * length lot.groups → used_inode m i ≡ false → Breaks f lot m rule.Bitmap
-    bit_broken low below clear = inr (inr (record { inode = i; below = below; bad = subst (λ b. Differs b (InodeReached f lot m i)) (sym clear) (record { walk = w; by = walks_to low }) }))
+    bit_broken low below clear =
+        inr (inr (record { inode = i; below = below; bad = subst (λ b. Differs b (InodeReached f lot m i)) (sym clear) (record { walk = w; by = walks_to low }) }))
 
     pub deep_broken : depth ≤ 25 → 24 < depth → used_inode m i ≡ true → Breaks f lot m rule.Depth
     deep_broken low deep used = record { walk = w; inode = i; by = walks_to low; marked = used; deep = omega (arith, at.deep, deep) }
 
-    pub twice_broken : (ins bls : List Bool) → depth ≤ 25 → used_inode m i ≡ true → SeenBefore f lot m w ins bls → marked ins i ≡ true → Breaks f lot m rule.InodeTwice
+    pub twice_broken : (ins bls : List Bool) → depth ≤ 25 → used_inode m i ≡ true → SeenBefore f lot m w ins bls → marked ins i ≡ true
+        → Breaks f lot m rule.InodeTwice
     twice_broken ins bls low used seen mark_is =
         let x = seen.inodes i mark_is in
         inr (record { inode = i; walk = x.0; other = w; apart = before_apart x.0 w x.1; by = x.2; too = walks_to low; marked = used })
 
     -- ---- what was seen after it
 
-    seen_here : (in0 in1 bl0 bl1 : List Bool) → depth ≤ deepest → used_inode m i ≡ true → IsSound f lot m i → SeenBefore f lot m w in0 bl0 → GotMarks in0 in1 (i ∷ []) → GotMarks bl0 bl1 (o i).uses
+    seen_here : (in0 in1 bl0 bl1 : List Bool) → depth ≤ deepest → used_inode m i ≡ true → IsSound f lot m i → SeenBefore f lot m w in0 bl0
+        → GotMarks in0 in1 (i ∷ []) → GotMarks bl0 bl1 (o i).uses
         → Seen f lot m (λ v. Before v w ⊎ (v ≡ w)) in1 bl1
     seen_here in0 in1 bl0 bl1 low used sound seen a b = record {
       inodes = λ j t. ⊎_elim
@@ -77,20 +80,26 @@ module _ (f : Form) (lot : LotView) (m : Map) where
               | false ↦ λ e. absurd (omega (arith, times-other j i [] e, h))
             ] refl
 
-    pub seen_file : (in0 in1 bl0 bl1 : List Bool) → depth ≤ deepest → used_inode m i ≡ true → IsSound f lot m i → SeenBefore f lot m w in0 bl0 → GotMarks in0 in1 (i ∷ []) → GotMarks bl0 bl1 (o i).uses → SeenWithin f lot m w in1 bl1
+    pub seen_file : (in0 in1 bl0 bl1 : List Bool) → depth ≤ deepest → used_inode m i ≡ true → IsSound f lot m i
+        → SeenBefore f lot m w in0 bl0 → GotMarks in0 in1 (i ∷ []) → GotMarks bl0 bl1 (o i).uses → SeenWithin f lot m w in1 bl1
     seen_file in0 in1 bl0 bl1 low used sound seen a b =
-        seen_more (λ v. Before v w ⊎ (v ≡ w)) (NotAfter w) in1 bl1 (λ v h. ⊎_elim (λ x. inl x) (λ e. inr ([], e ∙ sym (append-nil w))) h) (seen_here in0 in1 bl0 bl1 low used sound seen a b)
+        seen_more (λ v. Before v w ⊎ (v ≡ w)) (NotAfter w) in1 bl1 (λ v h. ⊎_elim (λ x. inl x) (λ e. inr ([], e ∙ sym (append-nil w))) h)
+        (seen_here in0 in1 bl0 bl1 low used sound seen a b)
 
-    pub seen_dir : (in0 in1 bl0 bl1 : List Bool) → depth ≤ deepest → used_inode m i ≡ true → IsSound f lot m i → SeenBefore f lot m w in0 bl0 → GotMarks in0 in1 (i ∷ []) → GotMarks bl0 bl1 (o i).uses → SeenBefore f lot m (w ++ 0 ∷ []) in1 bl1
+    pub seen_dir : (in0 in1 bl0 bl1 : List Bool) → depth ≤ deepest → used_inode m i ≡ true → IsSound f lot m i
+        → SeenBefore f lot m w in0 bl0 → GotMarks in0 in1 (i ∷ []) → GotMarks bl0 bl1 (o i).uses → SeenBefore f lot m (w ++ 0 ∷ []) in1 bl1
     seen_dir in0 in1 bl0 bl1 low used sound seen a b =
         seen_more (λ v. Before v w ⊎ (v ≡ w)) (λ v. Before v (w ++ 0 ∷ [])) in1 bl1
-        (λ v h. ⊎_elim (λ x. before_child v w 0 x) (λ e. subst (λ u. Before u (w ++ 0 ∷ [])) (sym e) (dir_before w 0)) h) (seen_here in0 in1 bl0 bl1 low used sound seen a b)
+        (λ v h. ⊎_elim (λ x. before_child v w 0 x) (λ e. subst (λ u. Before u (w ++ 0 ∷ [])) (sym e) (dir_before w 0)) h)
+        (seen_here in0 in1 bl0 bl1 low used sound seen a b)
 
     -- the walk to what an entry names
     pub at_child : (k j : ℕ) → IsOpen f lot m i → IsGood f lot m i k j → IsAt f lot m (w ++ k ∷ []) j (depth + 1)
     at_child k j dir good =
         record {
-          goes = subst (GoesTo f lot m 0 (w ++ k ∷ [])) (sym good.same) (goes_on f lot m w 0 i k good.row at.goes (record { from = dir; entry = good.is; name = good.name; number = good.number }));
+          goes =
+              subst (GoesTo f lot m 0 (w ++ k ∷ [])) (sym good.same)
+              (goes_on f lot m w 0 i k good.row at.goes (record { from = dir; entry = good.is; name = good.name; number = good.number }));
           deep = omega (arith, length-append w (k ∷ []), at.deep);
         }
 

@@ -35,7 +35,9 @@ unmarked_all (suc n) (suc k) = unmarked_all n k
 none_some : {A : Type 0} (r : Rule) → None ≡ Some r → A
 none_some r e = absurd (cc)
 
-five : (a b c d e : Bool) (r : Rule) → (if not a then Some rule.Magic else if not b then Some rule.Version else if not c then Some rule.Slot else if not d then Some rule.Mode else if not e then Some rule.Done else None) ≡ Some r → IsCheckFault (check.Damaged r)
+five : (a b c d e : Bool) (r : Rule)
+    → (if not a then Some rule.Magic else if not b then Some rule.Version else if not c then Some rule.Slot else if not d then Some rule.Mode else if not e then Some rule.Done else None) ≡ Some r
+    → IsCheckFault (check.Damaged r)
 five false b c d e r h = subst (λ x. IsCheckFault (check.Damaged x)) (same_Some rule.Magic r h) tt
 five true false c d e r h = subst (λ x. IsCheckFault (check.Damaged x)) (same_Some rule.Version r h) tt
 five true true false d e r h = subst (λ x. IsCheckFault (check.Damaged x)) (same_Some rule.Slot r h) tt
@@ -45,20 +47,25 @@ five true true true true true r h = none_some r h
 
 pub sub_fault : (slot : ℕ) (bytes : List ℕ) (r : Rule) → sub_rule slot bytes ≡ Some r → IsCheckFault (check.Damaged r)
 unfolding sub_rule
-sub_fault slot bytes r h = five (word_at bytes 0 == sub_magic) (word_at bytes 4 == 1) (slice_index bytes 8 == slot) (slice_index bytes 9 == 0) (nat_lt (long_at bytes 16) (2 ^ 63)) r h
+sub_fault slot bytes r h =
+    five (word_at bytes 0 == sub_magic) (word_at bytes 4 == 1) (slice_index bytes 8 == slot) (slice_index bytes 9 == 0) (nat_lt (long_at bytes 16) (2 ^ 63)) r h
 
 pub sub_named : (lot : LotView) (m : Map) (r : Rule) → sub_rule lot.slot (m sub_address) ≡ Some r → MayName (form_in m) lot m r
 sub_named lot m r h = rw h refl
 
 -- a sub-super block that breaks no rule says version 1
-version_one : (a b c d e : Bool) → (if not a then Some rule.Magic else if not b then Some rule.Version else if not c then Some rule.Slot else if not d then Some rule.Mode else if not e then Some rule.Done else None) ≡ None → b ≡ true
+version_one : (a b c d e : Bool)
+    → (if not a then Some rule.Magic else if not b then Some rule.Version else if not c then Some rule.Slot else if not d then Some rule.Mode else if not e then Some rule.Done else None) ≡ None
+    → b ≡ true
 version_one false b c d e h = absurd (cc)
 version_one true true c d e h = refl
 version_one true false c d e h = absurd (cc)
 
 version-test : (slot : ℕ) (bytes : List ℕ) → sub_rule slot bytes ≡ None → (word_at bytes 4 == 1) ≡ true
 unfolding sub_rule
-version-test slot bytes h = version_one (word_at bytes 0 == sub_magic) (word_at bytes 4 == 1) (slice_index bytes 8 == slot) (slice_index bytes 9 == 0) (nat_lt (long_at bytes 16) (2 ^ 63)) h
+version-test slot bytes h =
+    version_one (word_at bytes 0 == sub_magic) (word_at bytes 4 == 1) (slice_index bytes 8 == slot) (slice_index bytes 9 == 0)
+    (nat_lt (long_at bytes 16) (2 ^ 63)) h
 
 module _ (lot : LotView) (few : length lot.groups ≤ 64) (m : Map) (sub : SubSuper) (is : IsSub lot.slot sub (m sub_address)) where
   one : word_at (m sub_address) 4 ≡ 1
@@ -90,6 +97,7 @@ module _ (lot : LotView) (few : length lot.groups ≤ 64) (m : Map) (sub : SubSu
   }
 
 -- what may be named of blocks that recover a tree
-pub named_none : (lot : LotView) (m : Map) (e : CheckFault) (f : Form) (mode k : ℕ) (t : Tree) → f ≡ form_of f.version → Named lot m e → MapRecovers f mode lot m t k → IsDisk e
+pub named_none : (lot : LotView) (m : Map) (e : CheckFault) (f : Form) (mode k : ℕ) (t : Tree) → f ≡ form_of f.version → Named lot m e
+    → MapRecovers f mode lot m t k → IsDisk e
 named_none lot m check.Disk f mode k t is h r = tt
 named_none lot m (check.Damaged rule) f mode k t is h r = absurd (named_recovers_nothing f lot m rule mode t k is h r)

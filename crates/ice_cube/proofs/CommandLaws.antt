@@ -116,7 +116,8 @@ paths_answer t k n f op r e = refusal-of_paths t k n f op r (first (has_long_nam
 
 -- ---- versions
 
-second_passes : (a b c d e : Bool) (v w x y z : Rule) → (if not a then Some v else if not b then Some w else if not c then Some x else if not d then Some y else if not e then Some z else None) ≡ None → b ≡ true
+second_passes : (a b c d e : Bool) (v w x y z : Rule)
+    → (if not a then Some v else if not b then Some w else if not c then Some x else if not d then Some y else if not e then Some z else None) ≡ None → b ≡ true
 second_passes true true c d e v w x y z h = refl
 second_passes true false c d e v w x y z h = absurd (cc h)
 second_passes false b c d e v w x y z h = absurd (cc h)
@@ -125,11 +126,13 @@ version_one : (slot : ℕ) (bytes : List ℕ) → sub_rule slot bytes ≡ None �
 unfolding sub_rule
 version_one slot bytes sound =
     let t : (word_at bytes 4 == 1) ≡ true =
-    second_passes (word_at bytes 0 == sub_magic) (word_at bytes 4 == 1) (slice_index bytes 8 == slot) (slice_index bytes 9 == 0) (nat_lt (long_at bytes 16) (2 ^ 63)) rule.Magic rule.Version rule.Slot rule.Mode rule.Done sound in
+    second_passes (word_at bytes 0 == sub_magic) (word_at bytes 4 == 1) (slice_index bytes 8 == slot) (slice_index bytes 9 == 0)
+    (nat_lt (long_at bytes 16) (2 ^ 63)) rule.Magic rule.Version rule.Slot rule.Mode rule.Done sound in
     grind (arith, nat_tests)
 
 -- What a lot recovers is of version 1.
-pub form_is_one : (f : Form) (mode : ℕ) (lot : LotView) (m : ℕ → List ℕ) (t : Tree) (k : ℕ) → f ≡ form_of f.version → MapRecovers f mode lot m t k → f ≡ form_one
+pub form_is_one : (f : Form) (mode : ℕ) (lot : LotView) (m : ℕ → List ℕ) (t : Tree) (k : ℕ) → f ≡ form_of f.version
+    → MapRecovers f mode lot m t k → f ≡ form_one
 form_is_one f mode lot m t k form r = form ∙ ap form_of (sym r.sub.version ∙ version_one lot.slot (m sub_address) r.sub.sound)
 
 -- ---- histories
@@ -139,16 +142,19 @@ take-before : (xs ys : List Operation) (n : ℕ) → n ≤ length xs → take n 
 take-before xs ys n few = take-append-le n xs ys few
 
 -- the images of a history are those of the history with one more operation
-more_history : (lot : LotView) (f : Form) (mode : Mode) (h : History) (op : Operation) (i : Image) → HasHistory lot f mode h i → HasHistory lot f mode (accepts h op) i
+more_history : (lot : LotView) (f : Form) (mode : Mode) (h : History) (op : Operation) (i : Image) → HasHistory lot f mode h i
+    → HasHistory lot f mode (accepts h op) i
 more_history lot f mode h op i has = (
   has.0,
   omega (arith, has.1, length-append h.since (op ∷ [])),
-  subst (λ (ops : List Operation). Recovers lot i f mode (tree_after ops (tree_after h.sure h.base)) (floor h + has.0)) (sym (take-before h.since (op ∷ []) has.0 has.1)) has.2,
+  subst (λ (ops : List Operation). Recovers lot i f mode (tree_after ops (tree_after h.sure h.base)) (floor h + has.0))
+      (sym (take-before h.since (op ∷ []) has.0 has.1)) has.2,
 )
 
 -- what a settled history has at its one count is all that was accepted
 all_recovered : (lot : LotView) (f : Form) (mode : Mode) (h : History) (m : ℕ → List ℕ) (n : ℕ) → n ≤ length (settled h).since
-    → MapRecovers f (mode_byte mode) lot m (tree_at (settled h) n) (floor (settled h) + n) → MapRecovers f (mode_byte mode) lot m (tree_at h (length h.since)) (floor h + length h.since)
+    → MapRecovers f (mode_byte mode) lot m (tree_at (settled h) n) (floor (settled h) + n)
+    → MapRecovers f (mode_byte mode) lot m (tree_at h (length h.since)) (floor h + length h.since)
 all_recovered lot f mode h m n few r =
     let first : MapRecovers f (mode_byte mode) lot m (tree_after (h.sure ++ h.since) h.base) (floor (settled h) + 0) =
     subst (λ (x : ℕ). MapRecovers f (mode_byte mode) lot m (tree_at (settled h) x) (floor (settled h) + x)) (omega (arith, few)) r in
@@ -189,7 +195,8 @@ holds_unsettled f mode h c s holds = record {
 -- ---- room
 
 -- What a commit that comes to its end leaves, and one that fails, holds the history.
-pub room_holds : {T X : Type 0} (r : Result T X) (f : Form) (mode : Mode) (h : History) (c : CubeView) (s : DiskState) → OnOk r (Holds f mode (settled h) c s) → OnErr r (Holds f mode h c s) → Holds f mode h c s
+pub room_holds : {T X : Type 0} (r : Result T X) (f : Form) (mode : Mode) (h : History) (c : CubeView) (s : DiskState)
+    → OnOk r (Holds f mode (settled h) c s) → OnErr r (Holds f mode h c s) → Holds f mode h c s
 room_holds (Ok x) f mode h c s done kept = holds_unsettled f mode h c s done
 room_holds (Err e) f mode h c s done kept = kept
 
@@ -209,9 +216,12 @@ module _ {D : Type 0} (state : D → DiskState) (left : D → ℕ → Image → 
   -- what nothing wrote stays at rest
   pub rest_still : (lot : LotView) (map : ℕ → List ℕ) (a b : D) → Within state left Nowhere a b → Sure (RestsLot lot) (LotAtRest lot map) (state a)
       → Sure (RestsLot lot) (LotAtRest lot map) (state b)
-  rest_still lot map a b w sure = sure_kept (RestsLot lot) (LotAtRest lot map) (state a) (state b) (rest_rests lot map) (kept_within state left (RestsLot lot) Nowhere a b (λ k here never. never) w) sure
+  rest_still lot map a b w sure =
+      sure_kept (RestsLot lot) (LotAtRest lot map) (state a) (state b) (rest_rests lot map)
+      (kept_within state left (RestsLot lot) Nowhere a b (λ k here never. never) w) sure
 
-  still_history : (lot : LotView) (f : Form) (mode : Mode) (h : History) (a b : D) → Within state left Nowhere a b → Every (extent lot) (state a) (HasHistory lot f mode h)
+  still_history : (lot : LotView) (f : Form) (mode : Mode) (h : History) (a b : D) → Within state left Nowhere a b
+      → Every (extent lot) (state a) (HasHistory lot f mode h)
       → Every (extent lot) (state b) (HasHistory lot f mode h)
   still_history lot f mode h a b w every = every_apart state left (extent lot) Nowhere a b (HasHistory lot f mode h) (λ k here never. never) w every
 
@@ -221,14 +231,16 @@ module _ {D : Type 0} (state : D → DiskState) (left : D → ℕ → Image → 
   still_step f mode h c a b w holds = step_apart state left (extent c.lot) Nowhere (HasHistory c.lot f mode h) a b (λ k here never. never) w holds.lasts
 
   -- So does one after a step that leaves it.
-  pub still_after : (lot : LotView) (f : Form) (mode : Mode) (h : History) (a b c : D) → (state b).streams ≡ (state a).streams → CrashStep state left (extent lot) (HasHistory lot f mode h) a b
+  pub still_after : (lot : LotView) (f : Form) (mode : Mode) (h : History) (a b c : D) → (state b).streams ≡ (state a).streams
+      → CrashStep state left (extent lot) (HasHistory lot f mode h) a b
       → Within state left Nowhere b c → CrashStep state left (extent lot) (HasHistory lot f mode h) a c
   still_after lot f mode h a b c streams step w =
       step_then state left (extent lot) (HasHistory lot f mode h) a b c streams step
       (step_apart state left (extent lot) Nowhere (HasHistory lot f mode h) b c (λ k here never. never) w step.after)
 
   -- A cube that is stopped then holds what it held.
-  pub holds_stopped : (f : Form) (mode : Mode) (h : History) (c : CubeView) (set : List Entry) (n : ℕ) (a b : D) → Within state left Nowhere a b → Holds f mode h c (state a)
+  pub holds_stopped : (f : Form) (mode : Mode) (h : History) (c : CubeView) (set : List Entry) (n : ℕ) (a b : D)
+      → Within state left Nowhere a b → Holds f mode h c (state a)
       → Holds f mode h (record { lot = c.lot; set = set; done = n; stopped = true }) (state b)
   holds_stopped f mode h c set n a b w holds = record { lasts = still_history c.lot f mode h a b w holds.lasts; runs = λ never. absurd (cc never) }
 
@@ -278,26 +290,32 @@ module _ {D : Type 0} (state : D → DiskState) (left : D → ℕ → Image → 
             rest = rest_still lot r.map a b held.still.within r.rest;
             back = r.back;
             few = omega (arith, r.few, length-append h.since (op ∷ []));
-            base = subst (λ (ops : List Operation). MapRecovers f (mode_byte mode) lot r.map (tree_after ops (tree_after h.sure h.base)) (floor h + r.back)) (sym (take-before h.since (op ∷ []) r.back r.few)) r.base;
+            base =
+                subst (λ (ops : List Operation). MapRecovers f (mode_byte mode) lot r.map (tree_after ops (tree_after h.sure h.base))
+                (floor h + r.back)) (sym (take-before h.since (op ∷ []) r.back r.few)) r.base;
             running =
                 subst (λ (m : ℕ → List ℕ). MapRecovers f (mode_byte mode) lot m (tree_now (accepts h op)) (done (accepts h op))) (shown_after r.map r.rest)
                 (subst (λ (x : ℕ). MapRecovers f (mode_byte mode) lot (shown_by lot w (state b)) (tree_now (accepts h op)) x) (sym number)
                 (subst (λ (t : Tree). MapRecovers f (mode_byte mode) lot (shown_by lot w (state b)) t (done h + 1)) tree next));
             count =
-                let small : done h + 1 < 2 ^ 63 = recovers_small f (mode_byte mode) lot (shown_by lot w (state b)) (next_tree op (tree_now h)) (done h + 1) next in
+                let small : done h + 1 < 2 ^ 63 = recovers_small f (mode_byte mode) lot (shown_by lot w (state b))
+                (next_tree op (tree_now h)) (done h + 1) next in
                 omega (arith, r.count, number, small);
           };
     }
 
     -- A cube that goes on is of version 1.
-    pub holds_form : (f : Form) (mode : Mode) (h : History) (n : ℕ) → Holds f mode h (record { lot = lot; set = v.entries; done = n; stopped = false }) (state a) → f ≡ form_one
+    pub holds_form : (f : Form) (mode : Mode) (h : History) (n : ℕ)
+        → Holds f mode h (record { lot = lot; set = v.entries; done = n; stopped = false }) (state a) → f ≡ form_one
     holds_form f mode h n holds = let r = holds.runs refl in form_is_one f (mode_byte mode) lot (over v.entries r.map) (tree_now h) (done h) r.form r.running
 
-    pub holds_tells : (f : Form) (mode : Mode) (h : History) (n : ℕ) → Holds f mode h (record { lot = lot; set = v.entries; done = n; stopped = false }) (state a) → (state a).tells ≡ true
+    pub holds_tells : (f : Form) (mode : Mode) (h : History) (n : ℕ)
+        → Holds f mode h (record { lot = lot; set = v.entries; done = n; stopped = false }) (state a) → (state a).tells ≡ true
     holds_tells f mode h n holds = (holds.runs refl).rest.settled.told
 
     -- What the keep shows recovers what the cube holds.
-    pub shown_recovers : (f : Form) (mode : Mode) (h : History) (n : ℕ) → Holds f mode h (record { lot = lot; set = v.entries; done = n; stopped = false }) (state a)
+    pub shown_recovers : (f : Form) (mode : Mode) (h : History) (n : ℕ)
+        → Holds f mode h (record { lot = lot; set = v.entries; done = n; stopped = false }) (state a)
         → MapRecovers form_one (mode_byte mode) lot (shown_by lot v (state a)) (tree_now h) (done h)
     shown_recovers f mode h n holds =
         let r = holds.runs refl in
@@ -379,7 +397,8 @@ looked_record : (c : Cube) (h : History) (op : Operation) (o : Option Why) → i
 looked_record c h op (Some r) still = refl
 looked_record c h op None still = rw still refl
 
-module _ {D : Type 0} (state : D → DiskState) (left : D → ℕ → Image → List ℕ → Type 0) (lot : LotView) (v w : SetView) (a b : D) (held : HeldBack state left lot v a w b) (homes : AreHomes (lot_places lot) v.entries) (n : ℕ) (c : Cube) (holds : HoldsRecord (record { lot = lot; set = v.entries; done = n; stopped = false }) (state a) c) where
+module _ {D : Type 0} (state : D → DiskState) (left : D → ℕ → Image → List ℕ → Type 0) (lot : LotView) (v w : SetView) (a b : D)
+    (held : HeldBack state left lot v a w b) (homes : AreHomes (lot_places lot) v.entries) (n : ℕ) (c : Cube) (holds : HoldsRecord (record { lot = lot; set = v.entries; done = n; stopped = false }) (state a) c) where
   -- what the record has
   now : Tree
   now = tree_now holds.history
@@ -415,22 +434,27 @@ module _ {D : Type 0} (state : D → DiskState) (left : D → ℕ → Image → 
         sound = holds.sound;
         holds = holds_same state left lot v w a b held homes c.form c.mode h n looked.same holds.holds;
       } in
-      elim (model_or_fault (meant reply room) (answer (tree_now h) (done h) c.groups c.form op).0 (as_record op (meant reply room) (looked.answers (mode_byte c.mode) (done h) (tree_now h) told shown))) [
-        | inl is ↦ (c, subst (λ (d : Cube). Own (Some c) (OnTree op) (meant reply room) (Some d)) (looked_record c h op o still) (own_answer c h op (meant reply room) holds.state holds.sound is), after)
+      elim (model_or_fault (meant reply room) (answer (tree_now h) (done h) c.groups c.form op).0
+      (as_record op (meant reply room) (looked.answers (mode_byte c.mode) (done h) (tree_now h) told shown))) [
+        | inl is ↦
+            (c, subst (λ (d : Cube). Own (Some c) (OnTree op) (meant reply room) (Some d)) (looked_record c h op o still) (own_answer c h op (meant reply room) holds.state holds.sound is), after)
         | inr fault ↦
             let none : paths_refusal c.form (paths op) ≡ None =
-            subst (λ (g : Form). paths_refusal g (paths op) ≡ None) (sym first) (paths_none (paths_refusal form_one (paths op)) reply looked.called.paths (plain_fault reply room fault)) in
+            subst (λ (g : Form). paths_refusal g (paths op) ≡ None) (sym first)
+            (paths_none (paths_refusal form_one (paths op)) reply looked.called.paths (plain_fault reply room fault)) in
             let own : Own (Some c) (OnTree op) (Err Fault) (Some c) =
             subst (λ (x : Bool). Own (Some c) (OnTree op) (Err Fault) (Some (if x then with_state Stopped c else c))) still (own_fault c op holds.state none) in
             (c, subst (λ (r : Response). Own (Some c) (OnTree op) r (Some c)) (sym fault) own, after)
       ]
 
   -- A look at a sound tree names no damage.
-  pub look_sound : (op : Operation) (reply : Result Value Refusal) (room : RoomContent) (x : ℕ) → LookedAt state left lot op v a reply room w b → reply ≡ Err (code.Damaged x) → ⊥
+  pub look_sound : (op : Operation) (reply : Result Value Refusal) (room : RoomContent) (x : ℕ)
+      → LookedAt state left lot op v a reply room w b → reply ≡ Err (code.Damaged x) → ⊥
   look_sound op reply room x looked is =
       let h = holds.history in
       let model : AsModel (meant (Err (code.Damaged x)) room) (answer (tree_now h) (done h) (length lot.groups) form_one op).0 =
-      subst (λ (r : Result Value Refusal). AsModel (meant r room) (answer (tree_now h) (done h) (length lot.groups) form_one op).0) is (looked.answers (mode_byte c.mode) (done h) (tree_now h) told shown) in
+      subst (λ (r : Result Value Refusal). AsModel (meant r room) (answer (tree_now h) (done h) (length lot.groups) form_one op).0) is
+      (looked.answers (mode_byte c.mode) (done h) (tree_now h) told shown) in
       refusal-no_damage (tree_now h) (done h) (length lot.groups) form_one op x
       (refused_by (refusal (tree_now h) (done h) (length lot.groups) form_one op) op (tree_now h) (why.Damaged x) model)
 
@@ -441,13 +465,17 @@ module _ {D : Type 0} (state : D → DiskState) (left : D → ℕ → Image → 
       let h = holds.history in
       let t = tree_now h in
       let model : Ok Plain ≡ (answer t (done h) (length lot.groups) form_one op).0 = changed.answers (mode_byte c.mode) (done h) t told shown in
-      let none : refusal t (done h) (length lot.groups) form_one op ≡ None = accepted_by (refusal t (done h) (length lot.groups) form_one op) op t Plain model in
+      let none : refusal t (done h) (length lot.groups) form_one op ≡ None = accepted_by
+      (refusal t (done h) (length lot.groups) form_one op) op t Plain model in
       let none' : refusal t (done h) c.groups c.form op ≡ None =
-      subst (λ (g : Form). refusal t (done h) c.groups g op ≡ None) (sym first) (subst (λ (x : ℕ). refusal t (done h) x form_one op ≡ None) (sym holds.groups) none) in
+      subst (λ (g : Form). refusal t (done h) c.groups g op ≡ None) (sym first)
+      (subst (λ (x : ℕ). refusal t (done h) x form_one op ≡ None) (sym holds.groups) none) in
       let next : MapRecovers form_one (mode_byte c.mode) lot (shown_by lot w (state b)) (next_tree op t) (done h + 1) =
-      subst (λ (o : Option Why). MapRecovers form_one (mode_byte c.mode) lot (shown_by lot w (state b)) (answer_by o op t).1 (done h + 1)) none (changed.changed (mode_byte c.mode) (done h) t told shown) in
+      subst (λ (o : Option Why). MapRecovers form_one (mode_byte c.mode) lot (shown_by lot w (state b)) (answer_by o op t).1 (done h + 1)) none
+      (changed.changed (mode_byte c.mode) (done h) t told shown) in
       let own : Own (Some c) (OnTree op) (Ok Plain) (Some (if is_change op then with_history (accepts h op) c else c)) =
-      subst (λ (o : Option Why). Own (Some c) (OnTree op) (Ok Plain) (Some (next_record c h op o))) none' (own_answer c h op (Ok Plain) holds.state holds.sound (as_record op (Ok Plain) model)) in (
+      subst (λ (o : Option Why). Own (Some c) (OnTree op) (Ok Plain) (Some (next_record c h op o))) none'
+      (own_answer c h op (Ok Plain) holds.state holds.sound (as_record op (Ok Plain) model)) in (
         with_history (accepts h op) c,
         subst (λ (x : Bool). Own (Some c) (OnTree op) (Ok Plain) (Some (if x then with_history (accepts h op) c else c))) change own,
         record {
@@ -456,25 +484,29 @@ module _ {D : Type 0} (state : D → DiskState) (left : D → ℕ → Image → 
           history = accepts h op;
           sound = refl;
           holds = holds_accepted state left lot v w a b held homes c.form c.mode h op n
-              (subst (λ (g : Form). MapRecovers g (mode_byte c.mode) lot (shown_by lot w (state b)) (next_tree op t) (done h + 1)) (sym first) next) holds.holds;
+              (subst (λ (g : Form). MapRecovers g (mode_byte c.mode) lot (shown_by lot w (state b)) (next_tree op t) (done h + 1))
+              (sym first) next) holds.holds;
         },
       )
 
   -- A refused change answers as the record, which stays, but for a fault, which stops the cube.
-  pub refused_own : (op : Operation) (r : Refusal) (stopped : Bool) → is_change op ≡ true → ChangedAs state left lot op v a (Err r) w b → stopped ≡ nat_lt 14 (refusal_number r)
+  pub refused_own : (op : Operation) (r : Refusal) (stopped : Bool) → is_change op ≡ true → ChangedAs state left lot op v a (Err r) w b
+      → stopped ≡ nat_lt 14 (refusal_number r)
       → AnswersOwn (record { lot = lot; set = w.entries; done = n; stopped = stopped }) (state b) c (OnTree op) (Err (refused_of r))
   refused_own op r stopped change changed is =
       let h = holds.history in
       let t = tree_now h in
       let o : Option Why = refusal t (done h) (length lot.groups) form_one op in
-      let model : AsModel (Err (refused_of r)) (answer t (done h) (length lot.groups) form_one op).0 = changed.answers (mode_byte c.mode) (done h) t told shown in
+      let model : AsModel (Err (refused_of r)) (answer t (done h) (length lot.groups) form_one op).0 = changed.answers (mode_byte c.mode)
+      (done h) t told shown in
       elim (model_or_fault (Err (refused_of r)) (answer t (done h) (length lot.groups) form_one op).0 model) [
         | inl model ↦
             let low : nat_lt 14 (refusal_number r) ≡ false = low_refusal op r model changed.called.set in
             let few : refusal_number r ≤ 14 = grind (arith, nat_tests, low) in
             let known = as_known op r model in (
               c,
-              subst (λ (d : Cube). Own (Some c) (OnTree op) (Err (refused_of r)) (Some d)) (refused_record op r model) (own_answer c h op (Err (refused_of r)) holds.state holds.sound known),
+              subst (λ (d : Cube). Own (Some c) (OnTree op) (Err (refused_of r)) (Some d)) (refused_record op r model)
+                  (own_answer c h op (Err (refused_of r)) holds.state holds.sound known),
               subst (λ (x : Bool). HoldsRecord (record { lot = lot; set = w.entries; done = n; stopped = x }) (state b) c) (sym low ∙ sym is)
                   (record {
                     groups = holds.groups;
@@ -486,32 +518,41 @@ module _ {D : Type 0} (state : D → DiskState) (left : D → ℕ → Image → 
             )
         | inr fault ↦
             let none : paths_refusal c.form (paths op) ≡ None =
-            subst (λ (g : Form). paths_refusal g (paths op) ≡ None) (sym first) (paths_none (paths_refusal form_one (paths op)) (Err r) changed.called.paths fault) in
+            subst (λ (g : Form). paths_refusal g (paths op) ≡ None) (sym first)
+            (paths_none (paths_refusal form_one (paths op)) (Err r) changed.called.paths fault) in
             let own : Own (Some c) (OnTree op) (Err Fault) (Some (with_state Stopped c)) =
-            subst (λ (x : Bool). Own (Some c) (OnTree op) (Err Fault) (Some (if x then with_state Stopped c else c))) change (own_fault c op holds.state none) in (
+            subst (λ (x : Bool). Own (Some c) (OnTree op) (Err Fault) (Some (if x then with_state Stopped c else c))) change
+            (own_fault c op holds.state none) in (
               with_state Stopped c,
               subst (λ (x : Response). Own (Some c) (OnTree op) x (Some (with_state Stopped c))) (sym fault) own,
-              subst (λ (x : Bool). HoldsRecord (record { lot = lot; set = w.entries; done = n; stopped = x }) (state b) (with_state Stopped c)) (sym (fault_high r fault) ∙ sym is)
+              subst (λ (x : Bool). HoldsRecord (record { lot = lot; set = w.entries; done = n; stopped = x }) (state b) (with_state Stopped c))
+                  (sym (fault_high r fault) ∙ sym is)
                   (record {
                     groups = holds.groups;
                     state = refl;
                     history = h;
                     sound = holds.sound;
-                    holds = holds_stopped state left c.form c.mode h (record { lot = lot; set = v.entries; done = n; stopped = false }) w.entries n a b held.still.within holds.holds;
+                    holds =
+                        holds_stopped state left c.form c.mode h
+                        (record { lot = lot; set = v.entries; done = n; stopped = false }) w.entries n a b held.still.within holds.holds;
                   }),
             )
       ]
     where
-      low_refusal : (op : Operation) (r : Refusal) → Err (refused_of r) ≡ (answer (tree_now holds.history) (done holds.history) (length lot.groups) form_one op).0 → refusal_number r ≤ 16
+      low_refusal : (op : Operation) (r : Refusal)
+          → Err (refused_of r) ≡ (answer (tree_now holds.history) (done holds.history) (length lot.groups) form_one op).0 → refusal_number r ≤ 16
           → nat_lt 14 (refusal_number r) ≡ false
       low_refusal op r model few = elim (cases_Bool (nat_lt 14 (refusal_number r))) [
         | inr low ↦ low
         | inl high ↦ absurd (elim (high_refusal r (grind (arith, nat_tests, high)) few) [
           | inl fault ↦ answer-no_fault (tree_now holds.history) (done holds.history) (length lot.groups) form_one op
-              (sym (subst (λ (x : Refusal). Err (refused_of x) ≡ (answer (tree_now holds.history) (done holds.history) (length lot.groups) form_one op).0) fault model))
+              (sym (subst
+              (λ (x : Refusal). Err (refused_of x) ≡ (answer (tree_now holds.history) (done holds.history) (length lot.groups) form_one op).0) fault model))
           | inr damage ↦ refusal-no_damage (tree_now holds.history) (done holds.history) (length lot.groups) form_one op damage.0
-              (refused_by (refusal (tree_now holds.history) (done holds.history) (length lot.groups) form_one op) op (tree_now holds.history) (why.Damaged damage.0)
-              (subst (λ (x : Refusal). Err (refused_of x) ≡ (answer (tree_now holds.history) (done holds.history) (length lot.groups) form_one op).0) damage.1 model))
+              (refused_by (refusal (tree_now holds.history) (done holds.history) (length lot.groups) form_one op) op
+              (tree_now holds.history) (why.Damaged damage.0)
+              (subst (λ (x : Refusal). Err
+              (refused_of x) ≡ (answer (tree_now holds.history) (done holds.history) (length lot.groups) form_one op).0) damage.1 model))
         ])
       ]
 
@@ -521,7 +562,8 @@ module _ {D : Type 0} (state : D → DiskState) (left : D → ℕ → Image → 
           subst (λ (g : Form). Err (refused_of r) ≡ (answer (tree_now holds.history) (done holds.history) c.groups g op).0) (sym first)
           (subst (λ (x : ℕ). Err (refused_of r) ≡ (answer (tree_now holds.history) (done holds.history) x form_one op).0) (sym holds.groups) model)
 
-      refused_record : (op : Operation) (r : Refusal) → Err (refused_of r) ≡ (answer (tree_now holds.history) (done holds.history) (length lot.groups) form_one op).0
+      refused_record : (op : Operation) (r : Refusal)
+          → Err (refused_of r) ≡ (answer (tree_now holds.history) (done holds.history) (length lot.groups) form_one op).0
           → next_record c holds.history op (refusal (tree_now holds.history) (done holds.history) c.groups c.form op) ≡ c
       refused_record op r model = go (refusal (tree_now holds.history) (done holds.history) c.groups c.form op) (as_known op r model)
         where
@@ -567,23 +609,28 @@ module _ {D : Type 0} (state : D → DiskState) (left : D → ℕ → Image → 
   check_fault same = (c, inr (inl (refl, refl, refl)), same_after same)
 
   -- A check of a sound tree names no damage.
-  pub check_sound : (result : Result Summary CheckFault) → ((f : Form) (mode k : ℕ) (t : Tree) → f ≡ form_of f.version → (state a).tells ≡ true → MapRecovers f mode lot (shown_by lot v (state a)) t k → IfErr result IsDisk)
+  pub check_sound : (result : Result Summary CheckFault)
+      → ((f : Form) (mode k : ℕ) (t : Tree) → f ≡ form_of f.version → (state a).tells ≡ true → MapRecovers f mode lot (shown_by lot v (state a)) t k → IfErr result IsDisk)
       → (r : Rule) → result ≡ Err (check.Damaged r) → ⊥
   check_sound result exact r is =
-      subst (λ (x : Result Summary CheckFault). IfErr x IsDisk) is (exact form_one (mode_byte c.mode) (done holds.history) (tree_now holds.history) refl told shown)
+      subst (λ (x : Result Summary CheckFault). IfErr x IsDisk) is
+      (exact form_one (mode_byte c.mode) (done holds.history) (tree_now holds.history) refl told shown)
 
 -- ---- before the change
 
 -- a cube that goes on is of version 1
 live_form : (e : CubeView) (s : DiskState) (c : Cube) → e.stopped ≡ false → HoldsRecord e s c → c.form ≡ form_one
-live_form e s c live holds = let r = holds.holds.runs live in form_is_one c.form (mode_byte c.mode) e.lot (over e.set r.map) (tree_now holds.history) (done holds.history) r.form r.running
+live_form e s c live holds =
+    let r = holds.holds.runs live in form_is_one c.form (mode_byte c.mode) e.lot (over e.set r.map) (tree_now holds.history)
+    (done holds.history) r.form r.running
 
 -- its record is mounted
 live_state : (e : CubeView) (s : DiskState) (c : Cube) → e.stopped ≡ false → HoldsRecord e s c → c.state ≡ Mounted
 live_state e s c live holds = holds.state ∙ ap open_state live
 
 -- A refusal that the paths show is the record's.
-pub names_own : (e : CubeView) (s : DiskState) (op : Operation) (r : Refusal) → (r ≡ code.NameLong) ⊎ (r ≡ code.TooDeep) → RefusedAs (refused_of r) (paths_refusal form_one (paths op))
+pub names_own : (e : CubeView) (s : DiskState) (op : Operation) (r : Refusal) → (r ≡ code.NameLong) ⊎ (r ≡ code.TooDeep)
+    → RefusedAs (refused_of r) (paths_refusal form_one (paths op))
     → e.stopped ≡ false → (c : Cube) → HoldsRecord e s c → AnswersOwn e s c (OnTree op) (Err (refused_of r))
 names_own e s op r which found live c holds = elim which [
   | inl long ↦ subst (λ (x : Refusal). AnswersOwn e s c (OnTree op) (Err (refused_of x))) (sym long)
@@ -596,7 +643,8 @@ names_own e s op r which found live c holds = elim which [
     by x e' =
         let h = holds.history in
         let there : refusal (tree_now h) (done h) c.groups c.form op ≡ Some x =
-        paths_answer (tree_now h) (done h) c.groups c.form op x (subst (λ (g : Form). paths_refusal g (paths op) ≡ Some x) (sym (live_form e s c live holds)) e') in
+        paths_answer (tree_now h) (done h) c.groups c.form op x
+        (subst (λ (g : Form). paths_refusal g (paths op) ≡ Some x) (sym (live_form e s c live holds)) e') in
         let is : Err (Because x) ≡ (answer (tree_now h) (done h) c.groups c.form op).0 = ap (λ (o : Option Why). (answer_by o op (tree_now h)).0) (sym there) in
         (c, subst (λ (o : Option Why). Own (Some c) (OnTree op) (Err (Because x)) (Some (next_record c h op o))) there (own_answer c h op (Err (Because x)) (live_state e s c live holds) holds.sound is), holds)
 
@@ -629,5 +677,6 @@ fault_own e s e' s' op lot live dead keeps change none c holds = (
 )
 
 -- A stopped cube answers that it is stopped.
-pub stopped_own : (e : CubeView) (s : DiskState) (op : Operation) → e.stopped ≡ true → (c : Cube) → HoldsRecord e s c → AnswersOwn e s c (OnTree op) (Err (Because why.Stopped))
+pub stopped_own : (e : CubeView) (s : DiskState) (op : Operation) → e.stopped ≡ true → (c : Cube) → HoldsRecord e s c
+    → AnswersOwn e s c (OnTree op) (Err (Because why.Stopped))
 stopped_own e s op dead c holds = (c, own_stopped c op (holds.state ∙ ap open_state dead), holds)

@@ -53,7 +53,9 @@ holds_kept f mode h c s t kept holds = record {
   runs = λ live. let r = holds.runs live in record {
     form = r.form;
     map = r.map;
-    rest = sure_kept (RestsLot c.lot) (LotAtRest c.lot r.map) s t (rest_rests c.lot r.map) (kept_fewer (extent c.lot) (RestsLot c.lot) s t (rests_lot c.lot) kept) r.rest;
+    rest =
+        sure_kept (RestsLot c.lot) (LotAtRest c.lot r.map) s t (rest_rests c.lot r.map)
+        (kept_fewer (extent c.lot) (RestsLot c.lot) s t (rests_lot c.lot) kept) r.rest;
     back = r.back;
     few = r.few;
     base = r.base;
@@ -73,10 +75,12 @@ pub rest_holds : (lot : LotView) (f : Form) (mode : Mode) (b : Tree) (from : ℕ
     → f ≡ form_of f.version → n ≡ from + length sure → Sure (RestsLot lot) (LotAtRest lot map) s → MapRecovers f (mode_byte mode) lot map (tree_after sure b) n
     → Holds f mode (record { base = b; from = from; sure = sure; since = [] }) (record { lot = lot; set = []; done = n; stopped = false }) s
 rest_holds lot f mode b from sure n map s form number rest is =
-    let last : MapRecovers f (mode_byte mode) lot map (tree_after sure b) (from + length sure + 0) = subst (λ (x : ℕ). MapRecovers f (mode_byte mode) lot map (tree_after sure b) x) (omega (arith, number)) is in
+    let last : MapRecovers f (mode_byte mode) lot map (tree_after sure b) (from + length sure + 0) = subst
+    (λ (x : ℕ). MapRecovers f (mode_byte mode) lot map (tree_after sure b) x) (omega (arith, number)) is in
     record {
       lasts = λ i agrees.
-          let there : LotAtRest lot map i = rest_rests lot map s.now i (λ k here. agrees.same k (rests_lot lot k here) (rest.settled.settled k here)) rest.now in
+          let there : LotAtRest lot map i = rest_rests lot map s.now i
+          (λ k here. agrees.same k (rests_lot lot k here) (rest.settled.settled k here)) rest.now in
           (0, omega arith, record { form = form; blocks = map; effective = there.blocks; recovers = last });
       runs = λ live. record {
         form = form;
@@ -121,7 +125,9 @@ holds_cut f mode h j c s few holds =
         → MapRecovers f (mode_byte mode) c.lot m (tree_at (fresh (tree_at h j) (floor h + j)) n) (floor (fresh (tree_at h j) (floor h + j)) + n)
         → MapRecovers f (mode_byte mode) c.lot m (tree_after (h.sure ++ take j h.since) h.base) (floor (cut_to h j) + 0)
     moved m tree number n none r =
-        let first = subst (λ (x : ℕ). MapRecovers f (mode_byte mode) c.lot m (tree_at (fresh (tree_at h j) (floor h + j)) x) (floor (fresh (tree_at h j) (floor h + j)) + x)) none r in
+        let first = subst
+        (λ (x : ℕ). MapRecovers f (mode_byte mode) c.lot m (tree_at (fresh (tree_at h j) (floor h + j)) x)
+        (floor (fresh (tree_at h j) (floor h + j)) + x)) none r in
         subst (λ (t : Tree). MapRecovers f (mode_byte mode) c.lot m t (floor (cut_to h j) + 0)) (sym tree)
         (subst (λ (x : ℕ). MapRecovers f (mode_byte mode) c.lot m (tree_at h j) x) (omega (arith, number)) first)
 
@@ -138,7 +144,9 @@ either_history f mode h c s r i (inr e) = (
     form = r.form;
     blocks = over c.set r.map;
     effective = e;
-    recovers = subst (λ (ops : List Operation). MapRecovers f (mode_byte mode) c.lot (over c.set r.map) (tree_after ops (tree_after h.sure h.base)) (done h)) (sym (take-length h.since)) r.running;
+    recovers =
+        subst (λ (ops : List Operation). MapRecovers f (mode_byte mode) c.lot (over c.set r.map)
+        (tree_after ops (tree_after h.sure h.base)) (done h)) (sym (take-length h.since)) r.running;
   },
 )
 
@@ -157,10 +165,12 @@ module _ {D : Type 0} (state : D → DiskState) (left : D → ℕ → Image → 
   commit_step f mode h c a b live holds step =
       let r = holds.runs live in
       step_wider (JournalExtent (lot_places c.lot) 240) (extent c.lot) (HasHistory c.lot f mode h) a b (lot_extent c.lot)
-      (step_more state left (JournalExtent (lot_places c.lot) 240) (BlocksEither c.lot c.set r.map) (HasHistory c.lot f mode h) a b (either_history f mode h c (state a) r) (step r.map r.rest))
+      (step_more state left (JournalExtent (lot_places c.lot) 240) (BlocksEither c.lot c.set r.map) (HasHistory c.lot f mode h) a b
+      (either_history f mode h c (state a) r) (step r.map r.rest))
 
 -- A commit that comes to its end settles the history.
-pub commit_settles : (f : Form) (mode : Mode) (h : History) (c : CubeView) (s t : DiskState) (r : Runs f mode h c s) → Sure (RestsLot c.lot) (LotAtRest c.lot (over c.set r.map)) t
+pub commit_settles : (f : Form) (mode : Mode) (h : History) (c : CubeView) (s t : DiskState) (r : Runs f mode h c s)
+    → Sure (RestsLot c.lot) (LotAtRest c.lot (over c.set r.map)) t
     → Holds f mode (settled h) (record { lot = c.lot; set = []; done = c.done; stopped = false }) t
 commit_settles f mode h c s t r rest =
     rest_holds c.lot f mode h.base h.from (h.sure ++ h.since) c.done (over c.set r.map) t r.form (omega (arith, r.count, length-append h.sure h.since)) rest
@@ -168,7 +178,8 @@ commit_settles f mode h c s t r rest =
     (subst (λ (n : ℕ). MapRecovers f (mode_byte mode) c.lot (over c.set r.map) (tree_now h) n) (sym r.count) r.running))
 
 -- What a commit writes are blocks of the lot.
-pub commit_in : (lot : LotView) (entries : List Entry) → length entries ≤ 240 → AreHomes (lot_places lot) entries → (k : ℕ) → CommitBlocks (lot_places lot) entries k → extent lot k
+pub commit_in : (lot : LotView) (entries : List Entry) → length entries ≤ 240 → AreHomes (lot_places lot) entries → (k : ℕ)
+    → CommitBlocks (lot_places lot) entries k → extent lot k
 commit_in lot entries few homes k (inl gate) = lot_extent lot k (inl gate)
 commit_in lot entries few homes k (inr (inl (inl header))) = lot_extent lot k (inr (inl (inl header)))
 commit_in lot entries few homes k (inr (inl (inr body))) = lot_extent lot k (inr (inl (inr (body.0, omega (arith, body.1, few)))))

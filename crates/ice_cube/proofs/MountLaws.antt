@@ -57,24 +57,33 @@ module _ {D : Type 0} (state : D → DiskState) (left : D → ℕ → Image → 
 
   pub look_then : (a b c : D) → Within state left Nowhere a b → Settled (extent lot) (state a) → KeepsBlocks state left lot b c → KeepsBlocks state left lot a c
   look_then a b c w s v = step_then state left (extent lot) (λ i. effective_of lot i ≡ effective_of lot (state a).now) a b c w.streams (look_step a b w s)
-      (step_more state left (extent lot) (λ i. effective_of lot i ≡ effective_of lot (state b).now) (λ i. effective_of lot i ≡ effective_of lot (state a).now) b c (λ i e. e ∙ look_same a b w) v)
+      (step_more state left (extent lot) (λ i. effective_of lot i ≡ effective_of lot (state b).now)
+      (λ i. effective_of lot i ≡ effective_of lot (state a).now) b c (λ i e. e ∙ look_same a b w) v)
 
   reads-same : (a b : D) → Within state left Nowhere a b → targets_now lot (state b).now ≡ targets_now lot (state a).now
   unfolding targets_now
   reads-same a b w =
-      let gate : is_open (block (state b).now (gate_place lot)) ≡ is_open (block (state a).now (gate_place lot)) = ap is_open (w.same (gate_place lot) (λ never. never)) in
-      let header : slot_targets lot (block (state b).now (header_place lot)) ≡ slot_targets lot (block (state a).now (header_place lot)) = ap (slot_targets lot) (w.same (header_place lot) (λ never. never)) in
+      let gate : is_open (block (state b).now (gate_place lot)) ≡ is_open (block (state a).now (gate_place lot)) = ap is_open
+      (w.same (gate_place lot) (λ never. never)) in
+      let header : slot_targets lot (block (state b).now (header_place lot)) ≡ slot_targets lot
+      (block (state a).now (header_place lot)) = ap (slot_targets lot) (w.same (header_place lot) (λ never. never)) in
       rw (gate, header) refl
 
-  pub reads_sure : (a b : D) (ts : List ℕ) → Within state left Nowhere a b → Settled (extent lot) (state a) → targets_now lot (state a).now ≡ Some ts → Sure (extent lot) (ReadsAs lot ts) (state b)
+  pub reads_sure : (a b : D) (ts : List ℕ) → Within state left Nowhere a b → Settled (extent lot) (state a)
+      → targets_now lot (state a).now ≡ Some ts → Sure (extent lot) (ReadsAs lot ts) (state b)
   reads_sure a b ts w s e = record { settled = look_settled a b w s; now = reads-same a b w ∙ e }
 
   pub replay_step : (a b c : D) → Within state left Nowhere a b → Settled (extent lot) (state a)
-      → CrashStep state left (JournalExtent (lot_places lot) 240) (λ i. effective_of lot i ≡ effective_of lot (state b).now) b c → KeepsBlocks state left lot a c
-  replay_step a b c w s v = look_then a b c w s (step_wider state left (JournalExtent (lot_places lot) 240) (extent lot) (λ i. effective_of lot i ≡ effective_of lot (state b).now) b c (lot_extent lot) v)
+      → CrashStep state left (JournalExtent (lot_places lot) 240) (λ i. effective_of lot i ≡ effective_of lot (state b).now) b c
+      → KeepsBlocks state left lot a c
+  replay_step a b c w s v =
+      look_then a b c w s
+      (step_wider state left (JournalExtent (lot_places lot) 240) (extent lot)
+      (λ i. effective_of lot i ≡ effective_of lot (state b).now) b c (lot_extent lot) v)
 
   -- a lot whose gate is closed is at rest
-  pub closed_rest : (a b : D) (map : ℕ → List ℕ) → Within state left Nowhere a b → Settled (extent lot) (state a) → is_open (block (state a).now (gate_place lot)) ≡ false
+  pub closed_rest : (a b : D) (map : ℕ → List ℕ) → Within state left Nowhere a b → Settled (extent lot) (state a)
+      → is_open (block (state a).now (gate_place lot)) ≡ false
       → effective_of lot (state a).now ≡ Some map → Sure (RestsLot lot) (LotAtRest lot map) (state b)
   closed_rest a b map w s closed e = record {
     settled = record { told = w.tells ∙ s.told; settled = λ k here. w.settled k (λ never. never) (s.settled k (rests_lot lot k here)) };
@@ -82,23 +91,29 @@ module _ {D : Type 0} (state : D → DiskState) (left : D → ℕ → Image → 
   }
 
   -- a barrier, and a step that keeps the effective blocks
-  pub barrier_then : (f : Form) (mode : Mode) (h : History) (a b c : D) → Within state left Nowhere a b → Settled (extent lot) (state b) → length (state b).now ≡ (state b).size
-      → KeepsBlocks state left lot b c → Every (extent lot) (state a) (HasHistory lot f mode h) → CrashStep state left (extent lot) (HasHistory lot f mode h) a c
+  pub barrier_then : (f : Form) (mode : Mode) (h : History) (a b c : D) → Within state left Nowhere a b → Settled (extent lot) (state b)
+      → length (state b).now ≡ (state b).size
+      → KeepsBlocks state left lot b c → Every (extent lot) (state a) (HasHistory lot f mode h)
+      → CrashStep state left (extent lot) (HasHistory lot f mode h) a c
   barrier_then f mode h a b c w s whole v every =
-      let now : HasHistory lot f mode h (state b).now = every_now (extent lot) (HasHistory lot f mode h) (state b) whole (every_apart state left (extent lot) Nowhere a b (HasHistory lot f mode h) (λ k here never. never) w every) in
+      let now : HasHistory lot f mode h (state b).now = every_now (extent lot) (HasHistory lot f mode h) (state b) whole
+      (every_apart state left (extent lot) Nowhere a b (HasHistory lot f mode h) (λ k here never. never) w every) in
       step_then state left (extent lot) (HasHistory lot f mode h) a b c w.streams
       (step_apart state left (extent lot) Nowhere (HasHistory lot f mode h) a b (λ k here never. never) w every)
-      (step_more state left (extent lot) (λ i. effective_of lot i ≡ effective_of lot (state b).now) (HasHistory lot f mode h) b c (λ i e. same_history lot f mode h (state b).now i e now) v)
+      (step_more state left (extent lot) (λ i. effective_of lot i ≡ effective_of lot (state b).now) (HasHistory lot f mode h) b c
+      (λ i e. same_history lot f mode h (state b).now i e now) v)
 
   -- where nothing is written after a barrier, nothing is written
   pub unwritten_then : (a b c : D) → Within state left Nowhere a b → ((state a).tells ≡ true → (state b).writes ≡ (state a).writes)
       → (x : CubeFault) → UnwrittenIfDamaged state left b c x → UnwrittenIfDamaged state left a c x
-  unwritten_then a b c w writes (cube.Damaged r) u = record { within = within_then state left Nowhere a b c w u.within; writes = λ told. u.writes (w.tells ∙ told) ∙ writes told }
+  unwritten_then a b c w writes (cube.Damaged r) u =
+      record { within = within_then state left Nowhere a b c w u.within; writes = λ told. u.writes (w.tells ∙ told) ∙ writes told }
   unwritten_then a b c w writes cube.Memory u = tt
   unwritten_then a b c w writes cube.Disk u = tt
 
   -- where nothing is written after a barrier of a lot that recovers nothing, nothing is written
-  pub idle_then : (a b c : D) → Within state left Nowhere a b → RecoversNothing lot (state a).now → (RecoversNothing lot (state b).now → Within state left Nowhere b c) → Within state left Nowhere a c
+  pub idle_then : (a b c : D) → Within state left Nowhere a b → RecoversNothing lot (state a).now
+      → (RecoversNothing lot (state b).now → Within state left Nowhere b c) → Within state left Nowhere a c
   idle_then a b c w nothing next = within_then state left Nowhere a b c w
       (next (λ f mode t k r. nothing f mode t k (same_recovers lot (state b).now (state a).now (sym (look_same a b w)) f mode t k r)))
 
@@ -111,7 +126,8 @@ replay_in lot ts (inr targets) k (inr target) = lot_extent lot k (inr (inr (slic
 -- ---- what a check says
 
 -- the tests of a sub-super block in their order
-fourth_passes : (a b c d e : Bool) (v w x y z : Rule) → (if not a then Some v else if not b then Some w else if not c then Some x else if not d then Some y else if not e then Some z else None) ≡ None → d ≡ true
+fourth_passes : (a b c d e : Bool) (v w x y z : Rule)
+    → (if not a then Some v else if not b then Some w else if not c then Some x else if not d then Some y else if not e then Some z else None) ≡ None → d ≡ true
 fourth_passes true true true true e v w x y z h = refl
 fourth_passes true true true false e v w x y z h = absurd (cc h)
 fourth_passes true true false d e v w x y z h = absurd (cc h)
@@ -122,7 +138,8 @@ plain_mode : (slot : ℕ) (bytes : List ℕ) → sub_rule slot bytes ≡ None �
 unfolding sub_rule
 plain_mode slot bytes sound =
     let t : (slice_index bytes 9 == 0) ≡ true =
-    fourth_passes (word_at bytes 0 == sub_magic) (word_at bytes 4 == 1) (slice_index bytes 8 == slot) (slice_index bytes 9 == 0) (nat_lt (long_at bytes 16) (2 ^ 63)) rule.Magic rule.Version rule.Slot rule.Mode rule.Done sound in
+    fourth_passes (word_at bytes 0 == sub_magic) (word_at bytes 4 == 1) (slice_index bytes 8 == slot) (slice_index bytes 9 == 0)
+    (nat_lt (long_at bytes 16) (2 ^ 63)) rule.Magic rule.Version rule.Slot rule.Mode rule.Done sound in
     grind (arith, nat_tests)
 
 form_again : (n : ℕ) → form_of n ≡ form_of (form_of n).version
@@ -136,7 +153,8 @@ sums_recover lot i m s e sums =
       form = form_in m;
       mode = Plain;
       tree = sums.tree;
-      recovers = record { form = form_again (word_at (m sub_address) 4); blocks = m; effective = e; recovers = subst (λ (n : ℕ). MapRecovers (form_in m) n lot m sums.tree s.done) mode sums.recovers };
+      recovers =
+          record { form = form_again (word_at (m sub_address) 4); blocks = m; effective = e; recovers = subst (λ (n : ℕ). MapRecovers (form_in m) n lot m sums.tree s.done) mode sums.recovers };
     }
 
 -- two recoveries have one count
@@ -149,7 +167,8 @@ one_count lot i f g m n t u k j a b =
     (recovers_one f (mode_byte m) (mode_byte n) lot a.blocks t u k j a.recovers here).1
 
 -- an Ok of the check shows a tree
-pub some_recovers : (lot : LotView) (i : Image) (s : Summary) → ((m : ℕ → List ℕ) → effective_of lot i ≡ Some m → Sums lot m s) → (effective_of lot i ≡ None → ⊥)
+pub some_recovers : (lot : LotView) (i : Image) (s : Summary) → ((m : ℕ → List ℕ) → effective_of lot i ≡ Some m → Sums lot m s)
+    → (effective_of lot i ≡ None → ⊥)
     → RecoversSome lot i s.done
 some_recovers lot i s reads never = go (effective_of lot i) refl
   where
@@ -175,6 +194,7 @@ pub some_same : (lot : LotView) (i j : Image) (k : ℕ) → effective_of lot j �
 some_same lot i j k e r = record { form = r.form; mode = r.mode; tree = r.tree; recovers = same_recovers lot i j e r.form r.mode r.tree k r.recovers }
 
 pub damage_same : (lot : LotView) (i j : Image) (x : CubeFault) → effective_of lot j ≡ effective_of lot i → TellsDamage lot i x → TellsDamage lot j x
-damage_same lot i j (cube.Damaged r) e d = (λ f mode t k v. d.0 f mode t k (same_recovers lot j i (sym e) f mode t k v), subst (λ o. LotMayName lot o r) (sym e) d.1)
+damage_same lot i j (cube.Damaged r) e d =
+    (λ f mode t k v. d.0 f mode t k (same_recovers lot j i (sym e) f mode t k v), subst (λ o. LotMayName lot o r) (sym e) d.1)
 damage_same lot i j cube.Memory e d = tt
 damage_same lot i j cube.Disk e d = tt

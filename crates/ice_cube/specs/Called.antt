@@ -47,7 +47,8 @@ pub record RestsWith (lot : LotView) (entries : List Entry) (map : ℕ → List 
   pub same : over entries under ≡ map
 
 -- What each call promises: damage that it names is there, names alone refuse by themselves, no block of the disk changes, and a fault has its cause.
-pub record Called {D T : Type 0} (state : D → DiskState) (left : D → ℕ → Image → List ℕ → Type 0) (lot : LotView) (op : Operation) (v : SetView) (a : D) (result : Result T Refusal) (w : SetView) (b : D) : Type 0 where
+pub record Called {D T : Type 0} (state : D → DiskState) (left : D → ℕ → Image → List ℕ → Type 0) (lot : LotView) (op : Operation)
+    (v : SetView) (a : D) (result : Result T Refusal) (w : SetView) (b : D) : Type 0 where
   pub damaged : (n : ℕ) → IsErrOf result (Damaged n) → (state a).tells ≡ true
       → (r : Rule) × (n ≡ rule_number r) × IsBroken form_one lot (shown_by lot v (state a)) r
   pub paths : RefusesPaths 1 (paths op) result
@@ -56,14 +57,16 @@ pub record Called {D T : Type 0} (state : D → DiskState) (left : D → ℕ →
   pub failed : Caused state Fault result a b
 
 -- a look answers as the tree that the keep shows, and the keep shows the same after it
-pub record LookedAt {D : Type 0} (state : D → DiskState) (left : D → ℕ → Image → List ℕ → Type 0) (lot : LotView) (op : Operation) (v : SetView) (a : D) (result : Result Value Refusal) (room : RoomContent) (w : SetView) (b : D) : Type 0 where
+pub record LookedAt {D : Type 0} (state : D → DiskState) (left : D → ℕ → Image → List ℕ → Type 0) (lot : LotView) (op : Operation)
+    (v : SetView) (a : D) (result : Result Value Refusal) (room : RoomContent) (w : SetView) (b : D) : Type 0 where
   pub called : Called state left lot op v a result w b
   pub answers : IfHeld lot v (state a) (λ mode t k. AsModel (meant result room) (answer t k (length lot.groups) form_one op).0)
   pub tallies : Tallies result room
   pub same : shown_by lot w (state b) ≡ shown_by lot v (state a)
 
 -- A changing call answers as the tree that the keep shows. An Ok shows the next tree, with one operation more; a refusal of a sound tree shows the same.
-pub record ChangedAs {D : Type 0} (state : D → DiskState) (left : D → ℕ → Image → List ℕ → Type 0) (lot : LotView) (op : Operation) (v : SetView) (a : D) (result : Result ⊤ Refusal) (w : SetView) (b : D) : Type 0 where
+pub record ChangedAs {D : Type 0} (state : D → DiskState) (left : D → ℕ → Image → List ℕ → Type 0) (lot : LotView) (op : Operation)
+    (v : SetView) (a : D) (result : Result ⊤ Refusal) (w : SetView) (b : D) : Type 0 where
   pub called : Called state left lot op v a result w b
   pub answers : IfHeld lot v (state a) (λ mode t k. AsModel (meant_plain result) (answer t k (length lot.groups) form_one op).0)
   pub changed : IfHeld lot v (state a) (λ mode t k. OnOk result (MapRecovers form_one mode lot (shown_by lot w (state b)) (answer t k (length lot.groups) form_one op).1 (k + 1)))

@@ -60,12 +60,15 @@ unfolding dir_rows
 rows-all f m number e kind =
     ap (λ (o : Own). dir_rows f o) (own-short f e m number)
     ∙ map-same _ (row_of f m (inode_of m number)) 0 (inode_of m number).size (λ k l h.
-    ap (λ (b : List ℕ). row_at (entry_size f) b (place_of (entry_size f) k)) (mapped m (nth_block m (inode_of m number)) (map_length f (inode_of m number)) (k / per_block f) (row-below f (inode_of m number) k e kind (omega arith))))
+    ap (λ (b : List ℕ). row_at (entry_size f) b (place_of (entry_size f) k))
+    (mapped m (nth_block m (inode_of m number)) (map_length f (inode_of m number)) (k / per_block f)
+    (row-below f (inode_of m number) k e kind (omega arith))))
 
 -- so they are where entries have just as many bytes
 pub rows-sized : (f : Form) (entry : ℕ) (m : ℕ → List ℕ) (number : ℕ) → f ≡ form_one → entry_size f ≡ entry → (inode_of m number).kind ≡ 2
     → dir_rows_of f m number ≡ map (row_sized entry m (inode_of m number)) (range_with_len 0 (inode_of m number).size)
-rows-sized f entry m number e same kind = rows-all f m number e kind ∙ ap (λ n. map (row_sized n m (inode_of m number)) (range_with_len 0 (inode_of m number).size)) same
+rows-sized f entry m number e same kind =
+    rows-all f m number e kind ∙ ap (λ n. map (row_sized n m (inode_of m number)) (range_with_len 0 (inode_of m number).size)) same
 
 -- in version 1 a directory has as many rows as the size of its inode says
 pub length-rows : (f : Form) (m : ℕ → List ℕ) (number : ℕ) → f ≡ form_one → length (dir_rows_of f m number) ≡ (inode_of m number).size
@@ -78,14 +81,16 @@ get-mapped f a (suc n) zero h = ap (λ x. Some (f x)) (omega arith)
 get-mapped f a (suc n) (suc k) h = get-mapped f (a + 1) n k (omega arith) ∙ ap (λ x. Some (f x)) (omega arith)
 
 -- row k
-pub get-row : (f : Form) (m : ℕ → List ℕ) (number k : ℕ) → f ≡ form_one → (inode_of m number).kind ≡ 2 → k < (inode_of m number).size → slice_get (dir_rows_of f m number) k ≡ Some (row_of f m (inode_of m number) k)
+pub get-row : (f : Form) (m : ℕ → List ℕ) (number k : ℕ) → f ≡ form_one → (inode_of m number).kind ≡ 2 → k < (inode_of m number).size
+    → slice_get (dir_rows_of f m number) k ≡ Some (row_of f m (inode_of m number) k)
 get-row f m number k e kind h =
     ap (λ (xs : List DirRow). slice_get xs k) (rows-all f m number e kind)
     ∙ get-mapped (row_of f m (inode_of m number)) 0 (inode_of m number).size k h
     ∙ ap (λ x. Some (row_of f m (inode_of m number) x)) (omega arith)
 
 -- a row that was read
-pub read-row : (f : Form) (entry : ℕ) (m : ℕ → List ℕ) (number k b at : ℕ) (inode : Inode) (block : List ℕ) → f ≡ form_one → entry_size f ≡ entry → inode ≡ inode_of m number → inode.kind ≡ 2 → k < inode.size
+pub read-row : (f : Form) (entry : ℕ) (m : ℕ → List ℕ) (number k b at : ℕ) (inode : Inode) (block : List ℕ) → f ≡ form_one
+    → entry_size f ≡ entry → inode ≡ inode_of m number → inode.kind ≡ 2 → k < inode.size
     → b ≡ k / entries_in entry → at ≡ place_of entry k → block ≡ m (nth_block m inode b) → slice_get (dir_rows_of f m number) k ≡ Some (row_at entry block at)
 read-row f entry m number k b at inode block e same is kind h eb ep read =
     let kind' : (inode_of m number).kind ≡ 2 = ap (λ (i : Inode). i.kind) (sym is) ∙ kind in
@@ -148,7 +153,8 @@ look-none row name n f =
     ∙ slice_get_past (map row (range_with_len 0 n)) n (omega arith))
 
 -- the rows of an inode that was read
-pub rows-read : (f : Form) (entry : ℕ) (m m' : ℕ → List ℕ) (number : ℕ) (inode : Inode) → f ≡ form_one → entry_size f ≡ entry → inode ≡ inode_of m number → inode.kind ≡ 2 → m' ≡ m
+pub rows-read : (f : Form) (entry : ℕ) (m m' : ℕ → List ℕ) (number : ℕ) (inode : Inode) → f ≡ form_one → entry_size f ≡ entry
+    → inode ≡ inode_of m number → inode.kind ≡ 2 → m' ≡ m
     → dir_rows_of f m number ≡ map (row_sized entry m' inode) (range_with_len 0 inode.size)
 rows-read f entry m m' number inode e same is kind looked =
     rows-sized f entry m number e same (ap (λ (i : Inode). i.kind) (sym is) ∙ kind)

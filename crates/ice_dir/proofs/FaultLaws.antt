@@ -9,7 +9,8 @@ use Rattle.ice_dir.proofs.PutLaws.{row-inside}
 use Rattle.ice_dir.proofs.TakeLaws.{block-inside}
 
 -- the block of a row of a directory is no data place
-pub misled-row : (lot : LotView) (entry : ℕ) (m m0 : ℕ → List ℕ) (x : Inode) (k per : ℕ) → entry ≡ 64 → m ≡ m0 → per ≡ entries_in entry → k < x.size → leads lot m0 x (k / per) ≡ false → Misleads lot m x (blocks_sized entry x.size)
+pub misled-row : (lot : LotView) (entry : ℕ) (m m0 : ℕ → List ℕ) (x : Inode) (k per : ℕ) → entry ≡ 64 → m ≡ m0 → per ≡ entries_in entry
+    → k < x.size → leads lot m0 x (k / per) ≡ false → Misleads lot m x (blocks_sized entry x.size)
 misled-row lot entry m m0 x k per e same p h bad = record {
   block = k / entries_in entry;
   below = row-inside entry x.size k e h;
@@ -17,7 +18,8 @@ misled-row lot entry m m0 x k per e same p h bad = record {
 }
 
 -- a block of its rows is none
-pub misled-block : (lot : LotView) (entry : ℕ) (m m0 : ℕ → List ℕ) (x : Inode) (n : ℕ) → entry ≡ 64 → m ≡ m0 → n * entries_in entry < x.size → leads lot m0 x n ≡ false → Misleads lot m x (blocks_sized entry x.size)
+pub misled-block : (lot : LotView) (entry : ℕ) (m m0 : ℕ → List ℕ) (x : Inode) (n : ℕ) → entry ≡ 64 → m ≡ m0
+    → n * entries_in entry < x.size → leads lot m0 x n ≡ false → Misleads lot m x (blocks_sized entry x.size)
 misled-block lot entry m m0 x n e same h bad = record {
   block = n;
   below = block-inside entry x.size n e h;

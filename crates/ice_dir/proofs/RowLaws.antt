@@ -28,13 +28,16 @@ pub row-byte : (entry : ℕ) (block : List ℕ) (at k : ℕ) → k < entry → s
 row-byte entry block at k h = get_or-between block at (at + entry) k 0 (omega arith)
 
 -- entries of the same bytes
-pub bytes-same : (entry : ℕ) (b c : List ℕ) (at to : ℕ) → at + entry ≤ length b → to + entry ≤ length c → ((k : ℕ) → k < entry → slice_index c (to + k) ≡ slice_index b (at + k)) → row_bytes entry c to ≡ row_bytes entry b at
+pub bytes-same : (entry : ℕ) (b c : List ℕ) (at to : ℕ) → at + entry ≤ length b → to + entry ≤ length c
+    → ((k : ℕ) → k < entry → slice_index c (to + k) ≡ slice_index b (at + k)) → row_bytes entry c to ≡ row_bytes entry b at
 bytes-same entry b c at to h l same =
     let lb = length-row entry b at h in
     let lc = length-row entry c to l in
-    ext_get_or 0 (row_bytes entry c to) (row_bytes entry b at) (lc ∙ sym lb) (λ k m. row-byte entry c to k (omega arith) ∙ same k (omega arith) ∙ sym (row-byte entry b at k (omega arith)))
+    ext_get_or 0 (row_bytes entry c to) (row_bytes entry b at) (lc ∙ sym lb)
+    (λ k m. row-byte entry c to k (omega arith) ∙ same k (omega arith) ∙ sym (row-byte entry b at k (omega arith)))
 
-pub row-same : (entry : ℕ) (b c : List ℕ) (at to : ℕ) → at + entry ≤ length b → to + entry ≤ length c → ((k : ℕ) → k < entry → slice_index c (to + k) ≡ slice_index b (at + k)) → row_at entry c to ≡ row_at entry b at
+pub row-same : (entry : ℕ) (b c : List ℕ) (at to : ℕ) → at + entry ≤ length b → to + entry ≤ length c
+    → ((k : ℕ) → k < entry → slice_index c (to + k) ≡ slice_index b (at + k)) → row_at entry c to ≡ row_at entry b at
 row-same entry b c at to h l same = ap row_in (bytes-same entry b c at to h l same)
 
 pub row-number : (entry : ℕ) (block : List ℕ) (at : ℕ) → 4 ≤ entry → word_at block at ≡ word_at (row_bytes entry block at) 0
@@ -49,20 +52,24 @@ row-number entry block at h =
     omega (arith, a, b, c, d, y)
 
 -- what a written entry reads as
-pub row-made : (entry : ℕ) (block name : List ℕ) (at inode : ℕ) → at + entry ≤ length block → 5 + length name ≤ entry → word_at block at ≡ inode → slice_index block (at + 4) ≡ length name
+pub row-made : (entry : ℕ) (block name : List ℕ) (at inode : ℕ) → at + entry ≤ length block → 5 + length name ≤ entry
+    → word_at block at ≡ inode → slice_index block (at + 4) ≡ length name
     → ((k : ℕ) → k < length name → slice_index block (at + 5 + k) ≡ slice_index name k) → row_at entry block at ≡ (name, inode)
 row-made entry block name at inode h l number size bytes =
     let long = length-row entry block at h in
     let four = row-byte entry block at 4 (omega arith) in
     let rest = length-drop {A = ℕ} 5 (row_bytes entry block at) in
     let cut = length-take {A = ℕ} (length name) (drop 5 (row_bytes entry block at)) in
-    let text : take (length name) (drop 5 (row_bytes entry block at)) ≡ name = ext_get_or 0 (take (length name) (drop 5 (row_bytes entry block at))) name (omega arith) (λ k m.
+    let text : take (length name) (drop 5 (row_bytes entry block at)) ≡ name = ext_get_or 0
+    (take (length name) (drop 5 (row_bytes entry block at))) name (omega arith) (λ k m.
     get_or-take (length name) (drop 5 (row_bytes entry block at)) k 0 (omega arith)
     ∙ get_or-drop 5 (row_bytes entry block at) k 0
     ∙ row-byte entry block at (5 + k) (omega arith)
     ∙ ap (slice_index block) (omega arith)
     ∙ bytes k (omega arith)) in
-    let n : name_in (row_bytes entry block at) ≡ name = sym (name-some (row_bytes entry block at) (5 + length name) (omega arith) (omega arith)) ∙ ap (λ k. take k (drop 5 (row_bytes entry block at))) (omega arith) ∙ text in
+    let n : name_in (row_bytes entry block at) ≡ name = sym
+    (name-some (row_bytes entry block at) (5 + length name) (omega arith) (omega arith))
+    ∙ ap (λ k. take k (drop 5 (row_bytes entry block at))) (omega arith) ∙ text in
     let w = sym (row-number entry block at (omega arith)) ∙ number in
     ap (λ (x : List ℕ). (x, word_at (row_bytes entry block at) 0)) n ∙ ap (λ x. (name, x)) w
 
@@ -73,18 +80,22 @@ set-here : (xs : List ℕ) (i v : ℕ) → i < length xs → slice_index (slice_
 set-here xs i v h = grind (arith, elements)
 
 -- the steps of a write of an entry
-pub row-written : (entry : ℕ) (b0 b1 b2 b3 b4 name : List ℕ) (at inode : ℕ) → at + entry ≤ length b4 → at + entry ≤ length b1 → 5 + length name ≤ entry → WordSet b0 at inode b1 → b2 ≡ slice_set b1 (at + 4) (length name)
-    → ((k : ℕ) → k < length name → slice_index b3 (at + 5 + k) ≡ slice_index name k) → SameBeside (at + 5) (length name) b2 b3 → ((k : ℕ) → k < at + 5 + length name → slice_index b4 k ≡ slice_index b3 k)
+pub row-written : (entry : ℕ) (b0 b1 b2 b3 b4 name : List ℕ) (at inode : ℕ) → at + entry ≤ length b4 → at + entry ≤ length b1
+    → 5 + length name ≤ entry → WordSet b0 at inode b1 → b2 ≡ slice_set b1 (at + 4) (length name)
+    → ((k : ℕ) → k < length name → slice_index b3 (at + 5 + k) ≡ slice_index name k) → SameBeside (at + 5) (length name) b2 b3
+    → ((k : ℕ) → k < at + 5 + length name → slice_index b4 k ≡ slice_index b3 k)
     → row_at entry b4 at ≡ (name, inode)
 row-written entry b0 b1 b2 b3 b4 name at inode long first short word set text beside rest =
     let early : (k : ℕ) → k < at + 5 → slice_index b4 k ≡ slice_index b2 k = (λ k h. rest k (omega arith) ∙ beside k (inl h)) in
-    let number : word_at b4 at ≡ word_at b1 at = word-same b4 b1 at (λ k l h. early k (omega arith) ∙ ap (λ (b : List ℕ). slice_index b k) set ∙ set-other b1 (at + 4) (length name) k (omega arith)) in
+    let number : word_at b4 at ≡ word_at b1 at = word-same b4 b1 at
+    (λ k l h. early k (omega arith) ∙ ap (λ (b : List ℕ). slice_index b k) set ∙ set-other b1 (at + 4) (length name) k (omega arith)) in
     row-made entry b4 name at inode long short (number ∙ word.value)
     (early (at + 4) (omega arith) ∙ ap (λ (b : List ℕ). slice_index b (at + 4)) set ∙ set-here b1 (at + 4) (length name) (omega arith))
     (λ k h. rest (at + 5 + k) (omega arith) ∙ text k h)
 
 -- an entry that reads as a row and is blank past its name
-pub text-made : (entry : ℕ) (block name : List ℕ) (at inode : ℕ) → at + entry ≤ length block → row_at entry block at ≡ (name, inode) → ((k : ℕ) → 5 + length name ≤ k → k < entry → slice_index block (at + k) ≡ 0)
+pub text-made : (entry : ℕ) (block name : List ℕ) (at inode : ℕ) → at + entry ≤ length block → row_at entry block at ≡ (name, inode)
+    → ((k : ℕ) → 5 + length name ≤ k → k < entry → slice_index block (at + k) ≡ 0)
     → IsText (name, inode) (row_bytes entry block at)
 text-made entry block name at inode long reads blank = record {
   reads = reads;

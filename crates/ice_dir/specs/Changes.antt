@@ -76,4 +76,5 @@ pub record EntryGone (lot : LotView) (f : Form) (old new : ℕ → List ℕ) (nu
   pub inodes : (i : ℕ) → used_inode new i ≡ used_inode old i
   pub blocks : (b : ℕ) → is_data lot b ≡ true → has (dir_uses f old number) b ≡ false → new b ≡ old b
   pub marks : (b : ℕ) → used_block new b ≡ false → (used_block old b ≡ false) ⊎ (has (dir_uses f old number) b ≡ true) ⊎ HasTwice (dir_uses f old number)
-  pub leads : Misleads lot new (inode_of new number) (entry_blocks f (inode_of new number).size) → Confuses lot old (inode_of old number) (entry_blocks f (inode_of old number).size)
+  pub leads : Misleads lot new (inode_of new number) (entry_blocks f (inode_of new number).size)
+      → Confuses lot old (inode_of old number) (entry_blocks f (inode_of old number).size)

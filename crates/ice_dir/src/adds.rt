@@ -126,7 +126,8 @@ fn append<D: Disk, K: Keep<D>, P: Pool<D, K>, F: Form>(
 
 /// Adds an entry at the end of a directory, which has none of this name.
 /// NoSpace: the directory's new block, with its indirect block, needs more blocks than are free.
-/// Damaged: the inode is no directory that can have one entry more, its map is not well made, the count of used blocks can't grow so far, or the least free block is no data place.
+/// Damaged: the inode is no directory that can have one entry more, its map is not well made, the count of used blocks
+/// can't grow so far, or the least free block is no data place.
 #[tactic(auto, using(crate::proofs::SizeLaws::size_laws))]
 pub fn add<D: Disk, K: Keep<D>, P: Pool<D, K>, F: Form>(
     keep: &mut K,

@@ -23,10 +23,12 @@ place_at k j i h e = let d = div-add-mod' i 1024 in let b = mod_below i 1024 (om
 
 -- a byte of a block that was read
 pub byte_in : (m : ℕ → List ℕ) (inode : Inode) (k j i : ℕ) → j < 1024 → 1024 * k + j ≡ i → byte_of m inode i ≡ slice_index (m (nth_block m inode k)) j
-byte_in m inode k j i h e = ap (λ x. slice_index (m (nth_block m inode x)) (i % 1024)) (block_at k j i h e) ∙ ap (slice_index (m (nth_block m inode k))) (place_at k j i h e)
+byte_in m inode k j i h e =
+    ap (λ x. slice_index (m (nth_block m inode x)) (i % 1024)) (block_at k j i h e) ∙ ap (slice_index (m (nth_block m inode k))) (place_at k j i h e)
 
 -- bytes of a block that was read
-pub piece : (m : ℕ → List ℕ) (inode : Inode) (block : List ℕ) (at from start n : ℕ) → block ≡ m at → at ≡ nth_block m inode (from / 1024) → length block ≡ 1024 → start ≡ from % 1024 → start + n ≤ 1024
+pub piece : (m : ℕ → List ℕ) (inode : Inode) (block : List ℕ) (at from start n : ℕ) → block ≡ m at → at ≡ nth_block m inode (from / 1024)
+    → length block ≡ 1024 → start ≡ from % 1024 → start + n ≤ 1024
     → slice_range block start (start + n) ≡ bytes_from m inode from n
 piece m inode block at from start n b a long s fit =
     let l : length (slice_range block start (start + n)) ≡ n = length-between block start (start + n) (omega arith) ∙ omega arith in
@@ -39,7 +41,8 @@ piece m inode block at from start n b a long s fit =
     ∙ sym (get_or-map-range_with_len (byte_of m inode) from n j (from + j) 0 (omega arith) refl))
 
 -- bytes, and those that follow
-pub more : (m : ℕ → List ℕ) (inode : Inode) (held : List ℕ) (at from n : ℕ) → at ≤ from → held ≡ bytes_from m inode at (from - at) → held ++ bytes_from m inode from n ≡ bytes_from m inode at (from + n - at)
+pub more : (m : ℕ → List ℕ) (inode : Inode) (held : List ℕ) (at from n : ℕ) → at ≤ from → held ≡ bytes_from m inode at (from - at)
+    → held ++ bytes_from m inode from n ≡ bytes_from m inode at (from + n - at)
 more m inode held at from n h e =
     let a : at + (from - at) ≡ from = omega arith in
     let b : (from - at) + n ≡ from + n - at = omega arith in
@@ -61,22 +64,26 @@ mapped m f count k h =
     get_or-map m (map f (range_with_len 0 count)) k 0 [] (omega arith) ∙ ap m (get_or-map-range_with_len f 0 count k k 0 h (omega arith))
 
 -- byte i of a file
-file_byte : (m : ℕ → List ℕ) (inode : Inode) (count i : ℕ) → i < 1024 * count → slice_index (slice_index_or (own_of m inode count).contents (i / 1024) []) (i % 1024) ≡ byte_of m inode i
+file_byte : (m : ℕ → List ℕ) (inode : Inode) (count i : ℕ) → i < 1024 * count
+    → slice_index (slice_index_or (own_of m inode count).contents (i / 1024) []) (i % 1024) ≡ byte_of m inode i
 file_byte m inode count i h =
     let d = div-add-mod' i 1024 in
     let below : i / 1024 < count = omega arith in
     ap (λ (x : List ℕ). slice_index x (i % 1024)) (mapped m (nth_block m inode) count (i / 1024) below)
 
 -- the bytes of a file are the first of its blocks
-pub all_bytes : (f : Form) → f ≡ form_one → (m : ℕ → List ℕ) (number : ℕ) → (inode_of m number).kind ≡ 1 → file_bytes (own f m number) ≡ bytes_from m (inode_of m number) 0 (inode_of m number).size
+pub all_bytes : (f : Form) → f ≡ form_one → (m : ℕ → List ℕ) (number : ℕ) → (inode_of m number).kind ≡ 1
+    → file_bytes (own f m number) ≡ bytes_from m (inode_of m number) 0 (inode_of m number).size
 unfolding file_bytes
 all_bytes f one m number k =
     let count = file_length f (inode_of m number) k in
     ap (λ (o : Own). map (λ i. slice_index (slice_index_or o.contents (i / 1024) []) (i % 1024)) (range_with_len 0 o.inode.size)) (own-short f one m number)
-    ∙ map_range_same _ (byte_of m (inode_of m number)) 0 (inode_of m number).size (λ i l h. file_byte m (inode_of m number) (map_length f (inode_of m number)) i (omega (arith, count)))
+    ∙ map_range_same _ (byte_of m (inode_of m number)) 0 (inode_of m number).size
+    (λ i l h. file_byte m (inode_of m number) (map_length f (inode_of m number)) i (omega (arith, count)))
 
 -- some of them
-pub some_bytes : (m : ℕ → List ℕ) (inode : Inode) (size at len end : ℕ) → at ≤ size → end ≡ min size (at + len) → bytes_from m inode at (end - at) ≡ take len (drop at (bytes_from m inode 0 size))
+pub some_bytes : (m : ℕ → List ℕ) (inode : Inode) (size at len end : ℕ) → at ≤ size → end ≡ min size (at + len)
+    → bytes_from m inode at (end - at) ≡ take len (drop at (bytes_from m inode 0 size))
 some_bytes m inode size at len end h e =
     let l = length-map-range_with_len (byte_of m inode) 0 size in
     let l' = length-map-range_with_len (byte_of m inode) at (end - at) in
@@ -89,7 +96,8 @@ some_bytes m inode size at len end h e =
     ∙ sym (get_or-take len (drop at (bytes_from m inode 0 size)) j 0 (omega arith)))
 
 -- what a read gives
-pub read_bytes : (f : Form) → f ≡ form_one → (m : ℕ → List ℕ) (number at len end : ℕ) (inode : Inode) → inode ≡ inode_of m number → inode.kind ≡ 1 → at ≤ inode.size → end ≡ min inode.size (at + len)
+pub read_bytes : (f : Form) → f ≡ form_one → (m : ℕ → List ℕ) (number at len end : ℕ) (inode : Inode) → inode ≡ inode_of m number
+    → inode.kind ≡ 1 → at ≤ inode.size → end ≡ min inode.size (at + len)
     → (held : List ℕ) (from : ℕ) → from ≡ end → held ≡ bytes_from m inode at (from - at) → held ≡ take len (drop at (file_bytes (own f m number)))
 read_bytes f one m number at len end inode is k h e held from e1 b =
     let kind : (inode_of m number).kind ≡ 1 = ap (λ (x : Inode). x.kind) (sym is) ∙ k in

@@ -20,12 +20,15 @@ use Rattle.ice_file.proofs.SetLaws.{file-written, file-cut}
 use Rattle.ice_file.proofs.WriteLaws.{count-less}
 
 -- the map of a file is well made
-pub made-file : (lot : LotView) (m m0 : ℕ → List ℕ) (x : Inode) (f : Form) → f ≡ form_one → (number : ℕ) → m0 ≡ m → x ≡ inode_of m number → x.kind ≡ 1 → WellMade lot f m number → MadeOf lot m0 x (blocks_for x.size)
+pub made-file : (lot : LotView) (m m0 : ℕ → List ℕ) (x : Inode) (f : Form) → f ≡ form_one → (number : ℕ) → m0 ≡ m → x ≡ inode_of m number
+    → x.kind ≡ 1 → WellMade lot f m number → MadeOf lot m0 x (blocks_for x.size)
 made-file lot m m0 x f one number e is kind made =
     subst (λ (n : ℕ → List ℕ). MadeOf lot n x (blocks_for x.size)) (sym e)
-    (subst (λ c. MadeOf lot m x c) (file_length f x kind) (subst (λ (i : Inode). MadeOf lot m i (map_length f i)) (sym is) (made-short lot f one m number made)))
+    (subst (λ c. MadeOf lot m x c) (file_length f x kind)
+    (subst (λ (i : Inode). MadeOf lot m i (map_length f i)) (sym is) (made-short lot f one m number made)))
 
-pub write-all : (lot : LotView) (m m0 m1 m2 : ℕ → List ℕ) (x y : Inode) (f : Form) → f ≡ form_one → (number at s : ℕ) (bytes : List ℕ) → m0 ≡ m → x ≡ inode_of m number → ReachesTo f at x
+pub write-all : (lot : LotView) (m m0 m1 m2 : ℕ → List ℕ) (x y : Inode) (f : Form) → f ≡ form_one → (number at s : ℕ) (bytes : List ℕ)
+    → m0 ≡ m → x ≡ inode_of m number → ReachesTo f at x
     → Written lot m0 m1 x y (blocks_for x.size) (blocks_with x.size (at + length bytes)) at (at + length bytes) bytes
     → s ≡ max y.size (at + length bytes) → InodeSet m1 m2 number (resized y s) → ((b : ℕ) → b ≢ inode_address number → m2 b ≡ m1 b)
     → FileSet lot f m m2 number (overwritten (file_bytes (own f m number)) at bytes)
@@ -34,13 +37,15 @@ write-all lot m m0 m1 m2 x y f one number at s bytes e is r w long set only =
     (subst (λ (n : ℕ → List ℕ). Written lot n m1 x y (blocks_for x.size) (blocks_with x.size (at + length bytes)) at (at + length bytes) bytes) e w)
     (subst (λ n. InodeSet m1 m2 number (resized y n)) (long ∙ ap (λ n. max n (at + length bytes)) w.moved.size) set) only
 
-pub cut-all : (lot : LotView) (m m0 m1 m2 : ℕ → List ℕ) (x y : Inode) (f : Form) → f ≡ form_one → (number len count rest : ℕ) → m0 ≡ m → x ≡ inode_of m number → ReachesTo f len x → count ≡ blocks_for x.size → rest ≡ blocks_for len
+pub cut-all : (lot : LotView) (m m0 m1 m2 : ℕ → List ℕ) (x y : Inode) (f : Form) → f ≡ form_one → (number len count rest : ℕ) → m0 ≡ m
+    → x ≡ inode_of m number → ReachesTo f len x → count ≡ blocks_for x.size → rest ≡ blocks_for len
     → Cut lot m0 m1 x y count rest → Stays lot m0 m1 [] → y ≡ shortened x rest
     → InodeSet m1 m2 number (resized y len) → ((b : ℕ) → b ≢ inode_address number → m2 b ≡ m1 b) → WellMade lot f m number
     → FileSet lot f m m2 number (take len (file_bytes (own f m number)))
 cut-all lot m m0 m1 m2 x y f one number len count rest e is r n o was stay fields set only made =
     let order = count-less len x.size r.reaches in
-    let was' = subst (λ (z : ℕ → List ℕ). Cut lot z m1 x y (blocks_for x.size) (blocks_for len)) e (subst (λ k. Cut lot m0 m1 x y (blocks_for x.size) k) o (subst (λ k. Cut lot m0 m1 x y k rest) n was)) in
+    let was' = subst (λ (z : ℕ → List ℕ). Cut lot z m1 x y (blocks_for x.size) (blocks_for len)) e
+    (subst (λ k. Cut lot m0 m1 x y (blocks_for x.size) k) o (subst (λ k. Cut lot m0 m1 x y k rest) n was)) in
     let stay' = subst (λ (z : ℕ → List ℕ). Stays lot z m1 []) e stay in
     let fields' = fields ∙ ap (shortened x) o in
     let made' = made-file lot m m x f one number refl is r.kind made in
@@ -53,10 +58,12 @@ pub cut-loses : (m m0 : ℕ → List ℕ) (x : Inode) (number len count rest : �
     → FreeOrTwice m0 (cut_off m0 x count rest) → FreeOrTwice m (cut_off m (inode_of m number) (blocks_for (inode_of m number).size) (blocks_for len))
 cut-loses m m0 x number len count rest e is n o f =
     subst (λ (i : Inode). FreeOrTwice m (cut_off m i (blocks_for i.size) (blocks_for len))) is
-    (subst (λ k. FreeOrTwice m (cut_off m x (blocks_for x.size) k)) o (subst (λ k. FreeOrTwice m (cut_off m x k rest)) n (subst (λ (z : ℕ → List ℕ). FreeOrTwice z (cut_off z x count rest)) e f)))
+    (subst (λ k. FreeOrTwice m (cut_off m x (blocks_for x.size) k)) o
+    (subst (λ k. FreeOrTwice m (cut_off m x k rest)) n (subst (λ (z : ℕ → List ℕ). FreeOrTwice z (cut_off z x count rest)) e f)))
 
 -- and how many blocks
-pub cut-most : (m m0 : ℕ → List ℕ) (x : Inode) (f : Form) (number len count rest : ℕ) → x ≡ inode_of m number → ReachesTo f len x → count ≡ blocks_for x.size → rest ≡ blocks_for len
+pub cut-most : (m m0 : ℕ → List ℕ) (x : Inode) (f : Form) (number len count rest : ℕ) → x ≡ inode_of m number → ReachesTo f len x
+    → count ≡ blocks_for x.size → rest ≡ blocks_for len
     → uses_of (blocks_for (inode_of m number).size) ≡ uses_of (blocks_for len) + length (cut_off m0 x count rest)
 cut-most m m0 x f number len count rest is r n o =
     let order = count-less len x.size r.reaches in
@@ -67,7 +74,8 @@ cut-most m m0 x f number len count rest is r n o =
     omega arith
 
 -- a block of a well-made map that leads nowhere
-pub unmade : (lot : LotView) (m m0 : ℕ → List ℕ) (x : Inode) (f : Form) → f ≡ form_one → (number at k end : ℕ) → m0 ≡ m → x ≡ inode_of m number → ReachesTo f at x → 1024 * k < end → end ≤ x.size → leads lot m0 x k ≡ false → ¬ WellMade lot f m number
+pub unmade : (lot : LotView) (m m0 : ℕ → List ℕ) (x : Inode) (f : Form) → f ≡ form_one → (number at k end : ℕ) → m0 ≡ m
+    → x ≡ inode_of m number → ReachesTo f at x → 1024 * k < end → end ≤ x.size → leads lot m0 x k ≡ false → ¬ WellMade lot f m number
 unmade lot m m0 x f one number at k end e is r small short lost made =
     let q = div-add-mod' (x.size + 1023) 1024 in
     let d = mod_below (x.size + 1023) 1024 (omega arith) in

@@ -23,7 +23,8 @@ written-none lot m x c at bytes made = record {
   old = λ i l side. refl;
 }
 
-module _ (lot : LotView) (m0 m1 m2 : ℕ → List ℕ) (x y z : Inode) (c d k at done start : ℕ) (bytes part : List ℕ) (w : Written lot m0 m1 x y c d at done bytes) (p : PutPiece lot m1 m2 y z d k start part)
+module _ (lot : LotView) (m0 m1 m2 : ℕ → List ℕ) (x y z : Inode) (c d k at done start : ℕ) (bytes part : List ℕ)
+    (w : Written lot m0 m1 x y c d at done bytes) (p : PutPiece lot m1 m2 y z d k start part)
     (wide : c ≤ d) (below : done ≤ 1024 * d) (place : 1024 * k + start ≡ done) (fit : start + length part ≤ 1024) (after : at ≤ done) (what : (j : ℕ) → j < length part → slice_index part j ≡ slice_index bytes (done + j - at)) where
   byte-kept : (i : ℕ) → i < 1024 * d → (i < done) ⊎ (done + length part ≤ i) → byte_of m2 z i ≡ byte_of m1 y i
   byte-kept i h side =
@@ -43,7 +44,8 @@ module _ (lot : LotView) (m0 m1 m2 : ℕ → List ℕ) (x y z : Inode) (c d k at
       let e : i / 1024 ≡ k = omega arith in
       let f : i % 1024 ≡ i - 1024 * k = omega arith in
       let b : done + (i - 1024 * k - start) - at ≡ i - at = omega arith in
-      ap (λ n. slice_index (content_of m2 z n) (i % 1024)) e ∙ ap (λ n. slice_index (content_of m2 z k) n) f ∙ p.here (i - 1024 * k) (omega arith) (omega arith) ∙ what (i - 1024 * k - start) (omega arith) ∙ ap (slice_index bytes) b
+      ap (λ n. slice_index (content_of m2 z n) (i % 1024)) e ∙ ap (λ n. slice_index (content_of m2 z k) n) f
+      ∙ p.here (i - 1024 * k) (omega arith) (omega arith) ∙ what (i - 1024 * k - start) (omega arith) ∙ ap (slice_index bytes) b
 
   new-kept : (i : ℕ) → at ≤ i → i < done + length part → byte_of m2 z i ≡ slice_index bytes (i - at)
   new-kept i l h =
@@ -56,11 +58,14 @@ module _ (lot : LotView) (m0 m1 m2 : ℕ → List ℕ) (x y z : Inode) (c d k at
   written-more = record {
     moved = moved-then lot m0 m1 m2 x y z c d (max d (k + 1)) w.moved p.moved;
     new = new-kept;
-    old = λ i h side. byte-kept i (omega arith) (⊎_elim (λ l. inl (omega arith)) (λ l. inr l) side) ∙ w.old i h (⊎_elim (λ l. inl l) (λ l. inr (omega arith)) side);
+    old =
+        λ i h side. byte-kept i (omega arith) (⊎_elim (λ l. inl (omega arith)) (λ l. inr l) side)
+        ∙ w.old i h (⊎_elim (λ l. inl l) (λ l. inr (omega arith)) side);
   }
 
 -- the bytes of one piece
-pub part-what : (bytes : List ℕ) (at from to j : ℕ) → at ≤ from → from ≤ to → to - at ≤ length bytes → j < length (slice_range bytes (from - at) (to - at)) → slice_index (slice_range bytes (from - at) (to - at)) j ≡ slice_index bytes (from + j - at)
+pub part-what : (bytes : List ℕ) (at from to j : ℕ) → at ≤ from → from ≤ to → to - at ≤ length bytes
+    → j < length (slice_range bytes (from - at) (to - at)) → slice_index (slice_range bytes (from - at) (to - at)) j ≡ slice_index bytes (from + j - at)
 part-what bytes at from to j l h s k =
     let n = length-between bytes (from - at) (to - at) s in
     let e : (from - at) + j ≡ from + j - at = omega arith in
@@ -87,7 +92,8 @@ count-grows size done =
 pub count-order : (size from k : ℕ) → 1024 * k ≤ from → k ≤ blocks_with size from
 count-order size from k h = let q = div-add-mod' (max size from + 1023) 1024 in let r = mod_below (max size from + 1023) 1024 (omega arith) in omega arith
 
-pub count-next : (size at end k : ℕ) → at / 1024 ≤ k → k < blocks_for end → at ≤ end → max (blocks_with size (up_to at end k)) (k + 1) ≡ blocks_with size (up_to at end (k + 1))
+pub count-next : (size at end k : ℕ) → at / 1024 ≤ k → k < blocks_for end → at ≤ end
+    → max (blocks_with size (up_to at end k)) (k + 1) ≡ blocks_with size (up_to at end (k + 1))
 count-next size at end k h l o =
     let b = block-below end k l in
     let f = piece-from at end k b o in
@@ -107,11 +113,14 @@ few-pieces at end k h l =
     let r = mod_below at 1024 (omega arith) in
     omega arith
 
-written-at : (lot : LotView) (m0 m1 : ℕ → List ℕ) (x y : Inode) (c d e at done till : ℕ) (bytes : List ℕ) → d ≡ e → done ≡ till → Written lot m0 m1 x y c d at done bytes → Written lot m0 m1 x y c e at till bytes
-written-at lot m0 m1 x y c d e at done till bytes p q w = subst (λ n. Written lot m0 m1 x y c n at till bytes) p (subst (λ n. Written lot m0 m1 x y c d at n bytes) q w)
+written-at : (lot : LotView) (m0 m1 : ℕ → List ℕ) (x y : Inode) (c d e at done till : ℕ) (bytes : List ℕ) → d ≡ e → done ≡ till
+    → Written lot m0 m1 x y c d at done bytes → Written lot m0 m1 x y c e at till bytes
+written-at lot m0 m1 x y c d e at done till bytes p q w =
+    subst (λ n. Written lot m0 m1 x y c n at till bytes) p (subst (λ n. Written lot m0 m1 x y c d at n bytes) q w)
 
 -- the blocks of a map before a piece
-pub count-now : (size at end k from count : ℕ) → k < blocks_for end → at ≤ end → from ≡ max at (1024 * k) → count ≡ blocks_for (max size from) → blocks_with size (up_to at end k) ≡ count
+pub count-now : (size at end k from count : ℕ) → k < blocks_for end → at ≤ end → from ≡ max at (1024 * k)
+    → count ≡ blocks_for (max size from) → blocks_with size (up_to at end k) ≡ count
 count-now size at end k from count l o f e =
     let b = block-below end k l in
     let u : up_to at end k ≡ from = piece-from at end k b o ∙ sym f in
@@ -119,7 +128,8 @@ count-now size at end k from count l o f e =
 
 pub written-step : (lot : LotView) (m0 m1 m2 : ℕ → List ℕ) (x y z : Inode) (size at end k from to count : ℕ) (bytes part : List ℕ)
     → Written lot m0 m1 x y (blocks_for size) (blocks_with size (up_to at end k)) at (up_to at end k) bytes
-    → from ≡ max at (1024 * k) → to ≡ min end (1024 * (k + 1)) → count ≡ blocks_for (max size from) → part ≡ slice_range bytes (from - at) (to - at) → end ≡ at + length bytes → at / 1024 ≤ k → k < blocks_for end
+    → from ≡ max at (1024 * k) → to ≡ min end (1024 * (k + 1)) → count ≡ blocks_for (max size from)
+    → part ≡ slice_range bytes (from - at) (to - at) → end ≡ at + length bytes → at / 1024 ≤ k → k < blocks_for end
     → PutPiece lot m1 m2 y z count k (from - 1024 * k) part
     → Written lot m0 m2 x z (blocks_for size) (blocks_with size (up_to at end (k + 1))) at (up_to at end (k + 1)) bytes
 written-step lot m0 m1 m2 x y z size at end k from to count bytes part w f t n s e first last p =
@@ -134,9 +144,12 @@ written-step lot m0 m1 m2 x y z size at end k from to count bytes part w f t n s
     let w' = written-at lot m0 m1 x y (blocks_for size) (blocks_with size (up_to at end k)) count at (up_to at end k) from bytes c u w in
     let enough = count-enough size from in
     let grows = count-grows size from in
-    let all = written-more lot m0 m1 m2 x y z (blocks_for size) count k at from (from - 1024 * k) bytes part w' p (omega arith) (omega arith) (omega arith) (omega arith) (omega arith)
-    (λ j h. ap (λ (xs : List ℕ). slice_index xs j) s ∙ part-what bytes at from to j (omega arith) (omega arith) (omega arith) (let q = ap (λ (xs : List ℕ). length xs) s in omega arith)) in
-    written-at lot m0 m2 x z (blocks_for size) (max count (k + 1)) (blocks_with size (up_to at end (k + 1))) at (from + length part) (up_to at end (k + 1)) bytes
+    let all = written-more lot m0 m1 m2 x y z (blocks_for size) count k at from (from - 1024 * k) bytes part w' p (omega arith)
+    (omega arith) (omega arith) (omega arith) (omega arith)
+    (λ j h. ap (λ (xs : List ℕ). slice_index xs j) s
+    ∙ part-what bytes at from to j (omega arith) (omega arith) (omega arith) (let q = ap (λ (xs : List ℕ). length xs) s in omega arith)) in
+    written-at lot m0 m2 x z (blocks_for size) (max count (k + 1)) (blocks_with size (up_to at end (k + 1))) at (from + length part)
+    (up_to at end (k + 1)) bytes
     (ap (λ d. max d (k + 1)) (sym c) ∙ count-next size at end k first last o) (omega arith) all
 
 -- fewer bytes have no more blocks
@@ -146,7 +159,8 @@ count-less len size h =
     let s = div-add-mod' (size + 1023) 1024 in let t = mod_below (size + 1023) 1024 (omega arith) in omega arith
 
 -- too few blocks are free, or can be counted
-pub none-grew : (lot : LotView) (m0 m1 : ℕ → List ℕ) (x y : Inode) (size end k count : ℕ) → Grew lot m0 m1 x y (blocks_for size) count → blocks_for size ≤ count → k ≡ count → k < blocks_for end
+pub none-grew : (lot : LotView) (m0 m1 : ℕ → List ℕ) (x y : Inode) (size end k count : ℕ) → Grew lot m0 m1 x y (blocks_for size) count
+    → blocks_for size ≤ count → k ≡ count → k < blocks_for end
     → free_count false lot m1 < needs count → free_count false lot m0 + uses_of (blocks_for size) < uses_of (blocks_with size end)
 none-grew lot m0 m1 x y size end k count g o e l f =
     let w = g.marked.free in
@@ -157,7 +171,8 @@ none-grew lot m0 m1 x y size end k count g o e l f =
     let u = uses-less (count + 1) (blocks_with size end) (omega arith) in
     omega arith
 
-pub full-grew : (lot : LotView) (m0 m1 : ℕ → List ℕ) (x y : Inode) (size end k count : ℕ) → Grew lot m0 m1 x y (blocks_for size) count → blocks_for size ≤ count → k ≡ count → k < blocks_for end
+pub full-grew : (lot : LotView) (m0 m1 : ℕ → List ℕ) (x y : Inode) (size end k count : ℕ) → Grew lot m0 m1 x y (blocks_for size) count
+    → blocks_for size ≤ count → k ≡ count → k < blocks_for end
     → 4294967296 ≤ counted false m1 + needs count → 4294967296 + uses_of (blocks_for size) ≤ counted false m0 + uses_of (blocks_with size end)
 full-grew lot m0 m1 x y size end k count g o e l f =
     let w = g.marked.counts in

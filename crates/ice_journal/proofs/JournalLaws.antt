@@ -45,11 +45,15 @@ effective_none lot i e = by (is_open (block i (gate_place lot))) (slot_targets l
     by false o e = absurd (cc e)
 
 -- a closed gate leaves no targets, and an open one those of the header
-pub read_closed : (lot : LotView) (i : Image) (gate : List ℕ) (at : ℕ) → at ≡ gate_place lot → gate ≡ block i at → is_open gate ≡ false → targets_now lot i ≡ Some []
+pub read_closed : (lot : LotView) (i : Image) (gate : List ℕ) (at : ℕ) → at ≡ gate_place lot → gate ≡ block i at → is_open gate ≡ false
+    → targets_now lot i ≡ Some []
 unfolding targets_now
-read_closed lot i gate at is e closed = let shut : is_open (block i (gate_place lot)) ≡ false = subst (λ (k : ℕ). is_open (block i k) ≡ false) is (subst (λ (b : List ℕ). is_open b ≡ false) e closed) in rw shut refl
+read_closed lot i gate at is e closed =
+    let shut : is_open (block i (gate_place lot)) ≡ false = subst (λ (k : ℕ). is_open (block i k) ≡ false) is
+    (subst (λ (b : List ℕ). is_open b ≡ false) e closed) in rw shut refl
 
-pub read_open : (lot : LotView) (i j : Image) (gate header : List ℕ) (at next : ℕ) → ((k : ℕ) → block j k ≡ block i k) → at ≡ gate_place lot → gate ≡ block i at → is_open gate ≡ true → next ≡ header_place lot → header ≡ block j next
+pub read_open : (lot : LotView) (i j : Image) (gate header : List ℕ) (at next : ℕ) → ((k : ℕ) → block j k ≡ block i k)
+    → at ≡ gate_place lot → gate ≡ block i at → is_open gate ≡ true → next ≡ header_place lot → header ≡ block j next
     → targets_now lot i ≡ slot_targets lot header
 unfolding targets_now
 read_open lot i j gate header at next same is e up there f =
@@ -66,7 +70,8 @@ source_none place (t ∷ ts) body a none =
     let f : t ≢ a = none zero (omega arith) in
     grind (arith, nat_tests)
 
-pub source_first : (place : ℕ → ℕ) (ts : List ℕ) (body a j : ℕ) → j < length ts → slice_index ts j ≡ a → ((i : ℕ) → i < j → slice_index ts i ≢ a) → source place ts body a ≡ body + j
+pub source_first : (place : ℕ → ℕ) (ts : List ℕ) (body a j : ℕ) → j < length ts → slice_index ts j ≡ a
+    → ((i : ℕ) → i < j → slice_index ts i ≢ a) → source place ts body a ≡ body + j
 source_first place [] body a j less is first = absurd (omega arith)
 source_first place (t ∷ ts) body a zero less is first = let f : t ≡ a = is in grind (arith, nat_tests)
 source_first place (t ∷ ts) body a (suc j) less is first =
@@ -79,15 +84,18 @@ replayed_source place [] body i a = refl
 replayed_source place (t ∷ ts) body i a = let r = replayed_source place ts (body + 1) i a in grind (arith, nat_tests)
 
 replayed-same : (place : ℕ → ℕ) (ts : List ℕ) (body : ℕ) (i j : Image) → ((k : ℕ) → block j k ≡ block i k) → replayed place ts body j ≡ replayed place ts body i
-replayed-same place ts body i j same = fun_ext (λ a. replayed_source place ts body j a ∙ same (source place ts body a) ∙ sym (replayed_source place ts body i a))
+replayed-same place ts body i j same =
+    fun_ext (λ a. replayed_source place ts body j a ∙ same (source place ts body a) ∙ sym (replayed_source place ts body i a))
 
 -- images of equal blocks show the same
 pub shown_same : (ts : List ℕ) (lot : LotView) (i j : Image) → ((k : ℕ) → block j k ≡ block i k) → shown ts lot j ≡ shown ts lot i
 shown_same ts lot i j same = ap (λ (m : ℕ → List ℕ). inside lot m) (replayed-same (place lot) ts (lot_places lot).body i j same)
 
 -- what stands at an address is the block of its source
-pub shown_at : (ts : List ℕ) (lot : LotView) (i : Image) (a : ℕ) → is_address lot a ≡ true → block i (source (place lot) ts (lot_places lot).body a) ≡ shown ts lot i a
-shown_at ts lot i a is = sym (replayed_source (place lot) ts (lot_places lot).body i a) ∙ sym (inside_at lot (replayed (place lot) ts (lot_places lot).body i) a is)
+pub shown_at : (ts : List ℕ) (lot : LotView) (i : Image) (a : ℕ) → is_address lot a ≡ true
+    → block i (source (place lot) ts (lot_places lot).body a) ≡ shown ts lot i a
+shown_at ts lot i a is =
+    sym (replayed_source (place lot) ts (lot_places lot).body i a) ∙ sym (inside_at lot (replayed (place lot) ts (lot_places lot).body i) a is)
 
 -- what a look at the disk leaves of the view
 pub looked_still : {D : Type 0} (state : D → DiskState) (left : D → ℕ → Image → List ℕ → Type 0) (lot : LotView) (v : List ℕ) (e f : D) → Still state left e f

@@ -6,14 +6,16 @@ use Rattle.ice_base.specs.Frames.{Within}
 use Rattle.ice_base.specs.FrameLaws.{within_refl, within_then, within_more}
 
 -- the first k of the blocks stand at their places, and nothing else changed
-pub record Wrote {D : Type 0} (state : D → DiskState) (left : D → ℕ → Image → List ℕ → Type 0) (S : ℕ → Type 0) (place : ℕ → ℕ) (content : ℕ → List ℕ) (k : ℕ) (old new : D) : Type 0 where
+pub record Wrote {D : Type 0} (state : D → DiskState) (left : D → ℕ → Image → List ℕ → Type 0) (S : ℕ → Type 0) (place : ℕ → ℕ)
+    (content : ℕ → List ℕ) (k : ℕ) (old new : D) : Type 0 where
   pub frame : Within state left S old new
   pub calm : (state new).faults ≡ (state old).faults
   pub bytes : (state old).tells ≡ true → (j : ℕ) → j < k → block (state new).now (place j) ≡ content j
   pub counts : (state old).tells ≡ true → Made k 0 true (state old) (state new)
 
 -- nothing yet
-pub wrote_none : {D : Type 0} (state : D → DiskState) (left : D → ℕ → Image → List ℕ → Type 0) (S : ℕ → Type 0) (place : ℕ → ℕ) (content : ℕ → List ℕ) (a : D) → Wrote state left S place content 0 a a
+pub wrote_none : {D : Type 0} (state : D → DiskState) (left : D → ℕ → Image → List ℕ → Type 0) (S : ℕ → Type 0) (place : ℕ → ℕ) (content : ℕ → List ℕ) (a : D)
+    → Wrote state left S place content 0 a a
 wrote_none state left S place content a = record {
   frame = within_refl state left S a;
   calm = refl;
@@ -24,13 +26,15 @@ wrote_none state left S place content a = record {
 last : (j k : ℕ) → j < k + 1 → (j < k) ⊎ (j ≡ k)
 last j k h = grind arith
 
-module _ {D : Type 0} (state : D → DiskState) (left : D → ℕ → Image → List ℕ → Type 0) (S : ℕ → Type 0) (place : ℕ → ℕ) (content : ℕ → List ℕ) (k : ℕ) (a b c : D) where
+module _ {D : Type 0} (state : D → DiskState) (left : D → ℕ → Image → List ℕ → Type 0) (S : ℕ → Type 0) (place : ℕ → ℕ)
+    (content : ℕ → List ℕ) (k : ℕ) (a b c : D) where
   -- a write that may have failed changed no more than this place
   pub wrote_within : (at : ℕ) → S at → Wrote state left S place content k a b → Within state left (λ x. x ≡ at) b c → Within state left S a c
   wrote_within at inside w v = within_then state left S a b c w.frame (within_more state left (λ x. x ≡ at) S b c (λ x e. subst S (sym e) inside) v)
 
   -- one more, at another place than those before
-  pub wrote_more : (at : ℕ) → at ≡ place k → S at → Wrote state left S place content k a b → Within state left (λ x. x ≡ at) b c → (state c).faults ≡ (state b).faults
+  pub wrote_more : (at : ℕ) → at ≡ place k → S at → Wrote state left S place content k a b → Within state left (λ x. x ≡ at) b c
+      → (state c).faults ≡ (state b).faults
       → ((state b).tells ≡ true → block (state c).now at ≡ content k) → ((state b).tells ≡ true → Made 1 0 true (state b) (state c))
       → ((j : ℕ) → j < k → ¬ (place j ≡ place k)) → Wrote state left S place content (k + 1) a c
   wrote_more at is inside w v calm here made differ = record {

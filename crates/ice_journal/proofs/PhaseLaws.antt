@@ -19,7 +19,8 @@ unfolding contents holds over
 replayed_is place [] body image map a bodies homes = homes refl
 replayed_is place (e ∷ entries) body image map a bodies homes =
     let first : block image body ≡ e.block = ap (block image) (omega arith) ∙ bodies zero (omega arith) in
-    elim (e.at == a) as (λ b. (e.at == a) ≡ b → (if b then block image body else replayed place (addresses entries) (body + 1) image a) ≡ cond b e.block (over entries map a)) [
+    elim (e.at == a) as (λ b. (e.at == a) ≡ b
+    → (if b then block image body else replayed place (addresses entries) (body + 1) image a) ≡ cond b e.block (over entries map a)) [
       | true ↦ λ is. first
       | false ↦ λ is. replayed_is place entries (body + 1) image map a
           (λ j less. ap (block image) (omega arith) ∙ bodies (suc j) (omega (arith, less)))
@@ -30,7 +31,9 @@ module _ (reads : List ℕ → Option (List ℕ)) (at : Places) (entries : List 
   open_part : (map : ℕ → List ℕ) (image : Image) → is_open (block image at.gate) ≡ true → HoldsSet reads at entries image
       → ((a : ℕ) → at.home a ≡ true → holds entries a ≡ false → block image (at.place a) ≡ map a) → StandsFor reads at (over entries map) image
   open_part map image gate set homes =
-      let each : (a : ℕ) → at.home a ≡ true → replayed at.place (addresses entries) at.body image a ≡ over entries map a = λ a is. replayed_is at.place entries at.body image map a set.bodies (λ free. homes a is free) in
+      let each : (a : ℕ) → at.home a ≡ true → replayed at.place
+      (addresses entries) at.body image a ≡ over entries map a = λ a is. replayed_is at.place entries at.body image map a set.bodies
+      (λ free. homes a is free) in
       rw (gate, set.header) each
 
   closed_part : (map : ℕ → List ℕ) (image : Image) → is_open (block image at.gate) ≡ false → HomesAre at map image → StandsFor reads at map image
@@ -102,10 +105,12 @@ module _ (reads : List ℕ → Option (List ℕ)) (at : Places) (entries : List 
     pub open_outside : AreHomes at entries → (k : ℕ) → RestsOpen at entries k → ¬ IsPut at entries k
     open_outside homes k (inl gate) put = apart.home_gate put.0 (homes put.0 put.1) (sym put.2 ∙ gate)
     open_outside homes k (inr (inl (inl header))) put = apart.home_header put.0 (homes put.0 put.1) (sym put.2 ∙ header)
-    open_outside homes k (inr (inl (inr body))) put = apart.home_body put.0 (homes put.0 put.1) (omega (arith, put.2, body.0), omega (arith, put.2, body.1, few))
+    open_outside homes k (inr (inl (inr body))) put =
+        apart.home_body put.0 (homes put.0 put.1) (omega (arith, put.2, body.0), omega (arith, put.2, body.1, few))
     open_outside homes k (inr (inr other)) put =
         let same : other.0 ≡ put.0 = apart.home_home other.0 put.0 other.1 (homes put.0 put.1) (sym other.3 ∙ put.2) in
-        absurd (let f : holds entries put.0 ≡ false = subst (λ (x : ℕ). holds entries x ≡ false) same other.2 in let t : holds entries put.0 ≡ true = put.1 in cc)
+        absurd (let f : holds entries put.0 ≡ false = subst (λ (x : ℕ). holds entries x ≡ false) same other.2 in
+        let t : holds entries put.0 ≡ true = put.1 in cc)
 
     -- They are blocks of the journal, as are those that a commit changes.
     pub idle_inside : (k : ℕ) → RestsIdle at k → JournalExtent at most k
@@ -139,6 +144,9 @@ homes_moved at most entries map old new apart inside differ homes same bytes a i
       let found = held_entry entries a held in
       subst (λ (x : ℕ). block new (at.place x) ≡ over entries map x) found.2 (bytes found.0 found.1 ∙ sym (over_here entries map found.0 differ found.1))
   | inr free ↦
-      same (at.place a) (λ put. absurd (let f : holds entries a ≡ false = free in let t : holds entries a ≡ true = subst (λ (x : ℕ). holds entries x ≡ true) (sym (apart.home_home a put.0 is (inside put.0 put.1) put.2)) put.1 in cc))
+      same (at.place a)
+      (λ put. absurd
+      (let f : holds entries a ≡ false = free in let t : holds entries a ≡ true = subst (λ (x : ℕ). holds entries x ≡ true)
+      (sym (apart.home_home a put.0 is (inside put.0 put.1) put.2)) put.1 in cc))
       ∙ homes a is free ∙ sym (over_free entries map a free)
 ]

@@ -49,18 +49,21 @@ bodies_of ts body i = λ j less. sym (contents_of ts body i j (omega (arith, les
 
 module _ (at : Places) (most : ℕ) (ts : List ℕ) (targets : AreTargets most at.home ts) (i : Image) where
   differ_of : Differ (entries_of ts at.body i)
-  differ_of = λ x y h less e. targets.differ x y h (omega (arith, less, count_of ts at.body i)) (sym (address_of ts at.body i x) ∙ e ∙ address_of ts at.body i y)
+  differ_of =
+      λ x y h less e. targets.differ x y h (omega (arith, less, count_of ts at.body i)) (sym (address_of ts at.body i x) ∙ e ∙ address_of ts at.body i y)
 
   homes_of : AreHomes at (entries_of ts at.body i)
   homes_of = λ a held.
       let found = held_entry (entries_of ts at.body i) a held in
-      subst (λ (x : ℕ). at.home x ≡ true) (sym (address_of ts at.body i found.0) ∙ found.2) (targets.homes found.0 (omega (arith, found.1, count_of ts at.body i)))
+      subst (λ (x : ℕ). at.home x ≡ true) (sym (address_of ts at.body i found.0) ∙ found.2)
+      (targets.homes found.0 (omega (arith, found.1, count_of ts at.body i)))
 
   few_of : length (entries_of ts at.body i) ≤ most
   few_of = omega (arith, count_of ts at.body i, targets.few)
 
   put_of : (k : ℕ) → IsTargetPlace at ts k → IsPut at (entries_of ts at.body i) k
-  put_of k is = (slice_index ts is.0, held_here (entries_of ts at.body i) is.0 (slice_index ts is.0) (omega (arith, is.1, count_of ts at.body i)) (address_of ts at.body i is.0), is.2)
+  put_of k is =
+      (slice_index ts is.0, held_here (entries_of ts at.body i) is.0 (slice_index ts is.0) (omega (arith, is.1, count_of ts at.body i)) (address_of ts at.body i is.0), is.2)
 
 -- The targets of a journal that is open are such as a replay takes.
 pub open_targets : (lot : LotView) (ts : List ℕ) → AreNoneOrTargets lot ts → are_some ts ≡ true → AreTargets 240 (is_address lot) ts
@@ -68,7 +71,8 @@ open_targets lot ts (inl none) some = absurd (let f : are_some ts ≡ false = ap
 open_targets lot ts (inr are) some = are
 
 -- a map that is the same at the addresses
-pub stands_map : (reads : List ℕ → Option (List ℕ)) (at : Places) (m n : ℕ → List ℕ) (i : Image) → ((a : ℕ) → at.home a ≡ true → m a ≡ n a) → StandsFor reads at n i → StandsFor reads at m i
+pub stands_map : (reads : List ℕ → Option (List ℕ)) (at : Places) (m n : ℕ → List ℕ) (i : Image) → ((a : ℕ) → at.home a ≡ true → m a ≡ n a)
+    → StandsFor reads at n i → StandsFor reads at m i
 stands_map reads at m n i same is = go (effective reads at i) is
   where
     go : (o : Option (ℕ → List ℕ)) → IsSomeAnd o (λ f. (a : ℕ) → at.home a ≡ true → f a ≡ n a) → IsSomeAnd o (λ f. (a : ℕ) → at.home a ≡ true → f a ≡ m a)
@@ -96,7 +100,8 @@ module _ (reads : List ℕ → Option (List ℕ)) (at : Places) (ts : List ℕ) 
       sym (each a is) ∙ ap (λ (l : List ℕ). replayed at.place l at.body i a) (sym (addresses_of ts at.body i))
       ∙ replayed_is at.place (entries_of ts at.body i) at.body i (plain at i) a (bodies_of ts at.body i) (λ free. refl)
 
-module _ {D : Type 0} (state : D → DiskState) (left : D → ℕ → Image → List ℕ → Type 0) (reads : List ℕ → Option (List ℕ)) (at : Places) (most : ℕ) (ts : List ℕ) (targets : AreTargets most at.home ts) (apart : AreApart at most) (a : D) where
+module _ {D : Type 0} (state : D → DiskState) (left : D → ℕ → Image → List ℕ → Type 0) (reads : List ℕ → Option (List ℕ)) (at : Places)
+    (most : ℕ) (ts : List ℕ) (targets : AreTargets most at.home ts) (apart : AreApart at most) (a : D) where
   abbrev old : Image
   old = (state a).now
 
@@ -104,7 +109,8 @@ module _ {D : Type 0} (state : D → DiskState) (left : D → ℕ → Image → 
   entries = entries_of ts at.body (state a).now
 
   -- The homes from the bodies, or a fault of that.
-  pub targets_written : {T X : Type 0} (b : D) (r : Result T X) → Within state left (IsTargetPlace at ts) a b → ((state a).tells ≡ true → OnOk r (Settled Everywhere (state b)))
+  pub targets_written : {T X : Type 0} (b : D) (r : Result T X) → Within state left (IsTargetPlace at ts) a b
+      → ((state a).tells ≡ true → OnOk r (Settled Everywhere (state b)))
       → ((state a).tells ≡ true → OnOk r ((j : ℕ) → j < length ts → block (state b).now (at.place (slice_index ts j)) ≡ block (state a).now (at.body + j)))
       → Moves state left (JournalExtent at most) r (Open reads at (entries_of ts at.body (state a).now) (plain at (state a).now)) (StandsFor reads at (over (entries_of ts at.body (state a).now) (plain at (state a).now)))
       (Full reads at (entries_of ts at.body (state a).now) (over (entries_of ts at.body (state a).now) (plain at (state a).now))) a b
@@ -112,29 +118,37 @@ module _ {D : Type 0} (state : D → DiskState) (left : D → ℕ → Image → 
       let es = entries_of ts at.body (state a).now in let map = plain at (state a).now in
       let few = few_of at most ts targets (state a).now in
       let v = within_more state left (IsTargetPlace at ts) (IsPut at es) a b (put_of at most ts targets (state a).now) w in
-      moves_more state left (JournalExtent at most) (Open reads at es map) (StandsFor reads at (over es map)) (Open reads at es map) (Full reads at es (over es map)) a b r (open_stands reads at es map)
-      (homes_written state left r a b reads at most es few apart map settles (homes_of at most ts targets (state a).now) (differ_of at most ts targets (state a).now) v
+      moves_more state left (JournalExtent at most) (Open reads at es map) (StandsFor reads at (over es map)) (Open reads at es map)
+      (Full reads at es (over es map)) a b r (open_stands reads at es map)
+      (homes_written state left r a b reads at most es few apart map settles (homes_of at most ts targets (state a).now)
+      (differ_of at most ts targets (state a).now) v
       (λ told. on_ok_weaker r (λ there j less.
       let less' : j < length ts = omega (arith, less, count_of ts at.body (state a).now) in
-      ap (λ (x : ℕ). block (state b).now (at.place x)) (address_of ts at.body (state a).now j) ∙ there j less' ∙ sym (contents_of ts at.body (state a).now j less')) (homes told)))
+      ap (λ (x : ℕ). block (state b).now (at.place x)) (address_of ts at.body (state a).now j) ∙ there j less'
+      ∙ sym (contents_of ts at.body (state a).now j less')) (homes told)))
 
   -- Then the gate closed.
-  pub replay_closed : {T X U Y : Type 0} (S : ℕ → Type 0) (b c : D) (r : Result T X) (x : T) (q : Result U Y) (gate : ℕ) → gate ≡ at.gate → Within state left S a b → r ≡ Ok x
+  pub replay_closed : {T X U Y : Type 0} (S : ℕ → Type 0) (b c : D) (r : Result T X) (x : T) (q : Result U Y) (gate : ℕ) → gate ≡ at.gate
+      → Within state left S a b → r ≡ Ok x
       → Moves state left (JournalExtent at most) r (Open reads at (entries_of ts at.body (state a).now) (plain at (state a).now)) (StandsFor reads at (over (entries_of ts at.body (state a).now) (plain at (state a).now)))
       (Full reads at (entries_of ts at.body (state a).now) (over (entries_of ts at.body (state a).now) (plain at (state a).now))) a b
-      → Within state left (λ k. k ≡ gate) b c → ((state b).tells ≡ true → OnOk q (Settled Everywhere (state c))) → ((state b).tells ≡ true → OnOk q (is_open (block (state c).now gate) ≡ false))
+      → Within state left (λ k. k ≡ gate) b c → ((state b).tells ≡ true → OnOk q (Settled Everywhere (state c)))
+      → ((state b).tells ≡ true → OnOk q (is_open (block (state c).now gate) ≡ false))
       → Moves state left (JournalExtent at most) q (Open reads at (entries_of ts at.body (state a).now) (plain at (state a).now)) (StandsFor reads at (over (entries_of ts at.body (state a).now) (plain at (state a).now)))
       (Idle at (over (entries_of ts at.body (state a).now) (plain at (state a).now))) a c
   replay_closed S b c r x q gate is w ok m v settles shut =
       let es = entries_of ts at.body (state a).now in let map = plain at (state a).now in
-      moves_then state left (JournalExtent at most) S (StandsFor reads at (over es map)) (Full reads at es (over es map)) (Open reads at es map) (Full reads at es (over es map)) (Idle at (over es map)) a b c r x q w ok
+      moves_then state left (JournalExtent at most) S (StandsFor reads at (over es map)) (Full reads at es (over es map))
+      (Open reads at es map) (Full reads at es (over es map)) (Idle at (over es map)) a b c r x q w ok
       (close_stands reads at es map) m
       (gate_closed state left q b c reads at most es (few_of at most ts targets (state a).now) apart (over es map) settles gate is v shut)
 
-  module _ {T X : Type 0} (r : Result T X) (c : D) (map : ℕ → List ℕ) (settled : Settled (JournalExtent at most) (state a)) (pending : IsPending reads at ts (state a).now)
+  module _ {T X : Type 0} (r : Result T X) (c : D) (map : ℕ → List ℕ) (settled : Settled (JournalExtent at most) (state a))
+      (pending : IsPending reads at ts (state a).now)
       (stands : StandsFor reads at map (state a).now) where
     -- What a pending journal stands for is what it stands for at each crash of these steps,
-    pub replay_crash : (after : Image → Type 0) → Moves state left (JournalExtent at most) r (Open reads at (entries_of ts at.body (state a).now) (plain at (state a).now)) (StandsFor reads at (over (entries_of ts at.body (state a).now) (plain at (state a).now))) after a c
+    pub replay_crash : (after : Image → Type 0)
+        → Moves state left (JournalExtent at most) r (Open reads at (entries_of ts at.body (state a).now) (plain at (state a).now)) (StandsFor reads at (over (entries_of ts at.body (state a).now) (plain at (state a).now))) after a c
         → CrashStep state left (JournalExtent at most) (StandsFor reads at map) a c
     replay_crash after m =
         let es = entries_of ts at.body (state a).now in let homes = plain at (state a).now in
@@ -147,7 +161,9 @@ module _ {D : Type 0} (state : D → DiskState) (left : D → ℕ → Image → 
         (Idle at (over (entries_of ts at.body (state a).now) (plain at (state a).now))) a c → OnOk r (Sure (RestsIdle at) (Idle at map) (state c))
     replay_done m =
         let es = entries_of ts at.body (state a).now in let homes = plain at (state a).now in
-        on_ok_weaker r (λ there. sure_at (JournalExtent at most) (RestsIdle at) (Idle at map) (state c) (idle_inside reads at es most (few_of at most ts targets (state a).now) apart)
+        on_ok_weaker r
+        (λ there. sure_at (JournalExtent at most) (RestsIdle at) (Idle at map) (state c)
+        (idle_inside reads at es most (few_of at most ts targets (state a).now) apart)
         (there.0, record { gate = there.1.gate; homes = λ x is. there.1.homes x is ∙ sym (pending_map reads at ts (state a).now pending map stands x is) }))
         (m.done settled (pending_open reads at ts (state a).now pending))
 

@@ -52,7 +52,8 @@ over_inside lot entries map homes is = fun_ext (λ a. by a (cases_Bool (is_addre
     by a (inl here) = inside_at lot (over entries map) a here
     by a (inr out) = elim (cases_Bool (holds entries a)) [
       | inl held ↦ absurd (let t : is_address lot a ≡ true = homes a held in cc)
-      | inr free ↦ inside_out lot (over entries map) a out ∙ sym (over_free entries map a free ∙ sym (ap (λ (m : ℕ → List ℕ). m a) is) ∙ inside_out lot map a out)
+      | inr free ↦
+          inside_out lot (over entries map) a out ∙ sym (over_free entries map a free ∙ sym (ap (λ (m : ℕ → List ℕ). m a) is) ∙ inside_out lot map a out)
     ]
 
 -- ---- at rest
@@ -70,7 +71,8 @@ idle_rest lot map i is idle = record {
 
 -- Its effective blocks are its homes.
 pub rest_homes : (lot : LotView) (map : ℕ → List ℕ) (i : Image) → LotAtRest lot map i → inside lot (homes lot i) ≡ map
-rest_homes lot map i rest = fun_ext (λ a. inside_same lot map (homes lot i) a (λ is. (rest_idle lot map i rest).homes a is)) ∙ effective_inside lot map i rest.blocks
+rest_homes lot map i rest =
+    fun_ext (λ a. inside_same lot map (homes lot i) a (λ is. (rest_idle lot map i rest).homes a is)) ∙ effective_inside lot map i rest.blocks
 
 -- That it is at rest rests on the gate and the homes, which are blocks of the lot.
 pub rest_rests : (lot : LotView) (map : ℕ → List ℕ) → RestsOn (RestsLot lot) (LotAtRest lot map)
@@ -144,7 +146,8 @@ unfolding effective_of targets_now
 rest_or_open lot map i e = elim (cases_Bool (is_open (block i (gate_place lot)))) [
   | inr off ↦ inl (record { gate = off; blocks = e })
   | inl on ↦
-      let has : option_map (λ m. inside lot m) (option_map (λ ts. replayed (place lot) ts (lot_places lot).body i) (slot_targets lot (block i (header_place lot)))) ≡ Some map = rw on at e in
+      let has : option_map (λ m. inside lot m)
+      (option_map (λ ts. replayed (place lot) ts (lot_places lot).body i) (slot_targets lot (block i (header_place lot)))) ≡ Some map = rw on at e in
       let named = some-read (slot_targets lot (block i (header_place lot))) has in
       inr (named.0, rw on named.1, header-some lot (block i (header_place lot)) named.0 named.1)
 ]

@@ -24,7 +24,8 @@ pub addresses_differ : (entries : List Entry) → Differ entries → all_differ 
 unfolding address
 addresses_differ [] differ = refl
 addresses_differ (e ∷ entries) differ =
-    let first : has (addresses entries) e.at ≡ false = has_addresses entries e.at ∙ not_held entries e.at (λ i less q. differ zero (suc i) (omega arith) (omega (arith, less)) (sym q)) in
+    let first : has (addresses entries) e.at ≡ false = has_addresses entries e.at
+    ∙ not_held entries e.at (λ i less q. differ zero (suc i) (omega arith) (omega (arith, less)) (sym q)) in
     let rest = addresses_differ entries (λ i j h k. differ (suc i) (suc j) (omega (arith, h)) (omega (arith, k))) in
     grind arith
 
@@ -41,7 +42,8 @@ said_with : (ts : List ℕ) → targets_said (header_with ts) ≡ ts
 said_with ts = take-append_seam ts (replicate (240 - length ts) 0)
 
 -- so the header of a set may be written
-pub proper_header : (most : ℕ) (may : ℕ → Bool) (entries : List Entry) (header : Header) → header ≡ header_with (addresses entries) → Differ entries → 1 ≤ length entries → length entries ≤ most
+pub proper_header : (most : ℕ) (may : ℕ → Bool) (entries : List Entry) (header : Header) → header ≡ header_with (addresses entries)
+    → Differ entries → 1 ≤ length entries → length entries ≤ most
     → ((a : ℕ) → holds entries a ≡ true → may a ≡ true) → IsProperHeader most may header
 proper_header most may entries header e differ some few homes =
     let ts = addresses entries in
@@ -56,10 +58,12 @@ proper_header most may entries header e differ some few homes =
 
 -- the header of a slot that was written names the addresses of the set
 pub slot_names : (slot : ℕ) (ts bytes : List ℕ) (header : Header) → header ≡ header_with ts
-    → ((lot : LotView) → lot.slot ≡ slot → list_all (is_address lot) (targets_said header) ≡ true → header_of lot bytes ≡ Some header) → NamesTargets (Some slot) ts bytes
+    → ((lot : LotView) → lot.slot ≡ slot → list_all (is_address lot) (targets_said header) ≡ true → header_of lot bytes ≡ Some header)
+    → NamesTargets (Some slot) ts bytes
 slot_names slot ts bytes header e wrote = λ lot same all.
     let said : targets_said header ≡ ts = ap (λ (h : Header). targets_said h) e ∙ said_with ts in
-    said_targets lot bytes header (sym (wrote lot same (subst (λ (x : List ℕ). list_all (is_address lot) x ≡ true) (sym said) all))) ∙ ap (λ (x : List ℕ). Some x) said
+    said_targets lot bytes header (sym (wrote lot same (subst (λ (x : List ℕ). list_all (is_address lot) x ≡ true) (sym said) all)))
+    ∙ ap (λ (x : List ℕ). Some x) said
 
 -- and so does that of the tables
 pub system_names : (ts bytes : List ℕ) (header : Header) → header ≡ header_with ts → system_header_of bytes ≡ Some header → NamesTargets None ts bytes
@@ -74,9 +78,11 @@ target_put ts xs n v less few is e =
     let rest : List ℕ = replicate (240 - (n + 1)) 0 in
     let one : 240 - n ≡ suc (240 - (n + 1)) = omega (arith, less, few) in
     let zeros : replicate (240 - n) 0 ≡ 0 ∷ rest = ap (λ (k : ℕ). replicate k 0) one in
-    let seam : slice_set (us ++ 0 ∷ rest) n v ≡ us ++ v ∷ rest = subst (λ (k : ℕ). slice_set (us ++ 0 ∷ rest) k v ≡ us ++ v ∷ rest) (length-take-le n ts (omega (arith, less))) (set-append_seam us 0 rest v) in
+    let seam : slice_set (us ++ 0 ∷ rest) n v ≡ us ++ v ∷ rest = subst (λ (k : ℕ). slice_set (us ++ 0 ∷ rest) k v ≡ us ++ v ∷ rest)
+    (length-take-le n ts (omega (arith, less))) (set-append_seam us 0 rest v) in
     let word : us ++ v ∷ [] ≡ take (n + 1) ts = ap (λ (w : ℕ). us ++ w ∷ []) is ∙ sym (take_more ts n 0 less) in
-    ap (λ (x : List ℕ). slice_set x n v) (e ∙ ap (λ (r : List ℕ). us ++ r) zeros) ∙ seam ∙ sym (append_assoc us (v ∷ []) rest) ∙ ap (λ (x : List ℕ). x ++ rest) word
+    ap (λ (x : List ℕ). slice_set x n v) (e ∙ ap (λ (r : List ℕ). us ++ r) zeros) ∙ seam ∙ sym (append_assoc us (v ∷ []) rest)
+    ∙ ap (λ (x : List ℕ). x ++ rest) word
 
 -- all of them
 pub targets_put : (ts xs : List ℕ) (n : ℕ) → n ≡ length ts → xs ≡ take n ts ++ replicate (240 - n) 0 → xs ≡ filled ts

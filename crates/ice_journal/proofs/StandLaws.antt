@@ -21,7 +21,8 @@ use Rattle.ice_journal.specs.Phases.{BeforeOrAfter, Idle, IsPending, RestsIdle, 
 some-of : (m n : ℕ → List ℕ) → Some m ≡ Some n → n ≡ m
 some-of m n e = sym (ap (λ o. unwrap_or o m) e)
 
-module _ (reads : List ℕ → Option (List ℕ)) (at : Places) (keep : (ℕ → List ℕ) → ℕ → List ℕ) (here : (m : ℕ → List ℕ) (a : ℕ) → at.home a ≡ true → keep m a ≡ m a)
+module _ (reads : List ℕ → Option (List ℕ)) (at : Places) (keep : (ℕ → List ℕ) → ℕ → List ℕ)
+    (here : (m : ℕ → List ℕ) (a : ℕ) → at.home a ≡ true → keep m a ≡ m a)
     (keeps : (m n : ℕ → List ℕ) → ((a : ℕ) → at.home a ≡ true → n a ≡ m a) → keep n ≡ keep m) (map : ℕ → List ℕ) (i : Image) where
   cut-of : StandsFor reads at map i → option_map (λ m. keep m) (effective reads at i) ≡ Some (keep map)
   cut-of stands = go (effective reads at i) stands
@@ -53,26 +54,32 @@ cut-same at m n same = fun_ext (λ a. by a (at.home a) refl)
 
 -- ---- what it rests on
 
-module _ (reads : List ℕ → Option (List ℕ)) (at : Places) (most : ℕ) (few : (header targets : List ℕ) → reads header ≡ Some targets → length targets ≤ most) where
+module _ (reads : List ℕ → Option (List ℕ)) (at : Places) (most : ℕ)
+    (few : (header targets : List ℕ) → reads header ≡ Some targets → length targets ≤ most) where
   -- What an image stands for rests on gate, header, bodies and homes of the journal,
   pub stands_rests : (map : ℕ → List ℕ) → RestsOn (JournalExtent at most) (StandsFor reads at map)
   stands_rests map i j same stands =
-      let equal = effective-same reads at most few (cut at) (cut-same at) i j (same at.gate (inl refl)) (λ a is. same (at.place a) (inr (inr (a, is, refl)))) (same at.header (inr (inl (inl refl))))
+      let equal = effective-same reads at most few (cut at) (cut-same at) i j (same at.gate (inl refl))
+      (λ a is. same (at.place a) (inr (inr (a, is, refl)))) (same at.header (inr (inl (inl refl))))
       (λ k low high. same k (inr (inl (inr (low, high))))) in
-      let kept : option_map (λ m. cut at m) (effective reads at j) ≡ Some (cut at map) = equal ∙ cut-of reads at (cut at) (cut-here at) (cut-same at) map i stands in
+      let kept : option_map (λ m. cut at m) (effective reads at j) ≡ Some (cut at map) = equal
+      ∙ cut-of reads at (cut at) (cut-here at) (cut-same at) map i stands in
       let there = stands-of reads at (cut at) (cut-here at) (cut-same at) (cut at map) j kept in
       back (effective reads at j) there
     where
-      back : (o : Option (ℕ → List ℕ)) → IsSomeAnd o (λ m. (a : ℕ) → at.home a ≡ true → m a ≡ cut at map a) → IsSomeAnd o (λ m. (a : ℕ) → at.home a ≡ true → m a ≡ map a)
+      back : (o : Option (ℕ → List ℕ)) → IsSomeAnd o (λ m. (a : ℕ) → at.home a ≡ true → m a ≡ cut at map a)
+          → IsSomeAnd o (λ m. (a : ℕ) → at.home a ≡ true → m a ≡ map a)
       back None never = never
       back (Some m) h = λ a is. h a is ∙ cut-here at map a is
 
   -- and so does that it stands for a map before or after.
   pub before_rests : (entries : List Entry) (map : ℕ → List ℕ) → RestsOn (JournalExtent at most) (BeforeOrAfter reads at entries map)
-  before_rests entries map i j same both = ⊎_elim (λ before. inl (stands_rests map i j same before)) (λ after. inr (stands_rests (over entries map) i j same after)) both
+  before_rests entries map i j same both =
+      ⊎_elim (λ before. inl (stands_rests map i j same before)) (λ after. inr (stands_rests (over entries map) i j same after)) both
 
 -- That a journal is open with these targets rests on its gate and its header.
-pub pending_rests : (reads : List ℕ → Option (List ℕ)) (at : Places) (targets : List ℕ) → RestsOn (λ k. (k ≡ at.gate) ⊎ (k ≡ at.header)) (IsPending reads at targets)
+pub pending_rests : (reads : List ℕ → Option (List ℕ)) (at : Places) (targets : List ℕ)
+    → RestsOn (λ k. (k ≡ at.gate) ⊎ (k ≡ at.header)) (IsPending reads at targets)
 pending_rests reads at targets i j same pending = record {
   gate = ap is_open (same at.gate (inl refl)) ∙ pending.gate;
   header = ap reads (same at.header (inr refl)) ∙ pending.header;
@@ -83,20 +90,27 @@ pub idle_now : (at : Places) (i : Image) → is_open (block i at.gate) ≡ false
 idle_now at i closed = record { gate = closed; homes = λ a is. refl }
 
 -- A journal that stands for a map and whose gate is closed is at rest with this map.
-pub idle_closed : (reads : List ℕ → Option (List ℕ)) (at : Places) (map : ℕ → List ℕ) (i : Image) → is_open (block i at.gate) ≡ false → StandsFor reads at map i → Idle at map i
-idle_closed reads at map i closed stands = record { gate = closed; homes = let each : (a : ℕ) → at.home a ≡ true → block i (at.place a) ≡ map a = rw closed at stands in each }
+pub idle_closed : (reads : List ℕ → Option (List ℕ)) (at : Places) (map : ℕ → List ℕ) (i : Image) → is_open (block i at.gate) ≡ false
+    → StandsFor reads at map i → Idle at map i
+idle_closed reads at map i closed stands =
+    record { gate = closed; homes = let each : (a : ℕ) → at.home a ≡ true → block i (at.place a) ≡ map a = rw closed at stands in each }
 
 -- ---- the journal of a lot
 
 -- What a lot's journal stands for are its effective blocks,
-pub lot_effective : (lot : LotView) (map : ℕ → List ℕ) (i : Image) → StandsFor (slot_targets lot) (lot_places lot) map i → effective_of lot i ≡ Some (inside lot map)
+pub lot_effective : (lot : LotView) (map : ℕ → List ℕ) (i : Image) → StandsFor (slot_targets lot) (lot_places lot) map i
+    → effective_of lot i ≡ Some (inside lot map)
 unfolding effective_of
-lot_effective lot map i stands = cut-of (slot_targets lot) (lot_places lot) (inside lot) (λ m a is. inside_at lot m a is) (λ m n same. fun_ext (λ a. inside_same lot m n a (same a))) map i stands
+lot_effective lot map i stands =
+    cut-of (slot_targets lot) (lot_places lot) (inside lot) (λ m a is. inside_at lot m a is)
+    (λ m n same. fun_ext (λ a. inside_same lot m n a (same a))) map i stands
 
 -- and the other way round.
 pub effective_stands : (lot : LotView) (map : ℕ → List ℕ) (i : Image) → effective_of lot i ≡ Some map → StandsFor (slot_targets lot) (lot_places lot) map i
 unfolding effective_of
-effective_stands lot map i e = stands-of (slot_targets lot) (lot_places lot) (inside lot) (λ m a is. inside_at lot m a is) (λ m n same. fun_ext (λ a. inside_same lot m n a (same a))) map i e
+effective_stands lot map i e =
+    stands-of (slot_targets lot) (lot_places lot) (inside lot) (λ m a is. inside_at lot m a is)
+    (λ m n same. fun_ext (λ a. inside_same lot m n a (same a))) map i e
 
 -- It rests on the journal's blocks.
 pub lot_stands_rests : (lot : LotView) (map : ℕ → List ℕ) → RestsOn (JournalExtent (lot_places lot) 240) (StandsFor (slot_targets lot) (lot_places lot) map)

@@ -44,7 +44,8 @@ module _ {D : Type 0} (state : D → DiskState) (left : D → ℕ → Image → 
       from_barrier state left E S R P after a b b r rests inside outside w (within_refl state left Nowhere b)
       (λ settled p. on_ok_both _ _ r (settled_on E r (state b) (settles settled.told)) (next settled.told p))
 
-  module _ (reads : List ℕ → Option (List ℕ)) (at : Places) (most : ℕ) (entries : List Entry) (few : length entries ≤ most) (apart : AreApart at most) (map : ℕ → List ℕ)
+  module _ (reads : List ℕ → Option (List ℕ)) (at : Places) (most : ℕ) (entries : List Entry) (few : length entries ≤ most)
+      (apart : AreApart at most) (map : ℕ → List ℕ)
       (settles : (state a).tells ≡ true → OnOk r (Settled Everywhere (state b))) where
     -- Bodies and header.
     pub set_written : Within state left (IsBody at (length entries)) a b → ((state a).tells ≡ true → OnOk r (HoldsSet reads at entries (state b).now))
@@ -52,39 +53,53 @@ module _ {D : Type 0} (state : D → DiskState) (left : D → ℕ → Image → 
     set_written w holds = step_moves_from (JournalExtent at most) (IsBody at (length entries)) (RestsIdle at) (Idle at map) (Full reads at entries map)
         (idle_rests reads at entries map) (idle_inside reads at entries most few apart) (idle_outside reads at entries most few apart) w settles
         (λ told was.
-        let kept = now_after state left (IsBody at (length entries)) (RestsIdle at) (Idle at map) a b (idle_rests reads at entries map) (idle_outside reads at entries most few apart) w was in
+        let kept = now_after state left (IsBody at (length entries)) (RestsIdle at) (Idle at map) a b (idle_rests reads at entries map)
+        (idle_outside reads at entries most few apart) w was in
         on_ok_weaker r (λ set. record { set = set; homes = kept.homes }) (holds told))
 
     -- The gate opened.
-    pub gate_opened : (gate : ℕ) → gate ≡ at.gate → Within state left (λ k. k ≡ gate) a b → ((state a).tells ≡ true → OnOk r (is_open (block (state b).now gate) ≡ true))
+    pub gate_opened : (gate : ℕ) → gate ≡ at.gate → Within state left (λ k. k ≡ gate) a b
+        → ((state a).tells ≡ true → OnOk r (is_open (block (state b).now gate) ≡ true))
         → Moves state left (JournalExtent at most) r (Full reads at entries map) (Full reads at entries map) (Open reads at entries map) a b
     gate_opened gate is w up = step_moves (JournalExtent at most) (λ k. k ≡ gate) (RestsFull at entries) (Full reads at entries map) (Open reads at entries map)
-        (full_rests reads at entries map) (full_inside reads at entries most few apart) (λ k rests e. full_outside reads at entries most few apart k rests (e ∙ is)) w settles
+        (full_rests reads at entries map) (full_inside reads at entries most few apart)
+        (λ k rests e. full_outside reads at entries most few apart k rests (e ∙ is)) w settles
         (λ told was.
-        let kept = now_after state left (λ k. k ≡ gate) (RestsFull at entries) (Full reads at entries map) a b (full_rests reads at entries map) (λ k rests e. full_outside reads at entries most few apart k rests (e ∙ is)) w was in
-        on_ok_weaker r (λ on. record { gate = subst (λ (k : ℕ). is_open (block (state b).now k) ≡ true) is on; set = kept.set; homes = λ k is free. kept.homes k is }) (up told))
+        let kept = now_after state left (λ k. k ≡ gate) (RestsFull at entries) (Full reads at entries map) a b
+        (full_rests reads at entries map) (λ k rests e. full_outside reads at entries most few apart k rests (e ∙ is)) w was in
+        on_ok_weaker r
+        (λ on. record { gate = subst (λ (k : ℕ). is_open (block (state b).now k) ≡ true) is on; set = kept.set; homes = λ k is free. kept.homes k is })
+        (up told))
 
     -- The gate closed.
-    pub gate_closed : (gate : ℕ) → gate ≡ at.gate → Within state left (λ k. k ≡ gate) a b → ((state a).tells ≡ true → OnOk r (is_open (block (state b).now gate) ≡ false))
+    pub gate_closed : (gate : ℕ) → gate ≡ at.gate → Within state left (λ k. k ≡ gate) a b
+        → ((state a).tells ≡ true → OnOk r (is_open (block (state b).now gate) ≡ false))
         → Moves state left (JournalExtent at most) r (Full reads at entries map) (Full reads at entries map) (Idle at map) a b
     gate_closed gate is w shut = step_moves (JournalExtent at most) (λ k. k ≡ gate) (RestsFull at entries) (Full reads at entries map) (Idle at map)
-        (full_rests reads at entries map) (full_inside reads at entries most few apart) (λ k rests e. full_outside reads at entries most few apart k rests (e ∙ is)) w settles
+        (full_rests reads at entries map) (full_inside reads at entries most few apart)
+        (λ k rests e. full_outside reads at entries most few apart k rests (e ∙ is)) w settles
         (λ told was.
-        let kept = now_after state left (λ k. k ≡ gate) (RestsFull at entries) (Full reads at entries map) a b (full_rests reads at entries map) (λ k rests e. full_outside reads at entries most few apart k rests (e ∙ is)) w was in
+        let kept = now_after state left (λ k. k ≡ gate) (RestsFull at entries) (Full reads at entries map) a b
+        (full_rests reads at entries map) (λ k rests e. full_outside reads at entries most few apart k rests (e ∙ is)) w was in
         on_ok_weaker r (λ off. record { gate = subst (λ (k : ℕ). is_open (block (state b).now k) ≡ false) is off; homes = kept.homes }) (shut told))
 
     -- The homes.
     pub homes_written : AreHomes at entries → Differ entries → Within state left (IsPut at entries) a b
         → ((state a).tells ≡ true → OnOk r ((j : ℕ) → j < length entries → block (state b).now (at.place (address entries j)) ≡ contents entries j))
         → Moves state left (JournalExtent at most) r (Open reads at entries map) (Open reads at entries map) (Full reads at entries (over entries map)) a b
-    homes_written homes differ w put = step_moves (JournalExtent at most) (IsPut at entries) (RestsOpen at entries) (Open reads at entries map) (Full reads at entries (over entries map))
+    homes_written homes differ w put =
+        step_moves (JournalExtent at most) (IsPut at entries) (RestsOpen at entries) (Open reads at entries map) (Full reads at entries (over entries map))
         (open_rests reads at entries map) (open_inside reads at entries most few apart) (open_outside reads at entries most few apart homes) w settles
         (λ told was.
-        let kept = now_after state left (IsPut at entries) (RestsOpen at entries) (Open reads at entries map) a b (open_rests reads at entries map) (open_outside reads at entries most few apart homes) w was in
-        on_ok_weaker r (λ there. record { set = kept.set; homes = homes_moved at most entries map (state a).now (state b).now apart homes differ was.homes w.same there }) (put told))
+        let kept = now_after state left (IsPut at entries) (RestsOpen at entries) (Open reads at entries map) a b
+        (open_rests reads at entries map) (open_outside reads at entries most few apart homes) w was in
+        on_ok_weaker r
+        (λ there. record { set = kept.set; homes = homes_moved at most entries map (state a).now (state b).now apart homes differ was.homes w.same there })
+        (put told))
 
 -- What header and bodies of an area hold, those of its journal hold.
-pub set_holds : {T X : Type 0} (r : Result T X) (area : Area) (reads : List ℕ → Option (List ℕ)) (at : Places) (most : ℕ) (entries : List Entry) (i : Image) → IsAreaOf area reads at most → AreHomes at entries
+pub set_holds : {T X : Type 0} (r : Result T X) (area : Area) (reads : List ℕ → Option (List ℕ)) (at : Places) (most : ℕ) (entries : List Entry) (i : Image)
+    → IsAreaOf area reads at most → AreHomes at entries
     → OnOk r (NamesTargets area.slot (addresses entries) (block i area.header)) → OnOk r (HoldBlocks area.body entries i) → OnOk r (HoldsSet reads at entries i)
 set_holds (Err e) area reads at most entries i is homes header bodies = tt
 set_holds (Ok x) area reads at most entries i is homes header bodies = record {
@@ -93,7 +108,8 @@ set_holds (Ok x) area reads at most entries i is homes header bodies = record {
 }
 
 -- the header and the bodies of an area are those of its journal
-pub body_of : (area : Area) (reads : List ℕ → Option (List ℕ)) (at : Places) (most n k : ℕ) → IsAreaOf area reads at most → IsBodyOf area.header area.body n k → IsBody at n k
+pub body_of : (area : Area) (reads : List ℕ → Option (List ℕ)) (at : Places) (most n k : ℕ) → IsAreaOf area reads at most
+    → IsBodyOf area.header area.body n k → IsBody at n k
 body_of area reads at most n k is (inl header) = inl (header ∙ is.header)
 body_of area reads at most n k is (inr body) = inr (omega (arith, is.body, body.0), omega (arith, is.body, body.1))
 
@@ -106,18 +122,24 @@ pub sure_at : (E R : ℕ → Type 0) (P : Image → Type 0) (s : DiskState) → 
 sure_at E R P s inside both = record { settled = record { told = both.0.told; settled = λ k r. both.0.settled k (inside k r) }; now = both.1 }
 
 -- The steps from the opening of the gate on, one after another: each crash leaves the map before or the map after.
-module _ {D : Type 0} (state : D → DiskState) (left : D → ℕ → Image → List ℕ → Type 0) (reads : List ℕ → Option (List ℕ)) (at : Places) (most : ℕ) (entries : List Entry) (map : ℕ → List ℕ) where
+module _ {D : Type 0} (state : D → DiskState) (left : D → ℕ → Image → List ℕ → Type 0) (reads : List ℕ → Option (List ℕ)) (at : Places)
+    (most : ℕ) (entries : List Entry) (map : ℕ → List ℕ) where
   -- The gate opened, or a fault of that.
-  pub opening : {T X : Type 0} (r : Result T X) (a b : D) → Moves state left (JournalExtent at most) r (Full reads at entries map) (Full reads at entries map) (Open reads at entries map) a b
+  pub opening : {T X : Type 0} (r : Result T X) (a b : D)
+      → Moves state left (JournalExtent at most) r (Full reads at entries map) (Full reads at entries map) (Open reads at entries map) a b
       → Moves state left (JournalExtent at most) r (Full reads at entries map) (BeforeOrAfter reads at entries map) (Open reads at entries map) a b
-  opening r a b m = moves_more state left (JournalExtent at most) (Full reads at entries map) (BeforeOrAfter reads at entries map) (Full reads at entries map) (Open reads at entries map) a b r (full_stands reads at entries map) m
+  opening r a b m =
+      moves_more state left (JournalExtent at most) (Full reads at entries map) (BeforeOrAfter reads at entries map)
+      (Full reads at entries map) (Open reads at entries map) a b r (full_stands reads at entries map) m
 
   -- Then the homes.
   pub then_homes : {T X U Y : Type 0} (S : ℕ → Type 0) (a b c : D) (r : Result T X) (x : T) (q : Result U Y) → Within state left S a b → r ≡ Ok x
       → Moves state left (JournalExtent at most) r (Full reads at entries map) (BeforeOrAfter reads at entries map) (Open reads at entries map) a b
       → Moves state left (JournalExtent at most) q (Open reads at entries map) (Open reads at entries map) (Full reads at entries (over entries map)) b c
       → Moves state left (JournalExtent at most) q (Full reads at entries map) (BeforeOrAfter reads at entries map) (Full reads at entries (over entries map)) a c
-  then_homes S a b c r x q w is v u = moves_then state left (JournalExtent at most) S (BeforeOrAfter reads at entries map) (Open reads at entries map) (Full reads at entries map) (Open reads at entries map) (Full reads at entries (over entries map)) a b c r x q w is
+  then_homes S a b c r x q w is v u =
+      moves_then state left (JournalExtent at most) S (BeforeOrAfter reads at entries map) (Open reads at entries map)
+      (Full reads at entries map) (Open reads at entries map) (Full reads at entries (over entries map)) a b c r x q w is
       (λ i on. inr (open_stands reads at entries map i on)) v u
 
   -- Then the gate closed.
@@ -125,14 +147,19 @@ module _ {D : Type 0} (state : D → DiskState) (left : D → ℕ → Image → 
       → Moves state left (JournalExtent at most) r (Full reads at entries map) (BeforeOrAfter reads at entries map) (Full reads at entries (over entries map)) a b
       → Moves state left (JournalExtent at most) q (Full reads at entries (over entries map)) (Full reads at entries (over entries map)) (Idle at (over entries map)) b c
       → Moves state left (JournalExtent at most) q (Full reads at entries map) (BeforeOrAfter reads at entries map) (Idle at (over entries map)) a c
-  then_closed S a b c r x q w is v u = moves_then state left (JournalExtent at most) S (BeforeOrAfter reads at entries map) (Full reads at entries (over entries map)) (Full reads at entries map) (Full reads at entries (over entries map)) (Idle at (over entries map)) a b c r x q w is
+  then_closed S a b c r x q w is v u =
+      moves_then state left (JournalExtent at most) S (BeforeOrAfter reads at entries map) (Full reads at entries (over entries map))
+      (Full reads at entries map) (Full reads at entries (over entries map)) (Idle at (over entries map)) a b c r x q w is
       (λ i full. inr (close_stands reads at entries map i full)) v u
 
   -- Before these steps the bodies and the header, or a fault of them.
-  pub written : {T X : Type 0} (r : Result T X) (a b : D) → MovesFrom state left (RestsIdle at) (JournalExtent at most) r (Idle at map) (Idle at map) (Full reads at entries map) a b
+  pub written : {T X : Type 0} (r : Result T X) (a b : D)
+      → MovesFrom state left (RestsIdle at) (JournalExtent at most) r (Idle at map) (Idle at map) (Full reads at entries map) a b
       → MovesFrom state left (RestsIdle at) (JournalExtent at most) r (Idle at map) (BeforeOrAfter reads at entries map) (Full reads at entries map) a b
   written r a b m = record {
-    crash = λ settled p. step_more state left (JournalExtent at most) (Idle at map) (BeforeOrAfter reads at entries map) a b (λ i idle. inl (idle_stands reads at entries map i idle)) (m.crash settled p);
+    crash =
+        λ settled p. step_more state left (JournalExtent at most) (Idle at map) (BeforeOrAfter reads at entries map) a b
+        (λ i idle. inl (idle_stands reads at entries map i idle)) (m.crash settled p);
     done = m.done;
   }
 
@@ -140,5 +167,7 @@ module _ {D : Type 0} (state : D → DiskState) (left : D → ℕ → Image → 
       → MovesFrom state left (RestsIdle at) (JournalExtent at most) r (Idle at map) (BeforeOrAfter reads at entries map) (Full reads at entries map) a b
       → Moves state left (JournalExtent at most) q (Full reads at entries map) (BeforeOrAfter reads at entries map) (Idle at (over entries map)) b c
       → MovesFrom state left (RestsIdle at) (JournalExtent at most) q (Idle at map) (BeforeOrAfter reads at entries map) (Idle at (over entries map)) a c
-  then_finished S a b c r x q w is v u = from_then state left (RestsIdle at) (JournalExtent at most) S (BeforeOrAfter reads at entries map) (BeforeOrAfter reads at entries map) (Idle at map) (Full reads at entries map) (Idle at (over entries map)) a b c r x q w is
+  then_finished S a b c r x q w is v u =
+      from_then state left (RestsIdle at) (JournalExtent at most) S (BeforeOrAfter reads at entries map)
+      (BeforeOrAfter reads at entries map) (Idle at map) (Full reads at entries map) (Idle at (over entries map)) a b c r x q w is
       (λ i both. both) v u

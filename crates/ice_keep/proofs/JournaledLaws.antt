@@ -42,7 +42,8 @@ commit_homes lot (Err e) v w emptied kept homes = subst (λ (x : SetView). AreHo
 pub rest_map : (lot : LotView) (entries : List Entry) (map : ℕ → List ℕ) (i : Image) → AreHomes (lot_places lot) entries → LotAtRest lot map i
     → inside lot (over entries (homes lot i)) ≡ over entries map
 rest_map lot entries map i kept rest =
-    fun_ext (λ a. inside_same lot (over entries map) (over entries (homes lot i)) a (λ is. over_same entries (homes lot i) map a (sym (inside_at lot (homes lot i) a is) ∙ ap (λ (m : ℕ → List ℕ). m a) (rest_homes lot map i rest))))
+    fun_ext (λ a. inside_same lot (over entries map) (over entries (homes lot i)) a
+    (λ is. over_same entries (homes lot i) map a (sym (inside_at lot (homes lot i) a is) ∙ ap (λ (m : ℕ → List ℕ). m a) (rest_homes lot map i rest))))
     ∙ over_inside lot entries map kept (effective_inside lot map i rest.blocks)
 
 -- ---- what a commit leaves
@@ -60,7 +61,8 @@ sure_inside : (lot : LotView) (map : ℕ → List ℕ) (s : DiskState) → Sure 
 sure_inside lot map s sure = effective_inside lot map s.now sure.now.blocks
 
 -- a set and what is said of it
-module _ {D : Type 0} (state : D → DiskState) (left : D → ℕ → Image → List ℕ → Type 0) (lot : LotView) (set v : SetView) (is : set ≡ v) (kept : AreHomes (lot_places lot) v.entries) (map : ℕ → List ℕ) (a b : D) where
+module _ {D : Type 0} (state : D → DiskState) (left : D → ℕ → Image → List ℕ → Type 0) (lot : LotView) (set v : SetView) (is : set ≡ v)
+    (kept : AreHomes (lot_places lot) v.entries) (map : ℕ → List ℕ) (a b : D) where
   homes-in : AreHomes (lot_places lot) set.entries
   homes-in = subst (λ (x : SetView). AreHomes (lot_places lot) x.entries) (sym is) kept
 
@@ -68,12 +70,15 @@ module _ {D : Type 0} (state : D → DiskState) (left : D → ℕ → Image → 
       → CrashStep state left (JournalExtent (lot_places lot) 240) (BeforeOrAfter (slot_targets lot) (lot_places lot) set.entries map) a b
       → CrashStep state left (JournalExtent (lot_places lot) 240) (BlocksEither lot v.entries map) a b
   held_crash sure step = subst (λ (x : SetView). CrashStep state left (JournalExtent (lot_places lot) 240) (BlocksEither lot x.entries map) a b) is
-      (step_more state left (JournalExtent (lot_places lot) 240) (BeforeOrAfter (slot_targets lot) (lot_places lot) set.entries map) (BlocksEither lot set.entries map) a b
+      (step_more state left (JournalExtent (lot_places lot) 240) (BeforeOrAfter (slot_targets lot) (lot_places lot) set.entries map)
+      (BlocksEither lot set.entries map) a b
       (λ i both. either_blocks lot set.entries map i homes-in (sure_inside lot map (state a) sure) both) step)
 
   pub held_either : Sure (RestsLot lot) (LotAtRest lot map) (state a)
       → BeforeOrAfter (slot_targets lot) (lot_places lot) set.entries map (state b).now → BlocksEither lot v.entries map (state b).now
-  held_either sure both = subst (λ (x : SetView). BlocksEither lot x.entries map (state b).now) is (either_blocks lot set.entries map (state b).now homes-in (sure_inside lot map (state a) sure) both)
+  held_either sure both =
+      subst (λ (x : SetView). BlocksEither lot x.entries map (state b).now) is
+      (either_blocks lot set.entries map (state b).now homes-in (sure_inside lot map (state a) sure) both)
 
   pub held_done : Sure (RestsLot lot) (LotAtRest lot map) (state a) → Sure (RestsIdle (lot_places lot)) (Idle (lot_places lot) (over set.entries map)) (state b)
       → Sure (RestsLot lot) (LotAtRest lot (over v.entries map)) (state b)
@@ -86,7 +91,9 @@ module _ {D : Type 0} (state : D → DiskState) (left : D → ℕ → Image → 
 
   pub held_stands : CrashStep state left (JournalExtent (lot_places lot) 240) (BeforeOrAfter (slot_targets lot) (lot_places lot) set.entries map) a b
       → CrashStep state left (JournalExtent (lot_places lot) 240) (BeforeOrAfter (slot_targets lot) (lot_places lot) v.entries map) a b
-  held_stands step = subst (λ (x : SetView). CrashStep state left (JournalExtent (lot_places lot) 240) (BeforeOrAfter (slot_targets lot) (lot_places lot) x.entries map) a b) is step
+  held_stands step =
+      subst (λ (x : SetView). CrashStep state left (JournalExtent (lot_places lot) 240)
+      (BeforeOrAfter (slot_targets lot) (lot_places lot) x.entries map) a b) is step
 
   pub held_idle : Sure (RestsIdle (lot_places lot)) (Idle (lot_places lot) (over set.entries map)) (state b)
       → Sure (RestsIdle (lot_places lot)) (Idle (lot_places lot) (over v.entries map)) (state b)
@@ -116,18 +123,22 @@ stays state left E R P a rests inside sure = record {
 module _ {D : Type 0} (state : D → DiskState) (left : D → ℕ → Image → List ℕ → Type 0) (lot : LotView) (entries : List Entry) (map : ℕ → List ℕ) (a : D) where
   pub nothing_crash : Sure (RestsLot lot) (LotAtRest lot map) (state a)
       → CrashStep state left (JournalExtent (lot_places lot) 240) (BlocksEither lot entries map) a a
-  nothing_crash sure = step_more state left (JournalExtent (lot_places lot) 240) (LotAtRest lot map) (BlocksEither lot entries map) a a (λ i rest. inl rest.blocks)
+  nothing_crash sure =
+      step_more state left (JournalExtent (lot_places lot) 240) (LotAtRest lot map) (BlocksEither lot entries map) a a (λ i rest. inl rest.blocks)
       (stays state left (JournalExtent (lot_places lot) 240) (RestsLot lot) (LotAtRest lot map) a (rest_rests lot map) (rests_extent lot) sure)
 
   pub nothing_stands : Sure (RestsIdle (lot_places lot)) (Idle (lot_places lot) map) (state a)
       → CrashStep state left (JournalExtent (lot_places lot) 240) (BeforeOrAfter (slot_targets lot) (lot_places lot) entries map) a a
-  nothing_stands sure = step_more state left (JournalExtent (lot_places lot) 240) (Idle (lot_places lot) map) (BeforeOrAfter (slot_targets lot) (lot_places lot) entries map) a a
+  nothing_stands sure =
+      step_more state left (JournalExtent (lot_places lot) 240) (Idle (lot_places lot) map) (BeforeOrAfter (slot_targets lot) (lot_places lot) entries map) a a
       (λ i idle. inl (idle_stands (slot_targets lot) (lot_places lot) [] map i idle))
-      (stays state left (JournalExtent (lot_places lot) 240) (RestsIdle (lot_places lot)) (Idle (lot_places lot) map) a (idle_rests (slot_targets lot) (lot_places lot) [] map) (rests_extent lot) sure)
+      (stays state left (JournalExtent (lot_places lot) 240) (RestsIdle (lot_places lot)) (Idle (lot_places lot) map) a
+      (idle_rests (slot_targets lot) (lot_places lot) [] map) (rests_extent lot) sure)
 
   pub nothing_done : entries ≡ [] → Sure (RestsLot lot) (LotAtRest lot map) (state a) → Sure (RestsLot lot) (LotAtRest lot (over entries map)) (state a)
   nothing_done none sure = subst (λ (m : ℕ → List ℕ). Sure (RestsLot lot) (LotAtRest lot m) (state a)) (sym (over_nothing entries map none)) sure
 
   pub nothing_idle : entries ≡ [] → Sure (RestsIdle (lot_places lot)) (Idle (lot_places lot) map) (state a)
       → Sure (RestsIdle (lot_places lot)) (Idle (lot_places lot) (over entries map)) (state a)
-  nothing_idle none sure = subst (λ (m : ℕ → List ℕ). Sure (RestsIdle (lot_places lot)) (Idle (lot_places lot) m) (state a)) (sym (over_nothing entries map none)) sure
+  nothing_idle none sure =
+      subst (λ (m : ℕ → List ℕ). Sure (RestsIdle (lot_places lot)) (Idle (lot_places lot) m) (state a)) (sym (over_nothing entries map none)) sure

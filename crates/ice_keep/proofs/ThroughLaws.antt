@@ -8,14 +8,16 @@ use Rattle.ice_base.specs.Still.{Still, PutsHome, still_refl}
 use Rattle.ice_keep.specs.Through.{Through}
 
 pub through_looks : {D : Type 0} (state : D → DiskState) (left : D → ℕ → Image → List ℕ → Type 0) (lot : LotView) (a b c : D)
-    → Through state left lot a b → Within state left Nowhere b c → ((state b).tells ≡ true → (state c).barriers ≡ (state b).barriers) → Through state left lot a c
+    → Through state left lot a b → Within state left Nowhere b c → ((state b).tells ≡ true → (state c).barriers ≡ (state b).barriers)
+    → Through state left lot a c
 through_looks state left lot a b c v w bars = record {
   within = within_next state left v.within w (λ k e. absurd e);
   barriers = λ t. bars (v.within.tells ∙ t) ∙ v.barriers t;
 }
 
 pub through_writes : {D : Type 0} (state : D → DiskState) (left : D → ℕ → Image → List ℕ → Type 0) (lot : LotView) (at p : ℕ) (a b c : D)
-    → Through state left lot a b → Within state left (λ k. k ≡ p) b c → is_address lot at ≡ true → place lot at ≡ p → ((state b).tells ≡ true → (state c).barriers ≡ (state b).barriers) → Through state left lot a c
+    → Through state left lot a b → Within state left (λ k. k ≡ p) b c → is_address lot at ≡ true → place lot at ≡ p
+    → ((state b).tells ≡ true → (state c).barriers ≡ (state b).barriers) → Through state left lot a c
 through_writes state left lot at p a b c v w is e bars = record {
   within = within_next state left v.within w (λ k h. (at, (is, h ∙ sym e)));
   barriers = λ t. bars (v.within.tells ∙ t) ∙ v.barriers t;
@@ -27,8 +29,10 @@ pub read_still : {D : Type 0} (state : D → DiskState) (left : D → ℕ → Im
 read_still state left a b w counts = record { within = w; barriers = λ t. (counts t).barriers; writes = λ t. (counts t).writes; loose = λ t. (counts t).loose }
 
 pub write_home : {D : Type 0} (state : D → DiskState) (left : D → ℕ → Image → List ℕ → Type 0) (lot : LotView) (at p : ℕ) (a b : D)
-    → Within state left (λ k. k ≡ p) a b → is_address lot at ≡ true → place lot at ≡ p → ((state a).tells ≡ true → (state b).barriers ≡ (state a).barriers) → PutsHome state left lot at a b
-write_home state left lot at p a b w is e bars = record { within = within_more state left (λ k. k ≡ p) (IsHomeOf lot at) a b (λ k h. (is, h ∙ sym e)) w; barriers = bars }
+    → Within state left (λ k. k ≡ p) a b → is_address lot at ≡ true → place lot at ≡ p
+    → ((state a).tells ≡ true → (state b).barriers ≡ (state a).barriers) → PutsHome state left lot at a b
+write_home state left lot at p a b w is e bars =
+    record { within = within_more state left (λ k. k ≡ p) (IsHomeOf lot at) a b (λ k h. (is, h ∙ sym e)) w; barriers = bars }
 
 -- and what leaves the disk does
 pub none_home : {D : Type 0} (state : D → DiskState) (left : D → ℕ → Image → List ℕ → Type 0) (lot : LotView) (at : ℕ) (a : D) → PutsHome state left lot at a a

@@ -8,7 +8,8 @@ use Rattle.ice_txn.specs.Sets.{SetView}
 use Rattle.ice_journal.specs.Blocks.{AreHomes}
 
 -- The disk is as it was, and of other addresses than the lot's none became held.
-pub record HeldBack {D : Type 0} (state : D → DiskState) (left : D → ℕ → Image → List ℕ → Type 0) (lot : LotView) (v : SetView) (old : D) (w : SetView) (new : D) : Type 0 where
+pub record HeldBack {D : Type 0} (state : D → DiskState) (left : D → ℕ → Image → List ℕ → Type 0) (lot : LotView) (v : SetView) (old : D)
+    (w : SetView) (new : D) : Type 0 where
   pub still : Still state left old new
   pub homes : AreHomes (lot_places lot) v.entries → AreHomes (lot_places lot) w.entries
 

@@ -48,9 +48,11 @@ target-set header n v xs less is e =
     let rest : List ℕ = replicate (240 - (n + 1)) 0 in
     let one : 240 - n ≡ suc (240 - (n + 1)) = omega arith in
     let zeros : replicate (240 - n) 0 ≡ 0 ∷ rest = ap (λ (k : ℕ). replicate k 0) one in
-    let seam : slice_set (ts ++ 0 ∷ rest) n v ≡ ts ++ v ∷ rest = subst (λ (k : ℕ). slice_set (ts ++ 0 ∷ rest) k v ≡ ts ++ v ∷ rest) (targets-length header n) (set-append_seam ts 0 rest v) in
+    let seam : slice_set (ts ++ 0 ∷ rest) n v ≡ ts ++ v ∷ rest = subst (λ (k : ℕ). slice_set (ts ++ 0 ∷ rest) k v ≡ ts ++ v ∷ rest)
+    (targets-length header n) (set-append_seam ts 0 rest v) in
     let word : ts ++ v ∷ [] ≡ targets_in header (n + 1) = ap (λ (w : ℕ). ts ++ w ∷ []) is ∙ sym (targets-more header n) in
-    ap (λ (x : List ℕ). slice_set x n v) (e ∙ ap (λ (r : List ℕ). ts ++ r) zeros) ∙ seam ∙ sym (append_assoc ts (v ∷ []) rest) ∙ ap (λ (x : List ℕ). x ++ rest) word
+    ap (λ (x : List ℕ). slice_set x n v) (e ∙ ap (λ (r : List ℕ). ts ++ r) zeros) ∙ seam ∙ sym (append_assoc ts (v ∷ []) rest)
+    ∙ ap (λ (x : List ℕ). x ++ rest) word
 
 pub targets-filled : (header : List ℕ) (n : ℕ) (xs : List ℕ) → xs ≡ targets_in header n ++ replicate (240 - n) 0 → xs ≡ filled (targets_in header n)
 targets-filled header n xs e = e ∙ ap (λ (k : ℕ). targets_in header n ++ replicate (240 - k) 0) (sym (targets-length header n))
@@ -78,7 +80,8 @@ differ-distinct [] h = _
 differ-distinct (x ∷ xs) h = (has-none x xs (grind arith), differ-distinct xs (grind arith))
 
 rising-tail : (x : ℕ) (xs : List ℕ) → IsStrictlyIncreasing (x ∷ xs) → IsStrictlyIncreasing xs
-rising-tail x xs up = λ k h. let e : suc k + 1 ≡ suc (k + 1) = omega arith in subst (λ (j : ℕ). slice_index xs k < slice_index (x ∷ xs) j) e (up (suc k) (omega (arith, h)))
+rising-tail x xs up =
+    λ k h. let e : suc k + 1 ≡ suc (k + 1) = omega arith in subst (λ (j : ℕ). slice_index xs k < slice_index (x ∷ xs) j) e (up (suc k) (omega (arith, h)))
 
 above : (x : ℕ) (xs : List ℕ) (y : ℕ) → IsStrictlyIncreasing (x ∷ xs) → y ≤ x → has xs y ≡ false
 unfolding has
@@ -102,13 +105,15 @@ differ-moved xs ys moved h = distinct-differ ys (IsDistinct-IsPermutation eqb (�
     eqb-flip x y = grind (arith, nat_tests)
 
 -- Numbers differ exactly where they rise once they are sorted.
-pub differ-sorted : (xs ys : List ℕ) (b : Bool) → IsPermutation xs ys → IsSorted nat_cmp ys → (b ≡ true → IsStrictlyIncreasing ys) → (IsStrictlyIncreasing ys → b ≡ true) → b ≡ all_differ xs
+pub differ-sorted : (xs ys : List ℕ) (b : Bool) → IsPermutation xs ys → IsSorted nat_cmp ys → (b ≡ true → IsStrictlyIncreasing ys)
+    → (IsStrictlyIncreasing ys → b ≡ true) → b ≡ all_differ xs
 differ-sorted xs ys b moved sorted rise said = by (all_differ xs) refl b refl
   where
     by : (a : Bool) → all_differ xs ≡ a → (b2 : Bool) → b ≡ b2 → b ≡ a
     by true is true t = t
     by false is false t = t
-    by true is false t = said (IsStrictlyIncreasing-from_distinct ys (IsNonDecreasingBy-from_sort (λ x. x) ys sorted) (differ-distinct ys (differ-moved xs ys moved is)))
+    by true is false t =
+        said (IsStrictlyIncreasing-from_distinct ys (IsNonDecreasingBy-from_sort (λ x. x) ys sorted) (differ-distinct ys (differ-moved xs ys moved is)))
     by false is true t = absurd (let f : all_differ xs ≡ true = differ-moved ys xs (IsPermutation-sym xs ys moved) (rising-differ ys (rise t)) in cc)
 
 -- ---- what was read
@@ -363,7 +368,8 @@ may_be lot a few is = grind (arith, nat_tests)
 
 -- ---- what was written
 
-taken-said : (header : List ℕ) (n : ℕ) (xs : List ℕ) → n ≤ length xs → ((i : ℕ) → i < n → word_at header (16 + 4 * i) ≡ slice_index xs i) → targets_in header n ≡ take n xs
+taken-said : (header : List ℕ) (n : ℕ) (xs : List ℕ) → n ≤ length xs → ((i : ℕ) → i < n → word_at header (16 + 4 * i) ≡ slice_index xs i)
+    → targets_in header n ≡ take n xs
 taken-said header n xs few same =
     let long = targets-length header n in
     let short : length (take n xs) ≡ n = length-take-le n xs few in
@@ -378,7 +384,8 @@ room-said most may header proper few =
     ap (λ (xs : List ℕ). length xs) whole ∙ (omega (arith, length-append ts (replicate (240 - length ts) 0), length-replicate {A = ℕ} (240 - length ts) 0))
 
 -- one more target written
-pub write-more : (header : Header) (b0 b b' : List ℕ) (n v : ℕ) → ((i : ℕ) → i < n → word_at b (16 + 4 * i) ≡ slice_index header.targets i) → SameBeside 16 (4 * n) b0 b → WordSet b (16 + 4 * n) v b' → v ≡ slice_index header.targets n
+pub write-more : (header : Header) (b0 b b' : List ℕ) (n v : ℕ) → ((i : ℕ) → i < n → word_at b (16 + 4 * i) ≡ slice_index header.targets i)
+    → SameBeside 16 (4 * n) b0 b → WordSet b (16 + 4 * n) v b' → v ≡ slice_index header.targets n
     → ((i : ℕ) → i < n + 1 → word_at b' (16 + 4 * i) ≡ slice_index header.targets i) × SameBeside 16 (4 * (n + 1)) b0 b'
 write-more header b0 b b' n v said others w is = (
   λ i h. elim (below-or-last i n h) [

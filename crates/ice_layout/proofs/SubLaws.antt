@@ -28,7 +28,8 @@ same_sub : (x y : SubSuper) → x.version ≡ y.version → x.slot ≡ y.slot �
 unfolding make
 same_sub x y p q r s t u = make-same x.version x.slot x.mode x.done x.blocks x.nodes y.version y.slot y.mode y.done y.blocks y.nodes p q r s t u
 
-module _ (sub : SubSuper) (b1 b2 b4 b5 b6 b7 : List ℕ) (w1 : WordSet zero_block 0 sub_magic b1) (w2 : WordSet b1 4 sub.version b2) (long : length b2 ≡ 1024) (is : b4 ≡ slice_set (slice_set b2 8 sub.slot) 9 sub.mode)
+module _ (sub : SubSuper) (b1 b2 b4 b5 b6 b7 : List ℕ) (w1 : WordSet zero_block 0 sub_magic b1) (w2 : WordSet b1 4 sub.version b2)
+    (long : length b2 ≡ 1024) (is : b4 ≡ slice_set (slice_set b2 8 sub.slot) 9 sub.mode)
     (w5 : LongSet b4 16 sub.done b5) (w6 : WordSet b5 24 sub.blocks b6) (w7 : WordSet b6 28 sub.nodes b7) where
   s4 : SameBeside 8 2 b2 b4
   s4 = rw is (set_beside b2 sub.slot sub.mode)
@@ -38,10 +39,15 @@ module _ (sub : SubSuper) (b1 b2 b4 b5 b6 b7 : List ℕ) (w1 : WordSet zero_bloc
   byte k low = w7.others k (inl (omega arith)) ∙ w6.others k (inl (omega arith)) ∙ w5.others k (inl (omega arith))
 
   magic : word_at b7 0 ≡ sub_magic
-  magic = word-beside b6 b7 28 4 0 w7.others (inl (omega arith)) ∙ word-beside b5 b6 24 4 0 w6.others (inl (omega arith)) ∙ word-beside b4 b5 16 8 0 w5.others (inl (omega arith)) ∙ word-beside b2 b4 8 2 0 s4 (inl (omega arith)) ∙ word-beside b1 b2 4 4 0 w2.others (inl (omega arith)) ∙ w1.value
+  magic =
+      word-beside b6 b7 28 4 0 w7.others (inl (omega arith)) ∙ word-beside b5 b6 24 4 0 w6.others (inl (omega arith))
+      ∙ word-beside b4 b5 16 8 0 w5.others (inl (omega arith)) ∙ word-beside b2 b4 8 2 0 s4 (inl (omega arith))
+      ∙ word-beside b1 b2 4 4 0 w2.others (inl (omega arith)) ∙ w1.value
 
   version : word_at b7 4 ≡ sub.version
-  version = word-beside b6 b7 28 4 4 w7.others (inl (omega arith)) ∙ word-beside b5 b6 24 4 4 w6.others (inl (omega arith)) ∙ word-beside b4 b5 16 8 4 w5.others (inl (omega arith)) ∙ word-beside b2 b4 8 2 4 s4 (inl (omega arith)) ∙ w2.value
+  version =
+      word-beside b6 b7 28 4 4 w7.others (inl (omega arith)) ∙ word-beside b5 b6 24 4 4 w6.others (inl (omega arith))
+      ∙ word-beside b4 b5 16 8 4 w5.others (inl (omega arith)) ∙ word-beside b2 b4 8 2 4 s4 (inl (omega arith)) ∙ w2.value
 
   slot : slice_index b7 8 ≡ sub.slot
   slot = byte 8 (omega arith) ∙ rw is (set_first b2 sub.slot sub.mode long)

@@ -36,15 +36,21 @@ unfolding make
 super_same x y s g = make-same x.slots x.groups y.slots y.groups s g
 
 -- five numbers written over zeros
-pub super_written : (sup : Super) (b1 b2 b3 b4 b5 : List ℕ) (s g t : ℕ) → is_geometry sup ≡ true → s ≡ sup.slots → g ≡ sup.groups → t ≡ total_blocks sup.slots sup.groups
+pub super_written : (sup : Super) (b1 b2 b3 b4 b5 : List ℕ) (s g t : ℕ) → is_geometry sup ≡ true → s ≡ sup.slots → g ≡ sup.groups
+    → t ≡ total_blocks sup.slots sup.groups
     → WordSet zero_block 0 super_magic b1 → WordSet b1 4 1 b2 → WordSet b2 8 s b3 → WordSet b3 12 g b4 → WordSet b4 16 t b5 → IsSuper sup b5
 unfolding super_fault
 super_written sup b1 b2 b3 b4 b5 s g t geometry is_s is_g is_t w1 w2 w3 w4 w5 =
-    let magic : word_at b5 0 ≡ super_magic = word-others b4 b5 16 _ 0 w5 (inl (omega arith)) ∙ word-others b3 b4 12 _ 0 w4 (inl (omega arith)) ∙ word-others b2 b3 8 _ 0 w3 (inl (omega arith)) ∙ word-others b1 b2 4 _ 0 w2 (inl (omega arith)) ∙ w1.value in
-    let version : word_at b5 4 ≡ 1 = word-others b4 b5 16 _ 4 w5 (inl (omega arith)) ∙ word-others b3 b4 12 _ 4 w4 (inl (omega arith)) ∙ word-others b2 b3 8 _ 4 w3 (inl (omega arith)) ∙ w2.value in
-    let slots : word_at b5 8 ≡ sup.slots = word-others b4 b5 16 _ 8 w5 (inl (omega arith)) ∙ word-others b3 b4 12 _ 8 w4 (inl (omega arith)) ∙ w3.value ∙ is_s in
+    let magic : word_at b5 0 ≡ super_magic = word-others b4 b5 16 _ 0 w5 (inl (omega arith))
+    ∙ word-others b3 b4 12 _ 0 w4 (inl (omega arith)) ∙ word-others b2 b3 8 _ 0 w3 (inl (omega arith))
+    ∙ word-others b1 b2 4 _ 0 w2 (inl (omega arith)) ∙ w1.value in
+    let version : word_at b5 4 ≡ 1 = word-others b4 b5 16 _ 4 w5 (inl (omega arith)) ∙ word-others b3 b4 12 _ 4 w4 (inl (omega arith))
+    ∙ word-others b2 b3 8 _ 4 w3 (inl (omega arith)) ∙ w2.value in
+    let slots : word_at b5 8 ≡ sup.slots = word-others b4 b5 16 _ 8 w5 (inl (omega arith))
+    ∙ word-others b3 b4 12 _ 8 w4 (inl (omega arith)) ∙ w3.value ∙ is_s in
     let groups : word_at b5 12 ≡ sup.groups = word-others b4 b5 16 _ 12 w5 (inl (omega arith)) ∙ w4.value ∙ is_g in
-    let rest : (k : ℕ) → 20 ≤ k → slice_index b5 k ≡ 0 = λ k h. w5.others k (inr (omega arith)) ∙ w4.others k (inr (omega arith)) ∙ w3.others k (inr (omega arith)) ∙ w2.others k (inr (omega arith)) ∙ w1.others k (inr (omega arith)) ∙ zero_at k in
+    let rest : (k : ℕ) → 20 ≤ k → slice_index b5 k ≡ 0 = λ k h. w5.others k (inr (omega arith)) ∙ w4.others k (inr (omega arith))
+    ∙ w3.others k (inr (omega arith)) ∙ w2.others k (inr (omega arith)) ∙ w1.others k (inr (omega arith)) ∙ zero_at k in
     let total : word_at b5 16 ≡ total_blocks sup.slots sup.groups = w5.value ∙ is_t in
     let zeros = zero_from-each 20 b5 rest in
     record {

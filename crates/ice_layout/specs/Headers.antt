@@ -43,11 +43,13 @@ targets_in header n = map (λ i. word_at header (16 + 4 * i)) (range_with_len 0 
 
 -- a header's targets: 1 to `most` different homes
 abbrev pub targets_of : ℕ → (ℕ → Bool) → List ℕ → ℕ → Option (List ℕ)
-targets_of most home header n = if between 1 most n && (list_all home (targets_in header n) && all_differ (targets_in header n)) then Some (targets_in header n) else None
+targets_of most home header n =
+    if between 1 most n && (list_all home (targets_in header n) && all_differ (targets_in header n)) then Some (targets_in header n) else None
 
 -- the targets of a lot's header, or None where it is refused: the magic, the slot in the byte at 4, the number of targets at 8
 unfoldable pub slot_targets : LotView → List ℕ → Option (List ℕ)
-slot_targets lot header = if word_at header 0 == slot_magic && slice_index header 4 == lot.slot then targets_of 240 (is_address lot) header (word_at header 8) else None
+slot_targets lot header =
+    if word_at header 0 == slot_magic && slice_index header 4 == lot.slot then targets_of 240 (is_address lot) header (word_at header 8) else None
 
 -- the targets of the header of the tables
 unfoldable pub system_targets : List ℕ → Option (List ℕ)

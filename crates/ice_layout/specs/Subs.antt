@@ -23,7 +23,8 @@ sub_rule slot bytes =
 
 -- what a sub-super block says
 abbrev pub sub_of : List ℕ → SubSuper
-sub_of bytes = record { version = word_at bytes 4; slot = slice_index bytes 8; mode = slice_index bytes 9; done = long_at bytes 16; blocks = word_at bytes (count_place false); nodes = word_at bytes (count_place true) }
+sub_of bytes =
+    record { version = word_at bytes 4; slot = slice_index bytes 8; mode = slice_index bytes 9; done = long_at bytes 16; blocks = word_at bytes (count_place false); nodes = word_at bytes (count_place true) }
 
 -- the bytes break none of these rules, and say this
 pub record IsSub (slot : ℕ) (sub : SubSuper) (bytes : List ℕ) : Type 0 where

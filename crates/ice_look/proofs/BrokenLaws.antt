@@ -31,7 +31,8 @@ slice-has xs k x is = subst (Contains xs) (get_or_from_slice_get xs k x x is) (C
 
 named-row : (rows : List DirRow) (c : List ℕ) (j : ℕ) → look_up c rows ≡ Some j → (row : DirRow) × Contains rows row × (row.1 ≡ j)
 named-row rows c j is =
-    elim (find (named c) rows) as (λ o. find (named c) rows ≡ o → option_map (λ (row : DirRow). row.1) o ≡ Some j → (row : DirRow) × Contains rows row × (row.1 ≡ j)) [
+    elim (find (named c) rows) as (λ o. find (named c) rows ≡ o → option_map (λ (row : DirRow). row.1) o ≡ Some j
+    → (row : DirRow) × Contains rows row × (row.1 ≡ j)) [
       | None ↦ λ e h. absurd (none h)
       | Some row ↦ λ e h. (row, slice-has rows (position_or_len (named c) rows) row (sym (find_at (named c) rows) ∙ e), some row.1 h)
     ] refl is
@@ -52,23 +53,27 @@ block-below form x n e kind h =
     omega (arith, l, b, s, small)
 
 -- an inode that row k of a directory names
-pub row-reached : (form : Form) (lot : LotView) (m : ℕ → List ℕ) (i k : ℕ) (c : List ℕ) (j : ℕ) → IsReached form lot m i → IsDirectory lot (inode_of m i) → slice_get (dir_rows_of form m i) k ≡ Some (c, j) → Reached form lot m j
+pub row-reached : (form : Form) (lot : LotView) (m : ℕ → List ℕ) (i k : ℕ) (c : List ℕ) (j : ℕ) → IsReached form lot m i
+    → IsDirectory lot (inode_of m i) → slice_get (dir_rows_of form m i) k ≡ Some (c, j) → Reached form lot m j
 row-reached form lot m i k c j r dir is = Named i j c r.by dir (slice-has (dir_rows_of form m i) k (c, j) is)
 
 -- an inode that a name leads to
-pub named-reached : (form : Form) (lot : LotView) (m : ℕ → List ℕ) (i : ℕ) (c : List ℕ) (j : ℕ) → IsReached form lot m i → IsDirectory lot (inode_of m i) → look_up c (dir_rows_of form m i) ≡ Some j → Reached form lot m j
+pub named-reached : (form : Form) (lot : LotView) (m : ℕ → List ℕ) (i : ℕ) (c : List ℕ) (j : ℕ) → IsReached form lot m i
+    → IsDirectory lot (inode_of m i) → look_up c (dir_rows_of form m i) ≡ Some j → Reached form lot m j
 named-reached form lot m i c j r dir is =
     let x = named-row (dir_rows_of form m i) c j is in
     subst (Reached form lot m) x.2 (Named i x.0.1 x.0.0 r.by dir x.1)
 
 -- what row k of a directory leads to
-pub entry-is : (form : Form) (lot : LotView) (m : ℕ → List ℕ) (dir k : ℕ) (c : List ℕ) (j : ℕ) → slice_get (dir_rows_of form m dir) k ≡ Some (c, j) → (r : Result Place OpFault)
+pub entry-is : (form : Form) (lot : LotView) (m : ℕ → List ℕ) (dir k : ℕ) (c : List ℕ) (j : ℕ)
+    → slice_get (dir_rows_of form m dir) k ≡ Some (c, j) → (r : Result Place OpFault)
     → IfOk r (PlaceOf j) → IfOk r (PlaceIs m) → IfOk r (PlaceReached form lot m) → IfOk r (IsEntry form lot m dir k)
 entry-is form lot m dir k c j row (Ok p) at is by = record { name = c; inode = j; row = row; is = is; reached = by; at = at }
 entry-is form lot m dir k c j row (Err e) at is by = tt
 
 -- what a name of a directory leads to
-pub place-named : (form : Form) (m : ℕ → List ℕ) (dir entries : ℕ) (c : List ℕ) (j : ℕ) → look_up c (dir_rows_of form m dir) ≡ Some j → (p : Place) → PlaceOf j p → PlaceNamed form m (Dir dir entries) c p
+pub place-named : (form : Form) (m : ℕ → List ℕ) (dir entries : ℕ) (c : List ℕ) (j : ℕ) → look_up c (dir_rows_of form m dir) ≡ Some j
+    → (p : Place) → PlaceOf j p → PlaceNamed form m (Dir dir entries) c p
 place-named form m dir entries c j is (File number size) at = is ∙ ap (λ x. Some x) (sym at)
 place-named form m dir entries c j is (Dir number size) at = is ∙ ap (λ x. Some x) (sym at)
 place-named form m dir entries c j is Missing at = tt
@@ -76,14 +81,17 @@ place-named form m dir entries c j is Blocked at = tt
 
 module _ (form : Form) (e64 : form ≡ form_one) (lot : LotView) (m : ℕ → List ℕ) (i : ℕ) (reached : IsReached form lot m i) where
   -- a name that leads to the root or to no inode of the lot
-  pub named-broken : IsDirectory lot (inode_of m i) → (c : List ℕ) (j : ℕ) → look_up c (dir_rows_of form m i) ≡ Some j → (j ≡ 0) ⊎ (64 * length lot.groups ≤ j) → BadEntry form lot m
+  pub named-broken : IsDirectory lot (inode_of m i) → (c : List ℕ) (j : ℕ) → look_up c (dir_rows_of form m i) ≡ Some j
+      → (j ≡ 0) ⊎ (64 * length lot.groups ≤ j) → BadEntry form lot m
   named-broken dir c j is past =
       let x = named-row (dir_rows_of form m i) c j is in
       record { number = i; row = x.0; reached = reached; dir = dir; has = x.1; bad = subst (λ n. (n ≡ 0) ⊎ (64 * length lot.groups ≤ n)) (sym x.2) past }
 
   -- so does row k
-  pub row-broken : IsDirectory lot (inode_of m i) → (k : ℕ) (c : List ℕ) (j : ℕ) → slice_get (dir_rows_of form m i) k ≡ Some (c, j) → (j ≡ 0) ⊎ (64 * length lot.groups ≤ j) → BadEntry form lot m
-  row-broken dir k c j is past = record { number = i; row = (c, j); reached = reached; dir = dir; has = slice-has (dir_rows_of form m i) k (c, j) is; bad = past }
+  pub row-broken : IsDirectory lot (inode_of m i) → (k : ℕ) (c : List ℕ) (j : ℕ) → slice_get (dir_rows_of form m i) k ≡ Some (c, j)
+      → (j ≡ 0) ⊎ (64 * length lot.groups ≤ j) → BadEntry form lot m
+  row-broken dir k c j is past =
+      record { number = i; row = (c, j); reached = reached; dir = dir; has = slice-has (dir_rows_of form m i) k (c, j) is; bad = past }
 
   -- a search for a name
   pub find-broken : (e : OpFault) → IsFindFault e → (e ≡ Damaged Kind → ¬ IsDirectory lot (inode_of m i)) → IsNode lot (inode_of m i) → (inode_of m i).kind ≡ 2
@@ -101,7 +109,8 @@ module _ (form : Form) (e64 : form ≡ form_one) (lot : LotView) (m : ℕ → Li
 
   -- a read of an entry
   pub entry-broken : (k : ℕ) → HasEntry lot k (inode_of m i) → (e : OpFault) → IsEntryFault e → (e ≡ Damaged Kind → HasEntry lot k (inode_of m i) → ⊥)
-      → (e ≡ Damaged Pointer → leads lot m (inode_of m i) (k / per_block form) ≡ false) → (e ≡ Damaged BadNameRule → IfSome (slice_get (dir_rows_of form m i) k) (λ row. is_name row.0 ≡ false)) → IsBrokenBy form lot m e
+      → (e ≡ Damaged Pointer → leads lot m (inode_of m i) (k / per_block form) ≡ false)
+      → (e ≡ Damaged BadNameRule → IfSome (slice_get (dir_rows_of form m i) k) (λ row. is_name row.0 ≡ false)) → IsBrokenBy form lot m e
   entry-broken k has Disk h kind p n = tt
   entry-broken k has (Damaged Kind) h kind p n = absurd (kind refl has)
   entry-broken k has (Damaged Pointer) h kind p n =

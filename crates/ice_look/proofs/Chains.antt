@@ -26,14 +26,16 @@ by_paths long deep = if long then Some why.NameLong else (if deep then Some why.
 
 -- ---- over plain tests
 
-stat_by : (long deep : Bool) (w : Walk) → lowest long (deep || false) (is_not_found w || false) ((is_not_dir w || false) || false) false false false false false false false false false false ≡ or_else (by_paths long deep) (walk_refusal w)
+stat_by : (long deep : Bool) (w : Walk)
+    → lowest long (deep || false) (is_not_found w || false) ((is_not_dir w || false) || false) false false false false false false false false false false ≡ or_else (by_paths long deep) (walk_refusal w)
 stat_by true deep w = refl
 stat_by false true w = refl
 stat_by false false (Found t) = refl
 stat_by false false NotFound = refl
 stat_by false false NotDir = refl
 
-list_by : (long deep : Bool) (w : Walk) → lowest long (deep || false) (is_not_found w || false) ((is_not_dir w || false) || is_file_found w) false false false false false false false false false false ≡ or_else (by_paths long deep) (dir_refusal w)
+list_by : (long deep : Bool) (w : Walk)
+    → lowest long (deep || false) (is_not_found w || false) ((is_not_dir w || false) || is_file_found w) false false false false false false false false false false ≡ or_else (by_paths long deep) (dir_refusal w)
 list_by true deep w = refl
 list_by false true w = refl
 list_by false false (Found (File bytes)) = refl

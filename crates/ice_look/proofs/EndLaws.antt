@@ -15,7 +15,8 @@ use Rattle.tree_spec.proofs.Accepted.{first_false, second_false}
 use Rattle.ice_look.specs.Stages.{paths_refusal}
 
 -- the names from the depth on end with the last name
-pub names-last : (path : List (List ℕ)) (depth last : ℕ) (name : List ℕ) → depth ≤ last → last + 1 ≡ length path → name ≡ get_or path last [] → drop depth path ≡ take (last - depth) (drop depth path) ++ name ∷ []
+pub names-last : (path : List (List ℕ)) (depth last : ℕ) (name : List ℕ) → depth ≤ last → last + 1 ≡ length path
+    → name ≡ get_or path last [] → drop depth path ≡ take (last - depth) (drop depth path) ++ name ∷ []
 names-last path depth last name h e is =
     let long = length-drop depth path in
     sym (take_all (last + 1 - depth) (drop depth path) (omega arith)) ∙ names-next path depth last name h (omega arith) is
@@ -27,7 +28,8 @@ parent-more (d ∷ e ∷ names) c = ap (λ q. d ∷ q) (parent-more (e ∷ names
 
 module _ (f : Form) (o : Table) (t : Tree) where
   -- of the root both are the root
-  pub ends-root : (path : List (List ℕ)) (depth n : ℕ) (root : Place) → length path ≡ depth → root ≡ place_at f o (take n (drop depth path)) t → IsEnds f o (drop depth path) t (record { parent = root; end = root })
+  pub ends-root : (path : List (List ℕ)) (depth n : ℕ) (root : Place) → length path ≡ depth
+      → root ≡ place_at f o (take n (drop depth path)) t → IsEnds f o (drop depth path) t (record { parent = root; end = root })
   ends-root path depth n root e is =
       let long = length-drop depth path in
       let none : drop depth path ≡ [] = nil_from_length (drop depth path) (omega arith) in
@@ -38,7 +40,8 @@ module _ (f : Form) (o : Table) (t : Tree) where
       }
 
   -- of any other path
-  pub ends-more : (names whole : List (List ℕ)) (c : List ℕ) (p e : Place) → whole ≡ names ++ c ∷ [] → p ≡ place_at f o names t → e ≡ place_at f o (names ++ c ∷ []) t → IsEnds f o whole t (record { parent = p; end = e })
+  pub ends-more : (names whole : List (List ℕ)) (c : List ℕ) (p e : Place) → whole ≡ names ++ c ∷ [] → p ≡ place_at f o names t
+      → e ≡ place_at f o (names ++ c ∷ []) t → IsEnds f o whole t (record { parent = p; end = e })
   ends-more names whole c p e is at_p at_e = record {
     at_parent = at_p ∙ ap (λ ns. place_at f o ns t) (sym (ap parent is ∙ parent-more names c));
     at_end = at_e ∙ ap (λ ns. place_at f o ns t) (sym is);
@@ -60,16 +63,19 @@ none-long true b h = absurd cc
 none-long false b h = refl
 
 -- it is name `last` of the path
-pub last-is : (path : List (List ℕ)) (depth last : ℕ) (name : List ℕ) → depth ≤ last → last + 1 ≡ length path → name ≡ get_or path last [] → name ≡ last_name (drop depth path)
+pub last-is : (path : List (List ℕ)) (depth last : ℕ) (name : List ℕ) → depth ≤ last → last + 1 ≡ length path → name ≡ get_or path last []
+    → name ≡ last_name (drop depth path)
 last-is path depth last name h e is =
     let whole = names-last path depth last name h e is in
     sym (ap last_name whole ∙ last-more (take (last - depth) (drop depth path)) name)
 
 -- and not too long, where no name is
-pub last-short : (f : Form) (path : List (List ℕ)) (depth last : ℕ) (name : List ℕ) → depth ≤ last → last + 1 ≡ length path → name ≡ get_or path last [] → paths_refusal f (drop depth path ∷ []) ≡ None → length name ≤ f.longest_name
+pub last-short : (f : Form) (path : List (List ℕ)) (depth last : ℕ) (name : List ℕ) → depth ≤ last → last + 1 ≡ length path
+    → name ≡ get_or path last [] → paths_refusal f (drop depth path ∷ []) ≡ None → length name ≤ f.longest_name
 last-short f path depth last name h e is none =
     let long : List ℕ → Bool = λ (c : List ℕ). nat_lt f.longest_name (length c) in
     let whole = names-last path depth last name h e is in
-    let each : list_any long (drop depth path) ≡ false = first_false (list_any long (drop depth path)) false (none-long (list_any (λ p. list_any (λ c. nat_lt f.longest_name (length c)) p) (drop depth path ∷ [])) _ none) in
+    let each : list_any long (drop depth path) ≡ false = first_false (list_any long (drop depth path)) false
+    (none-long (list_any (λ p. list_any (λ c. nat_lt f.longest_name (length c)) p) (drop depth path ∷ [])) _ none) in
     let one : nat_lt f.longest_name (length name) ≡ false = any-end long (take (last - depth) (drop depth path)) name (sym (ap (list_any long) whole) ∙ each) in
     grind (arith, nat_tests)

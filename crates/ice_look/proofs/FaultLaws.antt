@@ -10,7 +10,8 @@ use Rattle.ice_rules.specs.Rules.{rule_number}
 use Rattle.ice_look.specs.Outcomes.{refusal_by}
 
 -- a fault as a refusal names the fault's rule
-pub fault-names : (P : Rule → Type 0) (e : OpFault) (r : Refusal) → r ≡ refusal_by e → IsFaultBy P e → {A : Type 0} (n : ℕ) → IsErrOf {T = A} (Err r) (code.Damaged n) → (x : Rule) × (n ≡ rule_number x) × P x
+pub fault-names : (P : Rule → Type 0) (e : OpFault) (r : Refusal) → r ≡ refusal_by e → IsFaultBy P e → {A : Type 0} (n : ℕ)
+    → IsErrOf {T = A} (Err r) (code.Damaged n) → (x : Rule) × (n ≡ rule_number x) × P x
 fault-names P e r is h {A} n named = by e h (sym is ∙ error named)
   where
     error : IsErrOf {T = A} (Err r) (code.Damaged n) → r ≡ code.Damaged n

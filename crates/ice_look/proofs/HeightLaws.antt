@@ -69,7 +69,8 @@ sum-none [] = refl
 sum-none (r ∷ rs) = let e = sum_by-cons (many Nil) r rs in let n = sum-none rs in omega arith
 
 -- rows of other names don't see the first entry
-sum-past : (c : List ℕ) (t : Tree) (es : Entries) (rs : List DirRow) → AllByRecursion (λ y. eq_by_cmp by_bytes c y ≡ false) (names rs) → sum_by (many (Entry c t es)) rs ≡ sum_by (many es) rs
+sum-past : (c : List ℕ) (t : Tree) (es : Entries) (rs : List DirRow) → AllByRecursion (λ y. eq_by_cmp by_bytes c y ≡ false) (names rs)
+    → sum_by (many (Entry c t es)) rs ≡ sum_by (many es) rs
 sum-past c t es [] d = refl
 sum-past c t es (r ∷ rs) d =
     let e : eq_by_cmp by_bytes r.0 c ≡ false = is_same_name-sym r.0 c ∙ d.0 in
@@ -79,13 +80,16 @@ sum-past c t es (r ∷ rs) d =
     let y = sum_by-cons (many es) r rs in
     omega arith
 
-sum-first : (c : List ℕ) (t : Tree) (es : Entries) (rs : List DirRow) → IsDistinct (eq_by_cmp by_bytes) (names rs) → sum_by (many (Entry c t es)) rs ≤ nodes t + sum_by (many es) rs
+sum-first : (c : List ℕ) (t : Tree) (es : Entries) (rs : List DirRow) → IsDistinct (eq_by_cmp by_bytes) (names rs)
+    → sum_by (many (Entry c t es)) rs ≤ nodes t + sum_by (many es) rs
 sum-first c t es [] d = omega arith
 sum-first c t es (r ∷ rs) d =
     let x = sum_by-cons (many (Entry c t es)) r rs in
     let y = sum_by-cons (many es) r rs in
-    let step : many_of (cond (eq_by_cmp by_bytes r.0 c) (Some t) (find by_bytes r.0 (rows es))) + sum_by (many (Entry c t es)) rs ≤ nodes t + (many es r + sum_by (many es) rs) =
-    elim (eq_by_cmp by_bytes r.0 c) as (λ b. eq_by_cmp by_bytes r.0 c ≡ b → many_of (cond b (Some t) (find by_bytes r.0 (rows es))) + sum_by (many (Entry c t es)) rs ≤ nodes t + (many es r + sum_by (many es) rs)) [
+    let step : many_of (cond (eq_by_cmp by_bytes r.0 c) (Some t) (find by_bytes r.0 (rows es))) + sum_by
+    (many (Entry c t es)) rs ≤ nodes t + (many es r + sum_by (many es) rs) =
+    elim (eq_by_cmp by_bytes r.0 c) as (λ b. eq_by_cmp by_bytes r.0 c ≡ b
+    → many_of (cond b (Some t) (find by_bytes r.0 (rows es))) + sum_by (many (Entry c t es)) rs ≤ nodes t + (many es r + sum_by (many es) rs)) [
       | true ↦ λ e.
           let h = IsDistinct-head (eq_by_cmp by_bytes) r.0 (names rs) d in
           let s = sum-past c t es rs (subst (λ x. AllByRecursion (λ y. eq_by_cmp by_bytes x y ≡ false) (names rs)) (same_name r.0 c e) h) in
@@ -103,7 +107,8 @@ sum-many (Entry c t es) rs d = let e = sum-first c t es rs d in let s = sum-many
 
 none_later : (c : List ℕ) (es : Entries) → T (below_all by_bytes c (rows es)) → find by_bytes c (rows es) ≡ None
 none_later c es h =
-    ap (λ y. find by_bytes c (rows y)) (sym (no_later c c es (is_same_name-refl c) h)) ∙ find-without c c es ∙ ap (λ b. cond b None (find by_bytes c (rows es))) (is_same_name-refl c)
+    ap (λ y. find by_bytes c (rows y)) (sym (no_later c c es (is_same_name-refl c) h)) ∙ find-without c c es
+    ∙ ap (λ b. cond b None (find by_bytes c (rows es))) (is_same_name-refl c)
 
 left : (a b : Bool) → T (a && b) → T a
 left true b h = tt
@@ -114,7 +119,8 @@ right true b h = h
 right false b h = absurd h
 
 -- a directory is no higher than what stands under each of its names
-low-entries : (n : ℕ) (es : Entries) → T (is_sorted by_bytes (rows es)) → ((c : List ℕ) (t : Tree) → find by_bytes c (rows es) ≡ Some t → height t + 1 ≤ n) → height_in es ≤ n
+low-entries : (n : ℕ) (es : Entries) → T (is_sorted by_bytes (rows es))
+    → ((c : List ℕ) (t : Tree) → find by_bytes c (rows es) ≡ Some t → height t + 1 ≤ n) → height_in es ≤ n
 low-entries n Nil sorted low = omega arith
 low-entries n (Entry c t es) sorted low =
     let first : height t + 1 ≤ n = low c t (ap (λ b. cond b (Some t) (find by_bytes c (rows es))) (is_same_name-refl c)) in
@@ -146,7 +152,8 @@ module _ (f : Form) (lot : LotView) (o : Table) (i h : ℕ) (es : Entries) (r : 
       let some : is_some (find by_bytes c rs) ≡ true = sym (r.1.maps c) ∙ ap is_some is in
       let row : lookup (eq_by_cmp by_bytes c) rs ≡ Some (unwrap_or (find by_bytes c rs) 0) = sym (find-lookup c rs) ∙ some_value (find by_bytes c rs) some in
       let has : Contains rs (c, unwrap_or (find by_bytes c rs) 0) = Contains-from_lookup same_name c (unwrap_or (find by_bytes c rs) 0) rs row in
-      let at : high es (c, unwrap_or (find by_bytes c rs) 0) ≤ n = All-contains (λ (row : DirRow). high es row ≤ n) rs (c, unwrap_or (find by_bytes c rs) 0) low has in
+      let at : high es (c, unwrap_or (find by_bytes c rs) 0) ≤ n = All-contains (λ (row : DirRow). high es row ≤ n) rs
+      (c, unwrap_or (find by_bytes c rs) 0) low has in
       let e = ap high_of is in
       omega arith)
 
@@ -174,7 +181,8 @@ module _ (f : Form) (lot : LotView) (o : Table) (i h : ℕ) (es : Entries) (r : 
       record { there = s.0; entry = some-found (find by_bytes c (rows es)) s.0 s.1; reads = s.2 }
 
 -- what a read of an entry says where the directory stands for entries
-module _ (f : Form) (one : f ≡ form_one) (lot : LotView) (m : Map) (i h : ℕ) (es : Entries) (r : Reads f lot (own f m) i h (tree.Dir es)) (form : Form) (is : form ≡ form_one) (k : ℕ) (below : k < length (rows es)) where
+module _ (f : Form) (one : f ≡ form_one) (lot : LotView) (m : Map) (i h : ℕ) (es : Entries) (r : Reads f lot (own f m) i h (tree.Dir es))
+    (form : Form) (is : form ≡ form_one) (k : ℕ) (below : k < length (rows es)) where
   inode-own : (own f m i).inode ≡ inode_of m i
   inode-own = ap (λ g. (own g m i).inode) one
 
@@ -203,13 +211,17 @@ module _ (f : Form) (one : f ≡ form_one) (lot : LotView) (m : Map) (i h : ℕ)
   dir-named : IfSome (slice_get (dir_rows_of form m i) k) (λ row. is_name row.0 ≡ false) → ⊥
   dir-named wrong =
       let inside : k < length (rows_in f (own f m i)) = (let c = r.1.count in let l = length-rows_in f (own f m i) in omega arith) in
-      let good : is_name (get_or (rows_in f (own f m i)) k ([], 0)).0 ≡ true = (All-get_or (λ (row : DirRow). IsNameOf f row.0) (rows_in f (own f m i)) k ([], 0) inside r.1.fit).is in
+      let good : is_name
+      (get_or (rows_in f (own f m i)) k ([], 0)).0 ≡ true = (All-get_or (λ (row : DirRow). IsNameOf f row.0) (rows_in f (own f m i)) k
+      ([], 0) inside r.1.fit).is in
       let bad : is_name (get_or (rows_in f (own f m i)) k ([], 0)).0 ≡ false =
-      subst (λ o. IfSome o (λ (row : DirRow). is_name row.0 ≡ false)) (ap (λ rs. slice_get rs k) (sym row-here) ∙ slice_get-get_or (rows_in f (own f m i)) k ([], 0) inside) wrong in
+      subst (λ o. IfSome o (λ (row : DirRow). is_name row.0 ≡ false))
+      (ap (λ rs. slice_get rs k) (sym row-here) ∙ slice_get-get_or (rows_in f (own f m i)) k ([], 0) inside) wrong in
       absurd (subst T (sym good ∙ bad) tt)
 
   -- it fails by the disk alone
-  pub entry-fails : (e : OpFault) → IsEntryFault e → (e ≡ Damaged Kind → ¬ HasEntry lot k (inode_of m i)) → (e ≡ Damaged Pointer → leads lot m (inode_of m i) (k / per_block form) ≡ false)
+  pub entry-fails : (e : OpFault) → IsEntryFault e → (e ≡ Damaged Kind → ¬ HasEntry lot k (inode_of m i))
+      → (e ≡ Damaged Pointer → leads lot m (inode_of m i) (k / per_block form) ≡ false)
       → (e ≡ Damaged Name → IfSome (slice_get (dir_rows_of form m i) k) (λ row. is_name row.0 ≡ false)) → e ≡ Disk
   entry-fails Disk h kind pointer name = refl
   entry-fails (Damaged Kind) h kind pointer name = absurd (kind refl dir-has)
@@ -226,7 +238,8 @@ module _ (f : Form) (one : f ≡ form_one) (lot : LotView) (m : Map) (i h : ℕ)
 
 -- ---- one row more
 
-module _ (f : Form) (lot : LotView) (o : Table) (i h k : ℕ) (es : Entries) (r : Reads f lot o i h (tree.Dir es)) (p : Place) (c : IsChild f lot o i h k es p) where
+module _ (f : Form) (lot : LotView) (o : Table) (i h k : ℕ) (es : Entries) (r : Reads f lot o i h (tree.Dir es)) (p : Place)
+    (c : IsChild f lot o i h k es p) where
   child-inside : k < length (rows_in f (o i))
   child-inside = slice_get_within (rows_in f (o i)) k (c.name, c.inode) c.row
 
@@ -244,18 +257,21 @@ module _ (f : Form) (lot : LotView) (o : Table) (i h k : ℕ) (es : Entries) (r 
   child-sum = let e = sum_by-drop_more (many es) (rows_in f (o i)) k ([], 0) child-inside in let m = child-many in omega arith
 
   -- the budget is enough for row k
-  pub child-enough : (first now : ℕ) → nodes (tree.Dir es) ≤ first + 1 → first + sum_by (many es) (drop k (rows_in f (o i))) ≤ now + sum_by (many es) (rows_in f (o i)) → nodes c.tree ≤ now
+  pub child-enough : (first now : ℕ) → nodes (tree.Dir es) ≤ first + 1
+      → first + sum_by (many es) (drop k (rows_in f (o i))) ≤ now + sum_by (many es) (rows_in f (o i)) → nodes c.tree ≤ now
   child-enough first now fits spent =
       let e = child-sum in
       let s = fits-rows f lot o i h es r in
       omega arith
 
   -- and is one row further then
-  pub child-spent : (first now later : ℕ) → first + sum_by (many es) (drop k (rows_in f (o i))) ≤ now + sum_by (many es) (rows_in f (o i)) → now ≤ later + nodes c.tree
+  pub child-spent : (first now later : ℕ) → first + sum_by (many es) (drop k (rows_in f (o i))) ≤ now + sum_by (many es) (rows_in f (o i))
+      → now ≤ later + nodes c.tree
       → first + sum_by (many es) (drop (k + 1) (rows_in f (o i))) ≤ later + sum_by (many es) (rows_in f (o i))
   child-spent first now later spent step = let e = child-sum in omega arith
 
-  pub child-low : (n : ℕ) → All (λ (row : DirRow). high es row ≤ n + 1) (take k (rows_in f (o i))) → nat_lt n (height c.tree) ≡ false → All (λ (row : DirRow). high es row ≤ n + 1) (take (k + 1) (rows_in f (o i)))
+  pub child-low : (n : ℕ) → All (λ (row : DirRow). high es row ≤ n + 1) (take k (rows_in f (o i))) → nat_lt n (height c.tree) ≡ false
+      → All (λ (row : DirRow). high es row ≤ n + 1) (take (k + 1) (rows_in f (o i)))
   child-low n low is =
       All-more (λ (row : DirRow). high es row ≤ n + 1) (rows_in f (o i)) k ([], 0) child-inside low (
       let b : height c.tree ≤ n = grind (arith, nat_tests) in
@@ -279,7 +295,8 @@ module _ (f : Form) (lot : LotView) (o : Table) (i h : ℕ) (es : Entries) (r : 
       let b = low-rows f lot o i h es r n (subst (All (λ (row : DirRow). high es row ≤ n)) whole low) in
       grind (arith, nat_tests)
 
-  pub all-spent : (first now k : ℕ) → first + sum_by (many es) (drop k (rows_in f (o i))) ≤ now + sum_by (many es) (rows_in f (o i)) → first + 1 ≤ now + nodes (tree.Dir es)
+  pub all-spent : (first now k : ℕ) → first + sum_by (many es) (drop k (rows_in f (o i))) ≤ now + sum_by (many es) (rows_in f (o i))
+      → first + 1 ≤ now + nodes (tree.Dir es)
   all-spent first now k spent = let s = fits-rows f lot o i h es r in omega arith
 
 -- a directory without entries, and one with some

@@ -74,9 +74,11 @@ module _ {X : Type 0} where
   same_options (Some v) y a b = sym (a v refl)
 
   distinct-moved : (xs ys : List (List ℕ × X)) → IsPermutation xs ys → IsDistinct (eq_by_cmp by_bytes) (keys xs) → IsDistinct (eq_by_cmp by_bytes) (keys ys)
-  distinct-moved xs ys p d = IsDistinct-IsPermutation (eq_by_cmp by_bytes) is_same_name-sym (keys xs) (keys ys) (IsPermutation-map (λ (e : List ℕ × X). e.0) xs ys p) d
+  distinct-moved xs ys p d =
+      IsDistinct-IsPermutation (eq_by_cmp by_bytes) is_same_name-sym (keys xs) (keys ys) (IsPermutation-map (λ (e : List ℕ × X). e.0) xs ys p) d
 
-  find-moved : (xs ys : List (List ℕ × X)) (q : List ℕ) → IsPermutation xs ys → IsDistinct (eq_by_cmp by_bytes) (keys xs) → find by_bytes q ys ≡ find by_bytes q xs
+  find-moved : (xs ys : List (List ℕ × X)) (q : List ℕ) → IsPermutation xs ys → IsDistinct (eq_by_cmp by_bytes) (keys xs)
+      → find by_bytes q ys ≡ find by_bytes q xs
   find-moved xs ys q p d =
       same_options (find by_bytes q ys) (find by_bytes q xs)
       (λ v is. in_found q v xs d (Contains-permutation ys xs (q, v) (IsPermutation-sym xs ys p) (found_in q v ys is)))
@@ -101,7 +103,8 @@ module _ {X : Type 0} where
       both false b p q = p
 
 -- the order of keys doesn't see values
-below-map : {X Y : Type 0} (w : X → Y) (x : List ℕ) (xs : List (List ℕ × X)) → below_all by_bytes x (map (λ (e : List ℕ × X). (e.0, w e.1)) xs) ≡ below_all by_bytes x xs
+below-map : {X Y : Type 0} (w : X → Y) (x : List ℕ) (xs : List (List ℕ × X))
+    → below_all by_bytes x (map (λ (e : List ℕ × X). (e.0, w e.1)) xs) ≡ below_all by_bytes x xs
 below-map w x [] = refl
 below-map w x (e ∷ xs) = ap (λ b. is_lt (by_bytes x e.0) && b) (below-map w x xs)
 
@@ -170,7 +173,8 @@ module _ (es : Entries) where
   find-tagged : (q : List ℕ) (rs : List DirRow) → find by_bytes q (map tagged rs) ≡ cond (is_some (find by_bytes q rs)) (Some (kind_under q)) None
   find-tagged q [] = refl
   find-tagged q (e ∷ rs) =
-      elim (eq_by_cmp by_bytes q e.0) as (λ b. eq_by_cmp by_bytes q e.0 ≡ b → cond b (Some (kind_under e.0)) (find by_bytes q (map tagged rs)) ≡ cond (is_some (cond b (Some e.1) (find by_bytes q rs))) (Some (kind_under q)) None) [
+      elim (eq_by_cmp by_bytes q e.0) as (λ b. eq_by_cmp by_bytes q e.0 ≡ b
+      → cond b (Some (kind_under e.0)) (find by_bytes q (map tagged rs)) ≡ cond (is_some (cond b (Some e.1) (find by_bytes q rs))) (Some (kind_under q)) None) [
         | true ↦ λ t. ap (λ x. Some (kind_under x)) (sym (same_name q e.0 t))
         | false ↦ λ t. find-tagged q rs
       ] refl
@@ -185,32 +189,39 @@ kinds-listed (e ∷ xs) = ap (λ ys. kind_in e ∷ ys) (kinds-listed xs)
 find-kinds : (q : List ℕ) (xs : List (List ℕ × Tree)) → find by_bytes q (map kind_in xs) ≡ option_map is_dir (find by_bytes q xs)
 find-kinds q [] = refl
 find-kinds q (e ∷ xs) =
-    elim (eq_by_cmp by_bytes q e.0) as (λ b. cond b (Some (is_dir e.1)) (find by_bytes q (map kind_in xs)) ≡ option_map is_dir (cond b (Some e.1) (find by_bytes q xs))) [
+    elim (eq_by_cmp by_bytes q e.0) as (λ b. cond b (Some (is_dir e.1)) (find by_bytes q (map kind_in xs)) ≡ option_map is_dir
+    (cond b (Some e.1) (find by_bytes q xs))) [
       | true ↦ refl
       | false ↦ find-kinds q xs
     ]
 
 -- the rows of a directory, each with the kind of its tree and then sorted by name, are the tree's own entries
-pub sorted-listing : (es : Entries) (rs : List DirRow) (found : List Entry) → T (is_sorted by_bytes (rows es)) → IsDistinct (eq_by_cmp by_bytes) (map (λ (row : DirRow). row.0) rs)
-    → ((c : List ℕ) → is_some (find by_bytes c (rows es)) ≡ is_some (find by_bytes c rs)) → IsPermutation (map (listed_as es) rs) found → IsSorted by_name found → found ≡ map listed (rows es)
+pub sorted-listing : (es : Entries) (rs : List DirRow) (found : List Entry) → T (is_sorted by_bytes (rows es))
+    → IsDistinct (eq_by_cmp by_bytes) (map (λ (row : DirRow). row.0) rs)
+    → ((c : List ℕ) → is_some (find by_bytes c (rows es)) ≡ is_some (find by_bytes c rs)) → IsPermutation (map (listed_as es) rs) found
+    → IsSorted by_name found → found ≡ map listed (rows es)
 sorted-listing es rs found order differ maps moved sorted =
-    let p : IsPermutation (map (tagged es) rs) (map kind_of found) = subst (λ xs. IsPermutation xs (map kind_of found)) (kinds-rows es rs) (IsPermutation-map kind_of (map (listed_as es) rs) found moved) in
+    let p : IsPermutation (map (tagged es) rs) (map kind_of found) = subst (λ xs. IsPermutation xs (map kind_of found)) (kinds-rows es rs)
+    (IsPermutation-map kind_of (map (listed_as es) rs) found moved) in
     let d : IsDistinct (eq_by_cmp by_bytes) (keys (map (tagged es) rs)) = subst (IsDistinct (eq_by_cmp by_bytes)) (sym (keys-tagged es rs)) differ in
     let up : T (is_sorted by_bytes (map kind_of found)) = sorted-kinds found sorted (distinct-moved (map (tagged es) rs) (map kind_of found) p d) in
     let down : T (is_sorted by_bytes (map kind_in (rows es))) = subst T (sym (is_sorted-map is_dir (rows es))) order in
     let same : map kind_of found ≡ map kind_in (rows es) =
     same_entries by_bytes nat_list_cmp_total (slice_cmp-IsAntisymmetric nat_cmp-IsAntisymmetric) (map kind_of found) (map kind_in (rows es)) up down
-    (λ q. find-moved (map (tagged es) rs) (map kind_of found) q p d ∙ find-tagged es q rs ∙ ap (λ b. cond b (Some (kind_under es q)) None) (sym (maps q)) ∙ of_tree q ∙ sym (find-kinds q (rows es))) in
+    (λ q. find-moved (map (tagged es) rs) (map kind_of found) q p d ∙ find-tagged es q rs
+    ∙ ap (λ b. cond b (Some (kind_under es q)) None) (sym (maps q)) ∙ of_tree q ∙ sym (find-kinds q (rows es))) in
     sym (back found) ∙ ap (map entry_of) (same ∙ sym (kinds-listed (rows es))) ∙ back (map listed (rows es))
   where
     of_tree : (q : List ℕ) → cond (is_some (find by_bytes q (rows es))) (Some (kind_under es q)) None ≡ option_map is_dir (find by_bytes q (rows es))
     of_tree q =
-        elim (find by_bytes q (rows es)) as (λ r. cond (is_some r) (Some (is_dir (tree_found (found_or_not r)))) None ≡ option_map is_dir r) [ None ↦ refl | Some t ↦ refl ]
+        elim (find by_bytes q (rows es)) as (λ r. cond (is_some r)
+        (Some (is_dir (tree_found (found_or_not r)))) None ≡ option_map is_dir r) [ None ↦ refl | Some t ↦ refl ]
 
 -- ---- one row
 
 -- the tree of a row
-pub row-tree : (f : Form) (lot : LotView) (o : Table) (i h : ℕ) (es : Entries) → Reads f lot o i h (Dir es) → (k : ℕ) (c : List ℕ) (j : ℕ) → slice_get (rows_in f (o i)) k ≡ Some (c, j)
+pub row-tree : (f : Form) (lot : LotView) (o : Table) (i h : ℕ) (es : Entries) → Reads f lot o i h (Dir es) → (k : ℕ) (c : List ℕ) (j : ℕ)
+    → slice_get (rows_in f (o i)) k ≡ Some (c, j)
     → (s : Tree) × (child c (Dir es) ≡ Found s) × Reads f lot o j (h + 1) s
 row-tree f lot o i h es r k c j is =
     let found = find-lookup c (rows_in f (o i)) ∙ lookup_from_place (eq_by_cmp_equiv nat_list_cmp_total) (rows_in f (o i)) k c j r.1.differ is in
@@ -229,7 +240,8 @@ pub shows-file : (p : Place) (j : ℕ) (s : Tree) (b : Bool) → p ≡ place_by 
 shows-file p j (tree.File bytes) b at not t = t
 shows-file p j (Dir es) b at not t = absurd (not j (length (rows es)) at)
 
-pub listed-row : (es : Entries) (row : DirRow) (c : List ℕ) (j : ℕ) (s : Tree) (e : Entry) → row ≡ (c, j) → child c (Dir es) ≡ Found s → e.name ≡ c → e.dir ≡ is_dir s → e ≡ listed_as es row
+pub listed-row : (es : Entries) (row : DirRow) (c : List ℕ) (j : ℕ) (s : Tree) (e : Entry) → row ≡ (c, j) → child c (Dir es) ≡ Found s
+    → e.name ≡ c → e.dir ≡ is_dir s → e ≡ listed_as es row
 listed-row es row c j s e is found name kind =
     (λ i. entry_of (name i, kind i)) ∙ ap (λ w. entry_of (c, is_dir (tree_found w))) (sym found) ∙ ap (listed_as es) (sym is)
 
@@ -258,27 +270,33 @@ module _ (f : Form) (one : f ≡ form_one) (lot : LotView) (m : Map) (i h : ℕ)
       rw (per-sixteen form e) small
 
   -- an entry of a directory that stands for a tree fails by the disk alone
-  pub entry-fails : (k : ℕ) (form : Form) → k < length (rows es) → form ≡ form_one → (e : OpFault) → IsEntryFault e → (e ≡ Damaged Kind → HasEntry lot k (inode_of m i) → ⊥)
-      → (e ≡ Damaged Pointer → leads lot m (inode_of m i) (k / per_block form) ≡ false) → (e ≡ Damaged BadName → IfSome (slice_get (dir_rows_of form m i) k) (λ row. is_name row.0 ≡ false)) → e ≡ Disk
+  pub entry-fails : (k : ℕ) (form : Form) → k < length (rows es) → form ≡ form_one → (e : OpFault) → IsEntryFault e
+      → (e ≡ Damaged Kind → HasEntry lot k (inode_of m i) → ⊥)
+      → (e ≡ Damaged Pointer → leads lot m (inode_of m i) (k / per_block form) ≡ false)
+      → (e ≡ Damaged BadName → IfSome (slice_get (dir_rows_of form m i) k) (λ row. is_name row.0 ≡ false)) → e ≡ Disk
   entry-fails k form below en e faults kind pointer name =
       let has = entry-is k below in
       entry-faults e faults (λ q. kind q has)
-      (λ q. true_false (leads lot m (inode_of m i) (k / per_block form)) (dir-leads f one lot m i h (Dir es) r form (k / per_block form) en has.is.kind (block-below k form en has.below)) (pointer q))
+      (λ q. true_false (leads lot m (inode_of m i) (k / per_block form))
+      (dir-leads f one lot m i h (Dir es) r form (k / per_block form) en has.is.kind (block-below k form en has.below)) (pointer q))
       (λ q.
       let row = get-row form m i k en has.is.kind has.below in
       let same = ap (λ (xs : List DirRow). slice_get xs k) (rows-own f one lot m i h form en) ∙ row in
       let long = ap length (rows-own f one lot m i h form en) ∙ length-rows form m i en in
       let has_below = has.below in
       let fits : IsNameOf f (row_of form m (inode_of m i) k).0 =
-      subst (λ (x : DirRow). IsNameOf f x.0) (get_or_from_slice_get (rows_in f (own f m i)) k (row_of form m (inode_of m i) k) ([], 0) same) (r.1.fit k ([], 0) (omega arith)) in
+      subst (λ (x : DirRow). IsNameOf f x.0)
+      (get_or_from_slice_get (rows_in f (own f m i)) k (row_of form m (inode_of m i) k) ([], 0) same) (r.1.fit k ([], 0) (omega arith)) in
       true_false (is_name (row_of form m (inode_of m i) k).0) fits.is (subst (λ o. IfSome o (λ row. is_name row.0 ≡ false)) row (name q)))
 
   -- as many rows as entries
   pub rows-long : (form : Form) → form ≡ form_one → length (rows_in f (own f m i)) ≡ length (rows es)
-  rows-long form e = ap length (rows-own f one lot m i h form e) ∙ length-rows form m i e ∙ ap (λ (x : Inode). x.size) (sym (inode-own f one lot m i h)) ∙ sym r.1.count
+  rows-long form e =
+      ap length (rows-own f one lot m i h form e) ∙ length-rows form m i e ∙ ap (λ (x : Inode). x.size) (sym (inode-own f one lot m i h)) ∙ sym r.1.count
 
 -- one entry more in the room
-pub listed-more : (es : Entries) (rs : List DirRow) (k : ℕ) (old new : List Entry) → k < length rs → old ≡ map (listed_as es) (take k rs) → ((row : DirRow) → slice_get rs k ≡ Some row → new ≡ old ++ listed_as es row ∷ [])
+pub listed-more : (es : Entries) (rs : List DirRow) (k : ℕ) (old new : List Entry) → k < length rs → old ≡ map (listed_as es) (take k rs)
+    → ((row : DirRow) → slice_get rs k ≡ Some row → new ≡ old ++ listed_as es row ∷ [])
     → new ≡ map (listed_as es) (take (k + 1) rs)
 listed-more es rs k old new below was more =
     more (get_or rs k ([], 0)) (slice_get-get_or rs k ([], 0) below)

@@ -121,7 +121,8 @@ ends_blocked i NotFound is = absurd (no is)
 ends_blocked i NotDir is = refl
 
 -- the place of all the names from `depth` on
-pub whole_path : (f : Form) (o : Table) (path : List (List ℕ)) (depth end : ℕ) (t : Tree) (p q : Place) → end ≡ length path → p ≡ q → p ≡ place_at f o (take (end - depth) (drop depth path)) t → q ≡ place_at f o (drop depth path) t
+pub whole_path : (f : Form) (o : Table) (path : List (List ℕ)) (depth end : ℕ) (t : Tree) (p q : Place) → end ≡ length path → p ≡ q
+    → p ≡ place_at f o (take (end - depth) (drop depth path)) t → q ≡ place_at f o (drop depth path) t
 whole_path f o path depth end t p q all same is = sym same ∙ is ∙ ap (λ names. place_at f o names t) (names-all path depth end all)
 
 -- ---- refusals
@@ -136,7 +137,8 @@ fault_model r e model is disk = subst (λ x. AsModel (Err (refused_of x)) model)
 
 module _ (t : Tree) (k n : ℕ) (f : Form) (op : Operation) where
   -- the refusal of a stage is the model's, where it is the model's first
-  pub as_model : (r : Refused) (found : Option Why) → RefusedAs r found → ((w : Why) → found ≡ Some w → refusal t k n f op ≡ Some w) → AsModel (Err r) (answer t k n f op).0
+  pub as_model : (r : Refused) (found : Option Why) → RefusedAs r found → ((w : Why) → found ≡ Some w → refusal t k n f op ≡ Some w)
+      → AsModel (Err r) (answer t k n f op).0
   as_model Fault found is first = tt
   as_model Memory found is first = absurd is
   as_model (Because w) found is first = sym (ap (λ x. (answer_by x op t).0) (first w is))
@@ -188,7 +190,8 @@ module _ (f : Form) (one : f ≡ form_one) (lot : LotView) (m : Map) (i h : ℕ)
       reading-fails e faults (λ q. kind q (file-reaches at below))
       (λ q. let p = pointer q in
       true_false (leads lot m (inode_of m i) p.0)
-      (places-lead lot m (inode_of m i) (map_length form_one (inode_of m i)) p.0 (places-own f one lot m i h (tree.File bytes) r) (blocks-of-file (inode_of m i) p.0 (file-reaches at below).kind p.1)) p.2)
+      (places-lead lot m (inode_of m i) (map_length form_one (inode_of m i)) p.0 (places-own f one lot m i h (tree.File bytes) r)
+      (blocks-of-file (inode_of m i) p.0 (file-reaches at below).kind p.1)) p.2)
 
 -- ---- reads
 
@@ -200,13 +203,16 @@ module _ (t : Tree) (k n : ℕ) (f : Form) (p : List (List ℕ)) (at len : ℕ) 
   after = if nat_lt (length (bytes_found (walk p t))) at then Some why.BeyondEnd else None
 
   pub read-paths : (r : Refused) → RefusedAs r (paths_refusal f (p ∷ [])) → AsModel (Err r) (answer t k n f (Read p at len)).0
-  read-paths r is = as_model t k n f op r (paths_refusal f (p ∷ [])) is (λ w h. refusal_read t k n f p at len ∙ first_stage (paths_refusal f (p ∷ [])) (or_else (file_refusal (walk p t)) after) w h)
+  read-paths r is =
+      as_model t k n f op r (paths_refusal f (p ∷ [])) is
+      (λ w h. refusal_read t k n f p at len ∙ first_stage (paths_refusal f (p ∷ [])) (or_else (file_refusal (walk p t)) after) w h)
 
   module _ (names : paths_refusal f (p ∷ []) ≡ None) where
     pub read-walk : (r : Refused) → RefusedAs r (file_refusal (walk p t)) → AsModel (Err r) (answer t k n f (Read p at len)).0
     read-walk r is =
         as_model t k n f op r (file_refusal (walk p t)) is
-        (λ w h. refusal_read t k n f p at len ∙ later_stage (paths_refusal f (p ∷ [])) (or_else (file_refusal (walk p t)) after) names ∙ first_stage (file_refusal (walk p t)) after w h)
+        (λ w h. refusal_read t k n f p at len ∙ later_stage (paths_refusal f (p ∷ [])) (or_else (file_refusal (walk p t)) after) names
+        ∙ first_stage (file_refusal (walk p t)) after w h)
 
     module _ (bytes : List ℕ) (found : walk p t ≡ Found (tree.File bytes)) where
       past : refusal t k n f (Read p at len) ≡ (if nat_lt (length bytes) at then Some why.BeyondEnd else None)
@@ -222,13 +228,16 @@ module _ (t : Tree) (k n : ℕ) (f : Form) (p : List (List ℕ)) (at len : ℕ) 
       pub read-value : at ≤ length bytes → (room : List ℕ) → room ≡ take len (drop at bytes) → Ok (Bytes room) ≡ (answer t k n f (Read p at len)).0
       read-value h room is =
           let test : nat_lt (length bytes) at ≡ false = grind (arith, nat_tests) in
-          ap (λ x. Ok (Bytes x)) (is ∙ ap (λ w. take len (drop at (bytes_found w))) (sym found)) ∙ as_accepted t k n f op (past ∙ ap (λ b. if b then Some why.BeyondEnd else None) test)
+          ap (λ x. Ok (Bytes x)) (is ∙ ap (λ w. take len (drop at (bytes_found w))) (sym found))
+          ∙ as_accepted t k n f op (past ∙ ap (λ b. if b then Some why.BeyondEnd else None) test)
 
 -- ---- stats
 
 module _ (t : Tree) (k n : ℕ) (f : Form) (p : List (List ℕ)) where
   pub stat-paths : (r : Refused) → RefusedAs r (paths_refusal f (p ∷ [])) → AsModel (Err r) (answer t k n f (Stat p)).0
-  stat-paths r is = as_model t k n f (Stat p) r (paths_refusal f (p ∷ [])) is (λ w h. refusal_stat t k n f p ∙ first_stage (paths_refusal f (p ∷ [])) (walk_refusal (walk p t)) w h)
+  stat-paths r is =
+      as_model t k n f (Stat p) r (paths_refusal f (p ∷ [])) is
+      (λ w h. refusal_stat t k n f p ∙ first_stage (paths_refusal f (p ∷ [])) (walk_refusal (walk p t)) w h)
 
   module _ (names : paths_refusal f (p ∷ []) ≡ None) (w : Walk) (ends : walk p t ≡ w) where
     stat-stage : refusal t k n f (Stat p) ≡ walk_refusal w
@@ -238,13 +247,16 @@ module _ (t : Tree) (k n : ℕ) (f : Form) (p : List (List ℕ)) where
     stat-none r is = as_model t k n f (Stat p) (Because r) (walk_refusal w) is (λ v h. stat-stage ∙ h)
 
     pub stat-value : (u : Tree) → w ≡ Found u → (value : Accepted) → value ≡ stat_value u → Ok value ≡ (answer t k n f (Stat p)).0
-    stat-value u is value same = ap (λ x. Ok x) (same ∙ ap (λ v. stat_value (tree_found v)) (sym (ends ∙ is))) ∙ as_accepted t k n f (Stat p) (stat-stage ∙ ap walk_refusal is)
+    stat-value u is value same =
+        ap (λ x. Ok x) (same ∙ ap (λ v. stat_value (tree_found v)) (sym (ends ∙ is))) ∙ as_accepted t k n f (Stat p) (stat-stage ∙ ap walk_refusal is)
 
 -- ---- listings
 
 module _ (t : Tree) (k n : ℕ) (f : Form) (p : List (List ℕ)) where
   pub list-paths : (r : Refused) → RefusedAs r (paths_refusal f (p ∷ [])) → AsModel (Err r) (answer t k n f (ListDir p)).0
-  list-paths r is = as_model t k n f (ListDir p) r (paths_refusal f (p ∷ [])) is (λ w h. refusal_list t k n f p ∙ first_stage (paths_refusal f (p ∷ [])) (dir_refusal (walk p t)) w h)
+  list-paths r is =
+      as_model t k n f (ListDir p) r (paths_refusal f (p ∷ [])) is
+      (λ w h. refusal_list t k n f p ∙ first_stage (paths_refusal f (p ∷ [])) (dir_refusal (walk p t)) w h)
 
   module _ (names : paths_refusal f (p ∷ []) ≡ None) where
     list-stage : refusal t k n f (ListDir p) ≡ dir_refusal (walk p t)
@@ -253,6 +265,8 @@ module _ (t : Tree) (k n : ℕ) (f : Form) (p : List (List ℕ)) where
     pub list-walk : (r : Refused) → RefusedAs r (dir_refusal (walk p t)) → AsModel (Err r) (answer t k n f (ListDir p)).0
     list-walk r is = as_model t k n f (ListDir p) r (dir_refusal (walk p t)) is (λ w h. list-stage ∙ h)
 
-    pub list-value : (es : Entries) → walk p t ≡ Found (tree.Dir es) → (entries : List Entry) (cubes : List CubeRow) → entries ≡ map listed (rows es) → cubes ≡ [] → Ok (Listed entries cubes) ≡ (answer t k n f (ListDir p)).0
+    pub list-value : (es : Entries) → walk p t ≡ Found (tree.Dir es) → (entries : List Entry) (cubes : List CubeRow)
+        → entries ≡ map listed (rows es) → cubes ≡ [] → Ok (Listed entries cubes) ≡ (answer t k n f (ListDir p)).0
     list-value es found entries cubes same none =
-        (λ i. Ok (Listed (same i) (none i))) ∙ ap (λ w. Ok (list_value (tree_found w))) (sym found) ∙ as_accepted t k n f (ListDir p) (list-stage ∙ ap dir_refusal found)
+        (λ i. Ok (Listed (same i) (none i))) ∙ ap (λ w. Ok (list_value (tree_found w))) (sym found)
+        ∙ as_accepted t k n f (ListDir p) (list-stage ∙ ap dir_refusal found)

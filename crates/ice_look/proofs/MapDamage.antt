@@ -29,7 +29,8 @@ pub map-file : (form : Form) (inode : Inode) → inode.kind ≡ 1 → map_length
 map-file form inode kind = ap (λ k. blocks_for (cond (k == 2) (entry_size form * inode.size) inode.size)) kind
 
 -- what is damaged at an inode whose map has c blocks
-module _ (form : Form) (lot : LotView) (m : Map) (number c : ℕ) (reached : IsReached form lot m number) (node : IsNode lot (inode_of m number)) (long : map_length form (inode_of m number) ≡ c) where
+module _ (form : Form) (lot : LotView) (m : Map) (number c : ℕ) (reached : IsReached form lot m number)
+    (node : IsNode lot (inode_of m number)) (long : map_length form (inode_of m number) ≡ c) where
   -- fewer blocks are counted than it uses
   pub few-counted : counted false m < uses_of c → FewCounted form lot m
   few-counted h =
@@ -69,7 +70,8 @@ module _ (form : Form) (lot : LotView) (m : Map) (number c : ℕ) (reached : IsR
   bad-map (inr t) = inr (twice-used t)
 
 -- bytes can't be read
-pub read-blamed : (form : Form) → form ≡ form_one → (lot : LotView) (m : Map) (at number : ℕ) → IsReached form lot m number → ReachesTo form at (inode_of m number) → (e : OpFault) → IsReadFault e → (e ≡ Damaged Kind → ¬ ReachesTo form at (inode_of m number))
+pub read-blamed : (form : Form) → form ≡ form_one → (lot : LotView) (m : Map) (at number : ℕ) → IsReached form lot m number
+    → ReachesTo form at (inode_of m number) → (e : OpFault) → IsReadFault e → (e ≡ Damaged Kind → ¬ ReachesTo form at (inode_of m number))
     → (e ≡ Damaged Pointer → (k : ℕ) × (1024 * k < (inode_of m number).size) × (leads lot m (inode_of m number) k ≡ false)) → IsBrokenBy form lot m e
 read-blamed form one lot m at number reached file Disk h kind pointer = tt
 read-blamed form one lot m at number reached file (Damaged Kind) h kind pointer = absurd (kind refl file)
@@ -78,5 +80,7 @@ read-blamed form one lot m at number reached file (Damaged Pointer) h kind point
     let p = pointer refl in
     let q = div-add-mod' (x.size + 1023) 1024 in
     let d = mod_below (x.size + 1023) 1024 (omega arith) in
-    inl (bad-pointer form lot m number (blocks_for x.size) reached (inl (file.kind, omega (arith, file.small, ap (λ g. g.longest_file) one))) (map-file form x file.kind) (record { block = p.0; below = omega (arith, p.1, q, d); bad = p.2 }))
+    inl (bad-pointer form lot m number (blocks_for x.size) reached
+    (inl (file.kind, omega (arith, file.small, ap (λ g. g.longest_file) one))) (map-file form x file.kind)
+    (record { block = p.0; below = omega (arith, p.1, q, d); bad = p.2 }))
 read-blamed form one lot m at number reached file _ h kind pointer = absurd h

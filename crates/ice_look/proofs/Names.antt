@@ -7,13 +7,15 @@ use Rattle.std.proofs.lemmas.List.{take_more, take_all, get_or-drop, length-drop
 use Rattle.tree_spec.specs.Costs.{form_of}
 
 -- one of the names from k on is meant by the test: name k, or one behind it
-any_from : (test : List ℕ → Bool) (xs : List (List ℕ)) (k : ℕ) (d : List ℕ) → k < length xs → list_any test (drop k xs) ≡ (test (get_or xs k d) || list_any test (drop (k + 1) xs))
+any_from : (test : List ℕ → Bool) (xs : List (List ℕ)) (k : ℕ) (d : List ℕ) → k < length xs
+    → list_any test (drop k xs) ≡ (test (get_or xs k d) || list_any test (drop (k + 1) xs))
 any_from test xs k d h = rw (add-one, drop-cons xs k d)
 
 pub any-here : (test : List ℕ → Bool) (xs : List (List ℕ)) (k : ℕ) (d : List ℕ) → k < length xs → test (get_or xs k d) ≡ true → list_any test (drop k xs) ≡ true
 any-here test xs k d h is = any_from test xs k d h ∙ ap (λ b. b || list_any test (drop (k + 1) xs)) is
 
-pub any-later : (test : List ℕ → Bool) (xs : List (List ℕ)) (k : ℕ) (d : List ℕ) → k < length xs → test (get_or xs k d) ≡ false → list_any test (drop k xs) ≡ list_any test (drop (k + 1) xs)
+pub any-later : (test : List ℕ → Bool) (xs : List (List ℕ)) (k : ℕ) (d : List ℕ) → k < length xs → test (get_or xs k d) ≡ false
+    → list_any test (drop k xs) ≡ list_any test (drop (k + 1) xs)
 any-later test xs k d h is = any_from test xs k d h ∙ ap (λ b. b || list_any test (drop (k + 1) xs)) is
 
 -- the form's longest name
@@ -27,7 +29,8 @@ pub is_short : (version name size long : ℕ) → version ≡ 1 → name ≡ 59 
 is_short version name size long v n s h = let e = name-of version name v n in grind (arith, nat_tests)
 
 -- the names up to k and name k
-pub names-next : (path : List (List ℕ)) (depth k : ℕ) (name : List ℕ) → depth ≤ k → k < length path → name ≡ get_or path k [] → take (k + 1 - depth) (drop depth path) ≡ take (k - depth) (drop depth path) ++ name ∷ []
+pub names-next : (path : List (List ℕ)) (depth k : ℕ) (name : List ℕ) → depth ≤ k → k < length path → name ≡ get_or path k []
+    → take (k + 1 - depth) (drop depth path) ≡ take (k - depth) (drop depth path) ++ name ∷ []
 names-next path depth k name h below is =
     let long = length-drop depth path in
     let one : k + 1 - depth ≡ (k - depth) + 1 = omega arith in
@@ -38,4 +41,5 @@ names-next path depth k name h below is =
 
 -- all the names from `depth` on
 pub names-all : (path : List (List ℕ)) (depth end : ℕ) → end ≡ length path → take (end - depth) (drop depth path) ≡ drop depth path
-names-all path depth end is = ap (λ n. take (n - depth) (drop depth path)) is ∙ take_all (length path - depth) (drop depth path) (omega (arith, length-drop depth path))
+names-all path depth end is =
+    ap (λ n. take (n - depth) (drop depth path)) is ∙ take_all (length path - depth) (drop depth path) (omega (arith, length-drop depth path))

@@ -39,7 +39,8 @@ one_not_two : (k : ℕ) → k ≡ 1 → k ≡ 2 → ⊥
 one_not_two k a b = omega arith
 
 -- where each used block is a data place, each block of the map leads to one
-pub places-lead : (lot : LotView) (m : Map) (x : Inode) (count n : ℕ) → ((b : ℕ) → has (uses m x count) b ≡ true → is_data lot b ≡ true) → n < count → leads lot m x n ≡ true
+pub places-lead : (lot : LotView) (m : Map) (x : Inode) (count n : ℕ) → ((b : ℕ) → has (uses m x count) b ≡ true → is_data lot b ≡ true)
+    → n < count → leads lot m x n ≡ true
 places-lead lot m x count n all h =
     let d = all (nth_block m x n) (uses-nth m x count n h) in
     elim (nat_lt n 12) as (λ t. nat_lt n 12 ≡ t → leads lot m x n ≡ true) [
@@ -75,10 +76,12 @@ module _ (f : Form) (one : f ≡ form_one) (lot : LotView) (m : Map) (i h : ℕ)
 
   -- one that stands for a directory is one
   pub reads-directory : (es : tree.Entries) → Reads f lot (own f m) i h (tree.Dir es) → IsDirectory lot (inode_of m i)
-  reads-directory es r = record { kind = ap (λ (x : Inode). x.kind) (sym inode-own) ∙ r.1.is_dir; few = omega (arith, r.1.within, ap (λ (x : Inode). x.size) inode-own) }
+  reads-directory es r =
+      record { kind = ap (λ (x : Inode). x.kind) (sym inode-own) ∙ r.1.is_dir; few = omega (arith, r.1.within, ap (λ (x : Inode). x.size) inode-own) }
 
   pub Reads-file : (t : Tree) → Reads f lot (own f m) i h t → (x : Inode) → x ≡ inode_of m i → x.kind ≡ 1 → File i x.size ≡ place_by i (Found t)
-  Reads-file (tree.File bytes) r x is k = ap (λ n. File i n) (ap (λ (y : Inode). y.size) (is ∙ sym inode-own) ∙ sym (length-file_bytes (own f m i)) ∙ ap length r.1.bytes_are)
+  Reads-file (tree.File bytes) r x is k =
+      ap (λ n. File i n) (ap (λ (y : Inode). y.size) (is ∙ sym inode-own) ∙ sym (length-file_bytes (own f m i)) ∙ ap length r.1.bytes_are)
   Reads-file (tree.Dir es) r x is k = absurd (one_not_two x.kind k (ap (λ (y : Inode). y.kind) (is ∙ sym inode-own) ∙ r.1.is_dir))
 
   -- what is known of the inode itself
@@ -93,7 +96,8 @@ module _ (f : Form) (one : f ≡ form_one) (lot : LotView) (m : Map) (i h : ℕ)
   rows-own form e = ap (λ g. rows_in g (own g m i)) one ∙ ap (λ x. dir_rows_of x m i) (sym e)
 
   -- the blocks of a directory that stands for a tree lead to data places
-  pub dir-leads : (t : Tree) → Reads f lot (own f m) i h t → (form : Form) (n : ℕ) → form ≡ form_one → (inode_of m i).kind ≡ 2 → n * per_block form < (inode_of m i).size → leads lot m (inode_of m i) n ≡ true
+  pub dir-leads : (t : Tree) → Reads f lot (own f m) i h t → (form : Form) (n : ℕ) → form ≡ form_one → (inode_of m i).kind ≡ 2
+      → n * per_block form < (inode_of m i).size → leads lot m (inode_of m i) n ≡ true
   dir-leads t r form n e k below =
       let long = dir-length form_one (inode_of m i) refl k in
       let b = div-add-mod' ((inode_of m i).size + 15) 16 in
@@ -113,7 +117,8 @@ module _ (f : Form) (one : f ≡ form_one) (lot : LotView) (m : Map) (i h : ℕ)
       same is = cc
 
   -- a name that a directory doesn't have
-  pub step-none : (t : Tree) → Reads f lot (own f m) i h t → (number size : ℕ) (form : Form) (c : List ℕ) → Dir number size ≡ place_by i (Found t) → form ≡ form_one → look_up c (dir_rows_of form m number) ≡ None
+  pub step-none : (t : Tree) → Reads f lot (own f m) i h t → (number size : ℕ) (form : Form) (c : List ℕ)
+      → Dir number size ≡ place_by i (Found t) → form ≡ form_one → look_up c (dir_rows_of form m number) ≡ None
       → Missing ≡ place_by (inode_named c (rows_in f (own f m i))) (child c t)
   step-none (tree.File bytes) r number size form c is e none = absurd (no is)
     where
@@ -121,7 +126,8 @@ module _ (f : Form) (one : f ≡ form_one) (lot : LotView) (m : Map) (i h : ℕ)
       no is = cc
   step-none (tree.Dir es) r number size form c is e none =
       let d = dir-is (tree.Dir es) number size is in
-      ap (place_by (inode_named c (rows_in f (own f m i)))) (sym (child-none f lot (own f m) i h c es r (ap (look_up c) (rows-own form e) ∙ ap (λ x. look_up c (dir_rows_of form m x)) (sym d.2) ∙ none)))
+      ap (place_by (inode_named c (rows_in f (own f m i))))
+      (sym (child-none f lot (own f m) i h c es r (ap (look_up c) (rows-own form e) ∙ ap (λ x. look_up c (dir_rows_of form m x)) (sym d.2) ∙ none)))
 
   -- one that it has
   pub record Steps (t : Tree) (c : List ℕ) (j : ℕ) : Type 0 where
@@ -129,7 +135,8 @@ module _ (f : Form) (one : f ≡ form_one) (lot : LotView) (m : Map) (i h : ℕ)
     pub reads : Reads f lot (own f m) j (h + 1) there
     pub place : place_by j (Found there) ≡ place_by (inode_named c (rows_in f (own f m i))) (child c t)
 
-  pub step-some : (t : Tree) → Reads f lot (own f m) i h t → (number size : ℕ) (form : Form) (j : ℕ) (c : List ℕ) → Dir number size ≡ place_by i (Found t) → form ≡ form_one → look_up c (dir_rows_of form m number) ≡ Some j → Steps t c j
+  pub step-some : (t : Tree) → Reads f lot (own f m) i h t → (number size : ℕ) (form : Form) (j : ℕ) (c : List ℕ)
+      → Dir number size ≡ place_by i (Found t) → form ≡ form_one → look_up c (dir_rows_of form m number) ≡ Some j → Steps t c j
   step-some (tree.File bytes) r number size form j c is e some = absurd (no is)
     where
       no : Dir number size ≡ File i (length bytes) → ⊥
@@ -148,8 +155,10 @@ module _ (f : Form) (one : f ≡ form_one) (lot : LotView) (m : Map) (i h : ℕ)
       record { kind = ap (λ (x : Inode). x.kind) (sym inode-own) ∙ r.1.is_dir; few = omega (arith, r.1.within, ap (λ (x : Inode). x.size) inode-own) }
 
   -- a search in a directory that stands for a tree fails by the disk alone
-  pub step-fails : (t : Tree) → Reads f lot (own f m) i h t → (number size : ℕ) (form : Form) → Dir number size ≡ place_by i (Found t) → form ≡ form_one → (e : OpFault) → IsFindFault e
-      → (e ≡ Damaged Kind → IsDirectory lot (inode_of m number) → ⊥) → (e ≡ Damaged Pointer → (n : ℕ) × (n * per_block form < (inode_of m number).size) × (leads lot m (inode_of m number) n ≡ false)) → e ≡ Disk
+  pub step-fails : (t : Tree) → Reads f lot (own f m) i h t → (number size : ℕ) (form : Form) → Dir number size ≡ place_by i (Found t)
+      → form ≡ form_one → (e : OpFault) → IsFindFault e
+      → (e ≡ Damaged Kind → IsDirectory lot (inode_of m number) → ⊥)
+      → (e ≡ Damaged Pointer → (n : ℕ) × (n * per_block form < (inode_of m number).size) × (leads lot m (inode_of m number) n ≡ false)) → e ≡ Disk
   step-fails t r number size form is en e faults kind pointer =
       let d = dir-is t number size is in
       let at : i ≡ number = sym d.2 in
@@ -157,7 +166,8 @@ module _ (f : Form) (one : f ≡ form_one) (lot : LotView) (m : Map) (i h : ℕ)
       find-fails e faults (λ k. kind k dir)
       (λ p. let q = pointer p in
       true_false (leads lot m (inode_of m number) q.0)
-      (subst (λ x. (inode_of m x).kind ≡ 2 → q.0 * per_block form < (inode_of m x).size → leads lot m (inode_of m x) q.0 ≡ true) at (dir-leads t r form q.0 en) dir.kind q.1) q.2)
+      (subst (λ x. (inode_of m x).kind ≡ 2 → q.0 * per_block form < (inode_of m x).size → leads lot m (inode_of m x) q.0 ≡ true) at
+      (dir-leads t r form q.0 en) dir.kind q.1) q.2)
 
 -- ---- from name to name
 
@@ -187,25 +197,34 @@ module _ (f : Form) (lot : LotView) (o : Table) where
   inode_on-more i (d ∷ names) c = inode_on-more (inode_named d (rows_in f (o i))) names c
 
   -- the place one name further
-  place-more : (names : List (List ℕ)) (c : List ℕ) (t : Tree) (w : Walk) → walk names t ≡ w → place_at f o (names ++ c ∷ []) t ≡ place_by (inode_named c (rows_in f (o (inode_on f o 0 names)))) (and_on w (λ u. child c u))
-  place-more names c t w is = (λ x. place_by (inode_on-more 0 names c x) (walk-more names c t x)) ∙ ap (λ v. place_by (inode_named c (rows_in f (o (inode_on f o 0 names)))) (and_on v (λ u. child c u))) is
+  place-more : (names : List (List ℕ)) (c : List ℕ) (t : Tree) (w : Walk) → walk names t ≡ w
+      → place_at f o (names ++ c ∷ []) t ≡ place_by (inode_named c (rows_in f (o (inode_on f o 0 names)))) (and_on w (λ u. child c u))
+  place-more names c t w is =
+      (λ x. place_by (inode_on-more 0 names c x) (walk-more names c t x))
+      ∙ ap (λ v. place_by (inode_named c (rows_in f (o (inode_on f o 0 names)))) (and_on v (λ u. child c u))) is
 
   -- what a step from a place gives, wherever the place stands for a tree
   abbrev StepsFrom : Place → (ℕ → Tree → Type 0) → Type 0
   StepsFrom from P = (i h : ℕ) (u : Tree) → Reads f lot o i h u → from ≡ place_by i (Found u) → P i u
 
-  pub next-place : (names : List (List ℕ)) (c : List ℕ) (t : Tree) (from p : Place) → Reads f lot o 0 0 t → from ≡ place_at f o names t → StepsFrom from (λ i u. p ≡ place_by (inode_named c (rows_in f (o i))) (child c u))
-      → (from ≡ Missing → ◌≡◌ {A = Result Place OpFault} (Ok p) (Ok Missing)) → (from ≡ Blocked → ◌≡◌ {A = Result Place OpFault} (Ok p) (Ok Blocked)) → p ≡ place_at f o (names ++ c ∷ []) t
+  pub next-place : (names : List (List ℕ)) (c : List ℕ) (t : Tree) (from p : Place) → Reads f lot o 0 0 t → from ≡ place_at f o names t
+      → StepsFrom from (λ i u. p ≡ place_by (inode_named c (rows_in f (o i))) (child c u))
+      → (from ≡ Missing → ◌≡◌ {A = Result Place OpFault} (Ok p) (Ok Missing))
+      → (from ≡ Blocked → ◌≡◌ {A = Result Place OpFault} (Ok p) (Ok Blocked)) → p ≡ place_at f o (names ++ c ∷ []) t
   next-place names c t from p r is on missing blocked =
       elim (walk names t) as (λ w. walk names t ≡ w → p ≡ place_at f o (names ++ c ∷ []) t) [
-        | Found s ↦ λ e. on (inode_on f o 0 names) (0 + length names) s (Reads-part f lot o names 0 0 t s e r) (is ∙ ap (place_by (inode_on f o 0 names)) e) ∙ sym (place-more names c t (Found s) e)
+        | Found s ↦ λ e.
+            on (inode_on f o 0 names) (0 + length names) s (Reads-part f lot o names 0 0 t s e r)
+            (is ∙ ap (place_by (inode_on f o 0 names)) e) ∙ sym (place-more names c t (Found s) e)
         | NotFound ↦ λ e. same_ok p Missing (missing (is ∙ ap (place_by (inode_on f o 0 names)) e)) ∙ sym (place-more names c t NotFound e)
         | NotDir ↦ λ e. same_ok p Blocked (blocked (is ∙ ap (place_by (inode_on f o 0 names)) e)) ∙ sym (place-more names c t NotDir e)
       ] refl
 
   -- a step that fails does so by the disk
-  pub next-fault : (names : List (List ℕ)) (t : Tree) (from : Place) (e : OpFault) → Reads f lot o 0 0 t → from ≡ place_at f o names t → StepsFrom from (λ i u. e ≡ Disk)
-      → (from ≡ Missing → ◌≡◌ {A = Result Place OpFault} (Err e) (Ok Missing)) → (from ≡ Blocked → ◌≡◌ {A = Result Place OpFault} (Err e) (Ok Blocked)) → e ≡ Disk
+  pub next-fault : (names : List (List ℕ)) (t : Tree) (from : Place) (e : OpFault) → Reads f lot o 0 0 t → from ≡ place_at f o names t
+      → StepsFrom from (λ i u. e ≡ Disk)
+      → (from ≡ Missing → ◌≡◌ {A = Result Place OpFault} (Err e) (Ok Missing))
+      → (from ≡ Blocked → ◌≡◌ {A = Result Place OpFault} (Err e) (Ok Blocked)) → e ≡ Disk
   next-fault names t from e r is on missing blocked =
       elim (walk names t) as (λ w. walk names t ≡ w → e ≡ Disk) [
         | Found s ↦ λ q. on (inode_on f o 0 names) (0 + length names) s (Reads-part f lot o names 0 0 t s q r) (is ∙ ap (place_by (inode_on f o 0 names)) q)

@@ -93,7 +93,8 @@ module _ (lot : LotView) (o : Table) where
           count-each (rows_in form_one (o i)) (h + 1) es r.2,
         )
 
-    count-each : (rs : List DirRow) (h : ℕ) (es : Entries) → ReadsEach form_one lot o rs h es → total_in (λ _. 1) (λ _. 1) es ≡ length (rows es) + times (entries_use form_one o (entries_of o) rs es) 0
+    count-each : (rs : List DirRow) (h : ℕ) (es : Entries) → ReadsEach form_one lot o rs h es
+        → total_in (λ _. 1) (λ _. 1) es ≡ length (rows es) + times (entries_use form_one o (entries_of o) rs es) 0
     count-each rs h Nil r = refl
     count-each rs h (Entry c t es) r =
         omega (
@@ -117,7 +118,8 @@ length-one mine i (x ∷ is) h =
     ] refl
 
 -- nor two more than all do
-length-two : (mine : ℕ → List ℕ) (i j : ℕ) (is : List ℕ) → i ≢ j → 0 < times is i → 0 < times is j → length (mine i) + length (mine j) ≤ length (flat_map mine is)
+length-two : (mine : ℕ → List ℕ) (i j : ℕ) (is : List ℕ) → i ≢ j → 0 < times is i → 0 < times is j
+    → length (mine i) + length (mine j) ≤ length (flat_map mine is)
 length-two mine i j [] ne h g = absurd (omega (arith, h))
 length-two mine i j (x ∷ is) ne h g =
     elim (x == i) as (λ b. (x == i) ≡ b → length (mine i) + length (mine j) ≤ length (mine x ++ flat_map mine is)) [
@@ -168,10 +170,12 @@ module _ (mode : ℕ) (lot : LotView) (m : Map) (t : Tree) (k : ℕ) (r : MapRec
     ends : inode_on form_one o 0 names ≡ i
 
   stands-reads : (i : ℕ) → (s : Stands i) → Reads form_one lot o i (0 + length s.names) s.part
-  stands-reads i s = subst (λ n. Reads form_one lot o n (0 + length s.names) s.part) s.ends (Reads-part form_one lot o s.names 0 0 t s.part s.found r.holds.reads)
+  stands-reads i s =
+      subst (λ n. Reads form_one lot o n (0 + length s.names) s.part) s.ends (Reads-part form_one lot o s.names 0 0 t s.part s.found r.holds.reads)
 
   stands-used : (i : ℕ) → Stands i → 0 < times (used_inodes form_one o 0 t) i
-  stands-used i s = omega (arith, uses-part form_one o (λ n. n ∷ []) i s.names 0 t s.part s.found, uses-it (inode_on form_one o 0 s.names) s.part, ap (λ n. times (n ∷ []) i) s.ends, times-here i [])
+  stands-used i s =
+      omega (arith, uses-part form_one o (λ n. n ∷ []) i s.names 0 t s.part s.found, uses-it (inode_on form_one o 0 s.names) s.part, ap (λ n. times (n ∷ []) i) s.ends, times-here i [])
     where
       uses-it : (j : ℕ) (u : Tree) → times (j ∷ []) i ≤ times (used_inodes form_one o j u) i
       uses-it j (File bytes) = omega arith
@@ -187,7 +191,8 @@ module _ (mode : ℕ) (lot : LotView) (m : Map) (t : Tree) (k : ℕ) (r : MapRec
   row-child (File bytes) i h name j x two c = absurd (no_file (o i).inode.kind x.1.is_file two)
   row-child (Dir es) i h name j x two c =
       child-found form_one lot o i h name es j x (
-      look_up-find name (dir_rows_of form_one m i) ∙ find-lookup name (dir_rows_of form_one m i) ∙ lookup-from_Contains (eq_by_cmp_equiv nat_list_cmp_total) name j (dir_rows_of form_one m i) x.1.differ c
+      look_up-find name (dir_rows_of form_one m i) ∙ find-lookup name (dir_rows_of form_one m i)
+      ∙ lookup-from_Contains (eq_by_cmp_equiv nat_list_cmp_total) name j (dir_rows_of form_one m i) x.1.differ c
       )
 
   stands-row : (dir : ℕ) (name : List ℕ) (j : ℕ) → Stands dir → (inode_of m dir).kind ≡ 2 → Contains (dir_rows_of form_one m dir) (name, j) → Stands j
@@ -217,7 +222,9 @@ module _ (mode : ℕ) (lot : LotView) (m : Map) (t : Tree) (k : ℕ) (r : MapRec
   no-inode x = x.bad (node-at x.number x.reached)
 
   no-pointer : ¬ BadPointer form_one lot m
-  no-pointer x = no_true (sym x.bad.bad ∙ places-lead lot m (inode_of m x.number) (map_length form_one (inode_of m x.number)) x.bad.block (places-at x.number x.reached) x.bad.below)
+  no-pointer x =
+      no_true (sym x.bad.bad ∙ places-lead lot m (inode_of m x.number) (map_length form_one (inode_of m x.number)) x.bad.block
+      (places-at x.number x.reached) x.bad.below)
 
   -- a block that stands in what an inode uses stands there once, and in what no other one uses
   once : (b : ℕ) → is_data lot b ≡ true → times (used_blocks form_one o 0 t) b ≤ 1
@@ -240,7 +247,8 @@ module _ (mode : ℕ) (lot : LotView) (m : Map) (t : Tree) (k : ℕ) (r : MapRec
             has-times (node_uses form_one m x.one) x.block y.1,
             has-times (node_uses form_one m x.other) x.block y.2,
             once x.block (places-at x.one x.reached x.block y.1),
-            used-apart form_one o (λ n. (o n).uses) x.block x.one x.other 0 t y.0 (stands-used x.one (stands x.reached.by)) (stands-used x.other (stands x.reached_too.by)),
+            used-apart form_one o (λ n. (o n).uses) x.block x.one x.other 0 t y.0 (stands-used x.one (stands x.reached.by))
+                (stands-used x.other (stands x.reached_too.by)),
           )
 
   -- ---- entries
@@ -249,7 +257,8 @@ module _ (mode : ℕ) (lot : LotView) (m : Map) (t : Tree) (k : ℕ) (r : MapRec
   no-overfull x =
       omega (
         arith,
-        used-apart form_one o (entries_of o) 0 x.one x.other 0 t x.apart (stands-used x.one (stands x.reached.by)) (stands-used x.other (stands x.reached_too.by)),
+        used-apart form_one o (entries_of o) 0 x.one x.other 0 t x.apart (stands-used x.one (stands x.reached.by))
+            (stands-used x.other (stands x.reached_too.by)),
         entries-dir lot o x.one x.dir.kind,
         entries-dir lot o x.other x.dir_too.kind,
         count-nodes lot o 0 0 t r.holds.reads,
@@ -262,10 +271,12 @@ module _ (mode : ℕ) (lot : LotView) (m : Map) (t : Tree) (k : ℕ) (r : MapRec
   uses-it i j (Dir es) = omega (arith, times-append (j ∷ []) (entries_use form_one o (λ n. n ∷ []) (rows_in form_one (o j)) es) i)
 
   -- no entry leads to the root
-  root-above : (c : List ℕ) (q : List (List ℕ)) (u s : Tree) → walk (c ∷ q) u ≡ Found s → inode_on form_one o 0 (c ∷ q) ≡ 0 → 2 ≤ times (used_inodes form_one o 0 u) 0
+  root-above : (c : List ℕ) (q : List (List ℕ)) (u s : Tree) → walk (c ∷ q) u ≡ Found s → inode_on form_one o 0 (c ∷ q) ≡ 0
+      → 2 ≤ times (used_inodes form_one o 0 u) 0
   root-above c q (File bytes) s found ends = absurd (Found≢NotDir s (sym found))
   root-above c q (Dir es) s found ends =
-      elim (find by_bytes c (rows es)) as (λ x. find by_bytes c (rows es) ≡ x → and_on (found_or_not x) (λ u. walk q u) ≡ Found s → 2 ≤ times (used_inodes form_one o 0 (Dir es)) 0) [
+      elim (find by_bytes c (rows es)) as (λ x. find by_bytes c (rows es) ≡ x → and_on (found_or_not x) (λ u. walk q u) ≡ Found s
+      → 2 ≤ times (used_inodes form_one o 0 (Dir es)) 0) [
         | None ↦ λ e is. absurd (Found≢NotFound s (sym is))
         | Some u ↦ λ e is.
             let j = inode_on form_one o (inode_named c (rows_in form_one (o 0))) q in
@@ -310,7 +321,9 @@ module _ (mode : ℕ) (lot : LotView) (m : Map) (t : Tree) (k : ℕ) (r : MapRec
     where
       fits : (u : Tree) (h : ℕ) → Reads form_one lot o x.number h u → ⊥
       fits (File bytes) h y = no_file (inode_of m x.number).kind y.1.is_file x.dir.kind
-      fits (Dir es) h y = no_true (sym x.bad ∙ All-contains (λ (row : DirRow). is_name row.0 ≡ true) (dir_rows_of form_one m x.number) x.row (λ j d low. (y.1.fit j d low).is) x.has)
+      fits (Dir es) h y =
+          no_true (sym x.bad ∙ All-contains (λ (row : DirRow). is_name row.0 ≡ true) (dir_rows_of form_one m x.number) x.row
+          (λ j d low. (y.1.fit j d low).is) x.has)
 
   -- ---- counts and bitmaps
 
@@ -330,7 +343,8 @@ module _ (mode : ℕ) (lot : LotView) (m : Map) (t : Tree) (k : ℕ) (r : MapRec
 
   no-few : ¬ FewCounted form_one lot m
   no-few x =
-      elim (x.one == x.other) as (λ b. (x.one == x.other) ≡ b → counted false m < length (node_uses form_one m x.one) + cond b 0 (length (node_uses form_one m x.other)) → ⊥) [
+      elim (x.one == x.other) as (λ b. (x.one == x.other) ≡ b
+      → counted false m < length (node_uses form_one m x.one) + cond b 0 (length (node_uses form_one m x.other)) → ⊥) [
         | true ↦ λ e few. omega (arith, few, all, length-one (λ n. (o n).uses) x.one (used_inodes form_one o 0 t) here)
         | false ↦ λ e few.
             let apart : x.one ≢ x.other = grind (arith, nat_tests) in
@@ -363,7 +377,8 @@ module _ (mode : ℕ) (lot : LotView) (m : Map) (t : Tree) (k : ℕ) (r : MapRec
 
   sum-le : (p q : DirRow → ℕ) (rs : List DirRow) → All (λ (row : DirRow). p row ≤ q row) rs → sum_by p rs ≤ sum_by q rs
   sum-le p q [] h = omega arith
-  sum-le p q (e ∷ rs) h = omega (arith, sum_by-cons p e rs, sum_by-cons q e rs, h 0 ([], 0) (omega arith), sum-le p q rs (All-tail (λ (row : DirRow). p row ≤ q row) e rs h))
+  sum-le p q (e ∷ rs) h =
+      omega (arith, sum_by-cons p e rs, sum_by-cons q e rs, h 0 ([], 0) (omega arith), sum-le p q rs (All-tail (λ (row : DirRow). p row ≤ q row) e rs h))
 
   within-nodes : (levels i h : ℕ) (u : Tree) → Reads form_one lot o i h u → count_within form_one m levels i ≤ nodes u
   within-nodes zero i h u x = nodes-some u
@@ -424,7 +439,8 @@ pub recovers_unbroken : (mode : ℕ) (lot : LotView) (m : Map) (t : Tree) (k : �
 recovers_unbroken mode lot m t k x r = breaks-none mode lot m t k r x
 
 -- so no row names the root, or none of the lot
-pub no-bad-entry : (f : Form) → f ≡ form_one → (form : Form) → form ≡ form_one → (mode : ℕ) (lot : LotView) (m : Map) (t : Tree) (k : ℕ) → MapRecovers f mode lot m t k → ¬ BadEntry form lot m
+pub no-bad-entry : (f : Form) → f ≡ form_one → (form : Form) → form ≡ form_one → (mode : ℕ) (lot : LotView) (m : Map) (t : Tree) (k : ℕ)
+    → MapRecovers f mode lot m t k → ¬ BadEntry form lot m
 no-bad-entry f one form wide mode lot m t k r bad =
     recovers_unbroken mode lot m t k rule.InodeTwice (subst (λ g. MapRecovers g mode lot m t k) one r) (inl (subst (λ e. BadEntry e lot m) wide bad))
 
@@ -434,5 +450,6 @@ broken_named lot m x some bad = ⊎_elim
     (λ r. r)
     (λ y.
     let one : form_in m ≡ form_one = only_form lot m y.1.sub.sound in
-    absurd (recovers_unbroken (sub_of (m sub_address)).mode lot m y.0 (sub_of (m sub_address)).done x (subst (λ f. MapRecovers f (sub_of (m sub_address)).mode lot m y.0 (sub_of (m sub_address)).done) one y.1) bad))
+    absurd (recovers_unbroken (sub_of (m sub_address)).mode lot m y.0 (sub_of (m sub_address)).done x
+    (subst (λ f. MapRecovers f (sub_of (m sub_address)).mode lot m y.0 (sub_of (m sub_address)).done) one y.1) bad))
     (recovers_or_named lot m some)

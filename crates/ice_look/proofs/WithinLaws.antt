@@ -24,7 +24,8 @@ module _ (form : Form) (m : ℕ → List ℕ) where
   abbrev pub by_row : ℕ → DirRow → ℕ
   by_row levels row = count_within form m levels row.1
 
-  pub within-dir : (levels number : ℕ) → (inode_of m number).kind ≡ 2 → count_within form m (levels + 1) number ≡ 1 + sum_by (by_row levels) (dir_rows_of form m number)
+  pub within-dir : (levels number : ℕ) → (inode_of m number).kind ≡ 2
+      → count_within form m (levels + 1) number ≡ 1 + sum_by (by_row levels) (dir_rows_of form m number)
   within-dir levels number two =
       let test : ((inode_of m number).kind == 2) ≡ true = grind (arith, nat_tests) in
       rw add-one (ap (λ b. cond b (1 + sum_by (by_row levels) (dir_rows_of form m number)) 1) test)
@@ -45,7 +46,8 @@ module _ (form : Form) (m : ℕ → List ℕ) where
       by b e = ap (λ x. cond x (1 + sum_by (by_row levels) (dir_rows_of form m number)) 1) e
 
   -- a place leads to what its inode leads to
-  pub place-within : (levels number : ℕ) (place : Place) → PlaceOf number place → PlaceIs m place → count_within_place form m levels place ≡ count_within form m levels number
+  pub place-within : (levels number : ℕ) (place : Place) → PlaceOf number place → PlaceIs m place
+      → count_within_place form m levels place ≡ count_within form m levels number
   place-within levels number (File n size) at is = sym (within-file levels n is.0) ∙ ap (count_within form m levels) at
   place-within levels number (Dir n size) at is = ap (count_within form m levels) at
   place-within levels number Missing at is = absurd at
@@ -62,21 +64,27 @@ module _ (form : Form) (m : ℕ → List ℕ) where
     pub rows-more : sum_by (by_row levels) (take (k + 1) (dir_rows_of form m number)) ≡ sum_by (by_row levels) (take k (dir_rows_of form m number)) + by_row levels row
     rows-more =
         sum_by_more (by_row levels) (dir_rows_of form m number) k row (slice_get_within (dir_rows_of form m number) k row is)
-        ∙ ap (λ r. sum_by (by_row levels) (take k (dir_rows_of form m number)) + by_row levels r) (get_or_from_slice_get (dir_rows_of form m number) k row row is)
+        ∙ ap (λ r. sum_by (by_row levels) (take k (dir_rows_of form m number)) + by_row levels r)
+        (get_or_from_slice_get (dir_rows_of form m number) k row row is)
 
     pub rows-within : sum_by (by_row levels) (take k (dir_rows_of form m number)) + by_row levels row ≤ sum_by (by_row levels) (dir_rows_of form m number)
     rows-within = omega (arith, rows-more, sum_by-take-le (by_row levels) (dir_rows_of form m number) (k + 1))
 
-  pub rows-whole : (levels number k : ℕ) → length (dir_rows_of form m number) ≤ k → sum_by (by_row levels) (take k (dir_rows_of form m number)) ≡ sum_by (by_row levels) (dir_rows_of form m number)
+  pub rows-whole : (levels number k : ℕ) → length (dir_rows_of form m number) ≤ k
+      → sum_by (by_row levels) (take k (dir_rows_of form m number)) ≡ sum_by (by_row levels) (dir_rows_of form m number)
   rows-whole levels number k h = ap (sum_by (by_row levels)) (take_all k (dir_rows_of form m number) h)
 
-  module _ (lot : LotView) (levels number k budget : ℕ) (place : Place) (child : IsEntry form lot m number k place) (now : ℕ) (so_far : budget ≤ now + sum_by (by_row levels) (take k (dir_rows_of form m number))) where
+  module _ (lot : LotView) (levels number k budget : ℕ) (place : Place) (child : IsEntry form lot m number k place) (now : ℕ)
+      (so_far : budget ≤ now + sum_by (by_row levels) (take k (dir_rows_of form m number))) where
     -- what a look below row k takes from the budget
-    pub row-pays : (after : ℕ) → now ≤ after + count_within_place form m levels place → budget ≤ after + sum_by (by_row levels) (take (k + 1) (dir_rows_of form m number))
-    row-pays after h = omega (arith, so_far, h, place-within levels child.inode place child.at child.is, rows-more levels number k (child.name, child.inode) child.row)
+    pub row-pays : (after : ℕ) → now ≤ after + count_within_place form m levels place
+        → budget ≤ after + sum_by (by_row levels) (take (k + 1) (dir_rows_of form m number))
+    row-pays after h =
+        omega (arith, so_far, h, place-within levels child.inode place child.at child.is, rows-more levels number k (child.name, child.inode) child.row)
 
     -- a fault there
-    pub row-fault : (inode_of m number).kind ≡ 2 → (e : OpFault) → IsBrokenBy form lot m e ⊎ ((e ≡ Damaged InodeTwice) × (now < count_within_place form m levels place))
+    pub row-fault : (inode_of m number).kind ≡ 2 → (e : OpFault)
+        → IsBrokenBy form lot m e ⊎ ((e ≡ Damaged InodeTwice) × (now < count_within_place form m levels place))
         → IsBrokenBy form lot m e ⊎ ((e ≡ Damaged InodeTwice) × (budget + 1 < count_within form m (levels + 1) number))
     row-fault two e (inl b) = inl b
     row-fault two e (inr x) =

@@ -22,7 +22,8 @@ use Rattle.ice_look.specs.declared.place.Place.TheVariants.{Dir}
 -- to how many files and directories at most so many names lead from an inode, itself among them
 abbrev pub count_within : Form → (ℕ → List ℕ) → ℕ → ℕ → ℕ
 count_within form m zero number = 1
-count_within form m (suc levels) number = cond ((inode_of m number).kind == 2) (1 + sum_by (λ (row : DirRow). count_within form m levels row.1) (dir_rows_of form m number)) 1
+count_within form m (suc levels) number =
+    cond ((inode_of m number).kind == 2) (1 + sum_by (λ (row : DirRow). count_within form m levels row.1) (dir_rows_of form m number)) 1
 
 -- the same from a place
 abbrev pub count_within_place : Form → (ℕ → List ℕ) → ℕ → Place → ℕ

@@ -72,4 +72,5 @@ Untouched version paths v e w f = (r : Why) → paths_refusal (form_of version) 
 
 -- a rule that the refusal names as damaged is one that the lot breaks
 abbrev pub NamesBroken : {A V D : Type 0} → view.Ghosts V D → Form → LotView → V → D → Result A Refusal → Type 0
-NamesBroken view form lot v e result = (n : ℕ) → IsErrOf result (Damaged n) → IfShown view lot v e (λ old. (r : Rule) × (n ≡ rule_number r) × IsBroken form lot old r)
+NamesBroken view form lot v e result =
+    (n : ℕ) → IsErrOf result (Damaged n) → IfShown view lot v e (λ old. (r : Rule) × (n ≡ rule_number r) × IsBroken form lot old r)

@@ -33,7 +33,8 @@ IsNode lot inode = ((inode.kind ≡ 1) × (inode.size ≤ form_one.longest_file)
 -- an inode to which the directories of a lot lead, whose entries have so many bytes: the root, or one that a row of such a directory names
 pub data Reached (form : Form) (lot : LotView) (m : ℕ → List ℕ) : ℕ → Type 0 where
   Root : Reached form lot m 0
-  Named : (dir number : ℕ) (name : List ℕ) → Reached form lot m dir → IsDirectory lot (inode_of m dir) → Contains (dir_rows_of form m dir) (name, number) → Reached form lot m number
+  Named : (dir number : ℕ) (name : List ℕ) → Reached form lot m dir → IsDirectory lot (inode_of m dir)
+      → Contains (dir_rows_of form m dir) (name, number) → Reached form lot m number
 
 -- an inode of the lot to which the directories lead
 pub record IsReached (form : Form) (lot : LotView) (m : ℕ → List ℕ) (number : ℕ) : Type 0 where

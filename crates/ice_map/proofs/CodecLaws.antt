@@ -29,15 +29,18 @@ direct_of-at block i k h = get_or-map-range_with_len (λ k. pointer block i k) 0
 
 -- an inode by its fields
 pub inode_at-is : (block : List ℕ) (i : ℕ) (x : Inode) → slice_index block (128 * i) ≡ x.kind → word_at block (128 * i + 4) ≡ x.size
-    → length x.direct ≡ 12 → ((k : ℕ) → k < 12 → pointer block i k ≡ slice_index x.direct k) → pointer block i 12 ≡ x.single → pointer block i 13 ≡ x.double → inode_at block i ≡ x
+    → length x.direct ≡ 12 → ((k : ℕ) → k < 12 → pointer block i k ≡ slice_index x.direct k) → pointer block i 12 ≡ x.single
+    → pointer block i 13 ≡ x.double → inode_at block i ≡ x
 unfolding inode_at kind_at size_at
 inode_at-is block i x kind size l each single double =
     let len = length-direct_of block i in
-    let d : direct_of block i ≡ x.direct = ext_get_or 0 (direct_of block i) x.direct (len ∙ sym l) (λ k h. direct_of-at block i k (omega arith) ∙ each k (omega arith)) in
+    let d : direct_of block i ≡ x.direct = ext_get_or 0 (direct_of block i) x.direct (len ∙ sym l)
+    (λ k h. direct_of-at block i k (omega arith) ∙ each k (omega arith)) in
     same_inode _ x kind size d single double
 
 -- an inode stays where its bytes do
-pub inode_at-kept : (old new : List ℕ) (j : ℕ) → ((k : ℕ) → 128 * j ≤ k → k < 128 * j + 128 → slice_index new k ≡ slice_index old k) → inode_at new j ≡ inode_at old j
+pub inode_at-kept : (old new : List ℕ) (j : ℕ) → ((k : ℕ) → 128 * j ≤ k → k < 128 * j + 128 → slice_index new k ≡ slice_index old k)
+    → inode_at new j ≡ inode_at old j
 unfolding inode_at kind_at size_at
 inode_at-kept old new j byte =
     let ln = length-direct_of new j in
@@ -75,10 +78,12 @@ pub inode_made : (b1 b2 b3 b4 b5 : List ℕ) (i : ℕ) (inode : Inode)
     → inode_at b5 i ≡ inode
 inode_made b1 b2 b3 b4 b5 i inode l kind w2 direct d w4 w5 = inode_at-is b5 i inode
     (byte_kept b1 b2 b3 b4 b5 i inode.size inode.single inode.double w2 d w4 w5 (128 * i) (inl (omega arith)) ∙ kind)
-    (word-others b4 b5 (128 * i + 60) inode.double (128 * i + 4) w5 (inl (omega arith)) ∙ word-others b3 b4 (128 * i + 56) inode.single (128 * i + 4) w4 (inl (omega arith))
+    (word-others b4 b5 (128 * i + 60) inode.double (128 * i + 4) w5 (inl (omega arith))
+    ∙ word-others b3 b4 (128 * i + 56) inode.single (128 * i + 4) w4 (inl (omega arith))
     ∙ word-same b3 b2 (128 * i + 4) (λ k l h. d k (inl (omega arith))) ∙ w2.value)
     l
-    (λ k h. word-others b4 b5 (128 * i + 60) inode.double (128 * i + (8 + 4 * k)) w5 (inl (omega arith)) ∙ word-others b3 b4 (128 * i + 56) inode.single (128 * i + (8 + 4 * k)) w4 (inl (omega arith)) ∙ direct k h)
+    (λ k h. word-others b4 b5 (128 * i + 60) inode.double (128 * i + (8 + 4 * k)) w5 (inl (omega arith))
+    ∙ word-others b3 b4 (128 * i + 56) inode.single (128 * i + (8 + 4 * k)) w4 (inl (omega arith)) ∙ direct k h)
     (word-others b4 b5 (128 * i + 60) inode.double (128 * i + 56) w5 (inl (omega arith)) ∙ w4.value)
     w5.value
 

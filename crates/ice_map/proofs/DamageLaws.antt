@@ -30,21 +30,25 @@ data-with lot xs a place all b h =
 pub placed-none : (lot : LotView) (m : ℕ → List ℕ) (inode : Inode) (rest : ℕ) → AllData lot (blocks_between m inode rest rest)
 placed-none lot m inode rest = data-none lot _ (between-none m inode rest rest (omega arith))
 
-pub placed-next : (lot : LotView) (m : ℕ → List ℕ) (inode : Inode) (rest k a : ℕ) → rest ≤ k → a ≡ nth_block m inode k → is_data lot a ≡ true → AllData lot (blocks_between m inode rest k) → AllData lot (blocks_between m inode rest (k + 1))
+pub placed-next : (lot : LotView) (m : ℕ → List ℕ) (inode : Inode) (rest k a : ℕ) → rest ≤ k → a ≡ nth_block m inode k
+    → is_data lot a ≡ true → AllData lot (blocks_between m inode rest k) → AllData lot (blocks_between m inode rest (k + 1))
 placed-next lot m inode rest k a h same place all =
-    let next : blocks_between m inode rest k ++ a ∷ [] ≡ blocks_between m inode rest (k + 1) = ap (λ x. blocks_between m inode rest k ++ x ∷ []) same ∙ sym (between-next m inode rest k h) in
+    let next : blocks_between m inode rest k ++ a ∷ [] ≡ blocks_between m inode rest (k + 1) = ap
+    (λ x. blocks_between m inode rest k ++ x ∷ []) same ∙ sym (between-next m inode rest k h) in
     rw next at (data-with lot (blocks_between m inode rest k) a place all)
 
 -- and all that is cut off
 pub placed-uncut : (lot : LotView) (m : ℕ → List ℕ) (inode : Inode) (count rest : ℕ) → count ≡ rest → AllData lot (cut_off m inode count rest)
 placed-uncut lot m inode count rest h = data-none lot _ (cut-none m inode count rest h)
 
-pub placed-last : (lot : LotView) (m : ℕ → List ℕ) (b : List ℕ) (inode : Inode) (count rest : ℕ) → 12 < count → rest ≤ 12 → (12 < count → b ≡ m inode.single) → is_data lot inode.single ≡ true
+pub placed-last : (lot : LotView) (m : ℕ → List ℕ) (b : List ℕ) (inode : Inode) (count rest : ℕ) → 12 < count → rest ≤ 12
+    → (12 < count → b ≡ m inode.single) → is_data lot inode.single ≡ true
     → AllData lot (blocks_between (λ _. b) inode rest count) → AllData lot (cut_off m inode count rest)
 placed-last lot m b inode count rest h l e place all = rw (cut-run-last m b inode count rest h l e) (data-with lot _ inode.single place all)
 
 -- a block of a run, or the indirect block, that is no data place
-pub misled-run : (lot : LotView) (m : ℕ → List ℕ) (b : List ℕ) (inode : Inode) (count k : ℕ) → (12 < count → b ≡ m inode.single) → k < count → is_data lot (nth_block (λ _. b) inode k) ≡ false → Misleads lot m inode count
+pub misled-run : (lot : LotView) (m : ℕ → List ℕ) (b : List ℕ) (inode : Inode) (count k : ℕ) → (12 < count → b ≡ m inode.single)
+    → k < count → is_data lot (nth_block (λ _. b) inode k) ≡ false → Misleads lot m inode count
 misled-run lot m b inode count k e h lost = record {
   block = k;
   below = h;

@@ -37,14 +37,16 @@ due-high : (h : ℕ → Bool) (s c : ℕ) → 12 < c → due h s c ≡ lacks h (
 due-high h s c l = grind (arith, nat_tests)
 
 -- a growth pays
-pub due-grow : (h0 h1 : ℕ → Bool) (r0 r1 c a s t : ℕ) → Pays h0 r0 h1 r1 true (growth_puts c a t) → (c ≢ 12 → t ≡ s) → r0 + due h1 t (c + 1) ≤ r1 + due h0 s c + 1
+pub due-grow : (h0 h1 : ℕ → Bool) (r0 r1 c a s t : ℕ) → Pays h0 r0 h1 r1 true (growth_puts c a t) → (c ≢ 12 → t ≡ s)
+    → r0 + due h1 t (c + 1) ≤ r1 + due h0 s c + 1
 due-grow h0 h1 r0 r1 c a s t p same =
     elim (ltb c 12) as (λ u. ltb c 12 ≡ u → r0 + due h1 t (c + 1) ≤ r1 + due h0 s c + 1) [
       | true ↦ λ u.
           let l : c < 12 = grind (arith, nat_tests) in
           let e = puts-direct c a t l in
           let w = sub_address ∷ bitmap_of false a ∷ t ∷ [] in
-          let q = where_elim w (growth_puts c a t) (r0 + lacks h1 w ≤ r1 + lacks h0 w + cond true 0 1) (p w) (λ x k. has-three sub_address (bitmap_of false a) t x (ap (λ xs. has xs x) (sym e) ∙ k)) in
+          let q = where_elim w (growth_puts c a t) (r0 + lacks h1 w ≤ r1 + lacks h0 w + cond true 0 1) (p w)
+          (λ x k. has-three sub_address (bitmap_of false a) t x (ap (λ xs. has xs x) (sym e) ∙ k)) in
           let m = three-more h1 sub_address (bitmap_of false a) t in
           let n = three h0 sub_address (bitmap_of false a) t in
           let f : lacks h0 (sub_address ∷ t ∷ []) ≡ lacks h0 (sub_address ∷ s ∷ []) = ap (λ x. lacks h0 (sub_address ∷ x ∷ [])) (same (λ e. omega arith)) in

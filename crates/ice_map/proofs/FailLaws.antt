@@ -29,7 +29,8 @@ has-two wide a b ha hb x h =
       | true ↦ λ t. let e : a ≡ x = grind (arith, nat_tests) in ap (has wide) (sym e) ∙ ha
       | false ↦ λ t. elim (b == x) as (λ u. (b == x) ≡ u → has wide x ≡ true) [
         | true ↦ λ u. let e : b ≡ x = grind (arith, nat_tests) in ap (has wide) (sym e) ∙ hb
-        | false ↦ λ u. absurd (let f : has (a ∷ b ∷ []) x ≡ false = c ∙ ap (λ t. cond t true (has (b ∷ []) x)) t ∙ d ∙ ap (λ t. cond t true (has [] x)) u ∙ n in cc)
+        | false ↦ λ u.
+            absurd (let f : has (a ∷ b ∷ []) x ≡ false = c ∙ ap (λ t. cond t true (has (b ∷ []) x)) t ∙ d ∙ ap (λ t. cond t true (has [] x)) u ∙ n in cc)
       ] refl
     ] refl
 
@@ -59,18 +60,24 @@ module _ {V D : Type 0} (k : view.Ghosts V D) (lot : LotView) (inode : Inode) (c
         inode.single,
         (λ h. refl),
         puts-widen k lot false (sub_address ∷ 256 * o ∷ []) puts v e w f p
-            (has-two puts sub_address (256 * o) (has-head sub_address _) (let b = second sub_address (bitmap_of false (256 * o)) (cond (nat_lt count 12) [] (inode.single ∷ cond (count == 12) (bitmap_of false inode.single ∷ []) [])) in ap (has puts) (sym (own_bitmap o)) ∙ b)),
+            (has-two puts sub_address (256 * o) (has-head sub_address _)
+            (let b = second sub_address (bitmap_of false (256 * o))
+            (cond (nat_lt count 12) [] (inode.single ∷ cond (count == 12) (bitmap_of false inode.single ∷ []) [])) in ap (has puts) (sym (own_bitmap o)) ∙ b)),
       )
 
   -- those of two groups
-  pub failed-two : (a b : ℕ) (v : V) (e : D) (w : V) (f : D) → count ≡ 12 → Puts k lot false (sub_address ∷ bitmap_of false a ∷ bitmap_of false b ∷ []) v e w f → GrowthFailed k lot inode count v e w f
+  pub failed-two : (a b : ℕ) (v : V) (e : D) (w : V) (f : D) → count ≡ 12
+      → Puts k lot false (sub_address ∷ bitmap_of false a ∷ bitmap_of false b ∷ []) v e w f → GrowthFailed k lot inode count v e w f
   failed-two a b v e w f h p =
       let list = puts-first count a b h in (
         a,
         b,
         (λ l. absurd (omega arith)),
-        rw list (puts-widen k lot false (sub_address ∷ bitmap_of false a ∷ bitmap_of false b ∷ []) (sub_address ∷ bitmap_of false a ∷ b ∷ bitmap_of false b ∷ []) v e w f p
-            (has-more _ sub_address _ (has-head sub_address _) (has-two _ (bitmap_of false a) (bitmap_of false b) (second sub_address (bitmap_of false a) _) (has-tail sub_address (bitmap_of false b) _ (third (bitmap_of false a) b (bitmap_of false b) []))))),
+        rw list (puts-widen k lot false (sub_address ∷ bitmap_of false a ∷ bitmap_of false b ∷ [])
+            (sub_address ∷ bitmap_of false a ∷ b ∷ bitmap_of false b ∷ []) v e w f p
+            (has-more _ sub_address _ (has-head sub_address _)
+            (has-two _ (bitmap_of false a) (bitmap_of false b) (second sub_address (bitmap_of false a) _)
+            (has-tail sub_address (bitmap_of false b) _ (third (bitmap_of false a) b (bitmap_of false b) []))))),
       )
 
   -- nothing
@@ -78,17 +85,21 @@ module _ {V D : Type 0} (k : view.Ghosts V D) (lot : LotView) (inode : Inode) (c
   failed-none d v e w f l = (0, inode.single, (λ h. refl), puts-look d k lot false (growth_puts count 0 inode.single) v e w f l)
 
   pub failed-at_once : (v : V) (e : D) → GrowthFailed k lot inode count v e v e
-  failed-at_once v e = (0, inode.single, (λ h. refl), puts-fail k lot (growth_puts count 0 inode.single) (growth_puts count 0 inode.single) v e v e (puts-none k lot (growth_puts count 0 inode.single) v e) (λ x h. h))
+  failed-at_once v e =
+      (0, inode.single, (λ h. refl), puts-fail k lot (growth_puts count 0 inode.single) (growth_puts count 0 inode.single) v e v e (puts-none k lot (growth_puts count 0 inode.single) v e) (λ x h. h))
 
   -- the whole growth
-  pub failed-first : (a s : ℕ) (v : V) (e : D) (w : V) (f : D) → count ≡ 12 → Puts k lot false (sub_address ∷ bitmap_of false a ∷ s ∷ bitmap_of false s ∷ []) v e w f → GrowthFailed k lot inode count v e w f
+  pub failed-first : (a s : ℕ) (v : V) (e : D) (w : V) (f : D) → count ≡ 12
+      → Puts k lot false (sub_address ∷ bitmap_of false a ∷ s ∷ bitmap_of false s ∷ []) v e w f → GrowthFailed k lot inode count v e w f
   failed-first a s v e w f h p = let list = puts-first count a s h in (a, s, (λ l. absurd (omega arith)), rw list p)
 
-  pub failed-single : (a : ℕ) (v : V) (e : D) (w : V) (f : D) → 12 < count → Puts k lot false (sub_address ∷ bitmap_of false a ∷ inode.single ∷ []) v e w f → GrowthFailed k lot inode count v e w f
+  pub failed-single : (a : ℕ) (v : V) (e : D) (w : V) (f : D) → 12 < count
+      → Puts k lot false (sub_address ∷ bitmap_of false a ∷ inode.single ∷ []) v e w f → GrowthFailed k lot inode count v e w f
   failed-single a v e w f h p = let list = puts-single count a inode.single h in (a, inode.single, (λ l. refl), rw list p)
 
 -- one block was taken, and the take of a second failed
-pub two-failed : {V D : Type 0} (k : view.Ghosts V D) (lot : LotView) (a o : ℕ) (v : V) (d : D) (w : V) (e : D) (x : V) (f : D) → Puts k lot true (sub_address ∷ bitmap_of false a ∷ []) v d w e → Puts k lot false (sub_address ∷ 256 * o ∷ []) w e x f
+pub two-failed : {V D : Type 0} (k : view.Ghosts V D) (lot : LotView) (a o : ℕ) (v : V) (d : D) (w : V) (e : D) (x : V) (f : D)
+    → Puts k lot true (sub_address ∷ bitmap_of false a ∷ []) v d w e → Puts k lot false (sub_address ∷ 256 * o ∷ []) w e x f
     → (a : ℕ) × (b : ℕ) × Puts k lot false (sub_address ∷ bitmap_of false a ∷ bitmap_of false b ∷ []) v d x f
 two-failed k lot a o v d w e x f p q =
     let puts = sub_address ∷ bitmap_of false a ∷ bitmap_of false (256 * o) ∷ [] in (
@@ -96,10 +107,12 @@ two-failed k lot a o v d w e x f p q =
       256 * o,
       puts-then k lot false (sub_address ∷ bitmap_of false a ∷ []) (sub_address ∷ 256 * o ∷ []) puts v d w e x f p q
           (has-two puts sub_address (bitmap_of false a) (has-head sub_address _) (second sub_address (bitmap_of false a) _))
-          (has-two puts sub_address (256 * o) (has-head sub_address _) (ap (has puts) (sym (own_bitmap o)) ∙ third sub_address (bitmap_of false a) (bitmap_of false (256 * o)) [])),
+          (has-two puts sub_address (256 * o) (has-head sub_address _)
+          (ap (has puts) (sym (own_bitmap o)) ∙ third sub_address (bitmap_of false a) (bitmap_of false (256 * o)) [])),
     )
 
-pub one-failed : {V D : Type 0} (k : view.Ghosts V D) (lot : LotView) (o : ℕ) (v : V) (d : D) (w : V) (e : D) → Puts k lot false (sub_address ∷ 256 * o ∷ []) v d w e
+pub one-failed : {V D : Type 0} (k : view.Ghosts V D) (lot : LotView) (o : ℕ) (v : V) (d : D) (w : V) (e : D)
+    → Puts k lot false (sub_address ∷ 256 * o ∷ []) v d w e
     → (a : ℕ) × (b : ℕ) × Puts k lot false (sub_address ∷ bitmap_of false a ∷ bitmap_of false b ∷ []) v d w e
 one-failed k lot o v d w e p =
     let puts = sub_address ∷ bitmap_of false (256 * o) ∷ bitmap_of false (256 * o) ∷ [] in (

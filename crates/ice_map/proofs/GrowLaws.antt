@@ -48,14 +48,16 @@ pub data_apart : (lot : LotView) (a o : ℕ) → is_data lot a ≡ true → a �
 data_apart lot a o h e = let p = data_place lot a h in let f : a % 256 ≡ 256 * o % 256 = ap (λ x. x % 256) e in omega arith
 
 -- where only bitmap blocks and the sub-super block changed, every inode and every data block stays
-pub stays-none : (lot : LotView) (m0 m1 : ℕ → List ℕ) (but : List ℕ) → length lot.groups ≤ 64 → ((b : ℕ) → b ≢ sub_address → ((o : ℕ) → b ≢ 256 * o) → m1 b ≡ m0 b) → Stays lot m0 m1 but
+pub stays-none : (lot : LotView) (m0 m1 : ℕ → List ℕ) (but : List ℕ) → length lot.groups ≤ 64
+    → ((b : ℕ) → b ≢ sub_address → ((o : ℕ) → b ≢ 256 * o) → m1 b ≡ m0 b) → Stays lot m0 m1 but
 stays-none lot m0 m1 but few only = record {
   inodes = λ n. ap (λ (b : List ℕ). inode_at b (n % 8)) (only (inode_address n) (inode_not_sub n) (inode_not_bitmap n));
   blocks = λ b d u h. only b (λ e. let l = data_below lot b d in omega arith) (λ o. data_apart lot b o d);
 }
 
 -- and so where one block changed besides that was not used, or is excepted
-pub stays-one : (lot : LotView) (m0 m1 : ℕ → List ℕ) (but : List ℕ) (s : ℕ) → length lot.groups ≤ 64 → is_data lot s ≡ true → (has but s ≡ false → used_block m0 s ≡ false)
+pub stays-one : (lot : LotView) (m0 m1 : ℕ → List ℕ) (but : List ℕ) (s : ℕ) → length lot.groups ≤ 64 → is_data lot s ≡ true
+    → (has but s ≡ false → used_block m0 s ≡ false)
     → ((b : ℕ) → b ≢ sub_address → ((o : ℕ) → b ≢ 256 * o) → b ≢ s → m1 b ≡ m0 b) → Stays lot m0 m1 but
 stays-one lot m0 m1 but s few place free only = record {
   inodes = λ n. ap (λ (b : List ℕ). inode_at b (n % 8)) (only (inode_address n) (inode_not_sub n) (inode_not_bitmap n) (inode_not_data lot n s place));
@@ -70,7 +72,8 @@ set_other : (xs ys : List ℕ) (k a j : ℕ) → ys ≡ slice_set xs k a → j �
 set_other xs ys k a j e ne = ap (λ (l : List ℕ). slice_index l j) e ∙ get_or-set_other xs k j a 0 ne
 
 -- one block more
-pub blocks-grow : (m0 m1 : ℕ → List ℕ) (old new : Inode) (count a : ℕ) → ((n : ℕ) → n < count → nth_block m1 new n ≡ nth_block m0 old n) → nth_block m1 new count ≡ a → blocks_of m1 new (count + 1) ≡ blocks_of m0 old count ++ a ∷ []
+pub blocks-grow : (m0 m1 : ℕ → List ℕ) (old new : Inode) (count a : ℕ) → ((n : ℕ) → n < count → nth_block m1 new n ≡ nth_block m0 old n)
+    → nth_block m1 new count ≡ a → blocks_of m1 new (count + 1) ≡ blocks_of m0 old count ++ a ∷ []
 blocks-grow m0 m1 old new count a same next =
     map-range_with_len_more (nth_block m1 new) 0 count count (omega arith)
     ∙ ap (λ (xs : List ℕ). xs ++ nth_block m1 new count ∷ []) (map_range_same (nth_block m1 new) (nth_block m0 old) 0 count (λ k l h. same k (omega arith)))
@@ -101,7 +104,8 @@ pub growth-two : (count a s : ℕ) → count ≡ 12 → growth count a s ≡ a �
 growth-two count a s h = grind (arith, nat_tests)
 
 -- what the grown map uses: what it used, and the blocks that were taken
-pub uses-grow : (m0 m1 : ℕ → List ℕ) (old new : Inode) (count a : ℕ) → blocks_of m1 new (count + 1) ≡ blocks_of m0 old count ++ a ∷ [] → (count ≢ 12 → new.single ≡ old.single)
+pub uses-grow : (m0 m1 : ℕ → List ℕ) (old new : Inode) (count a : ℕ) → blocks_of m1 new (count + 1) ≡ blocks_of m0 old count ++ a ∷ []
+    → (count ≢ 12 → new.single ≡ old.single)
     → (b : ℕ) → times (uses m1 new (count + 1)) b ≡ times (uses m0 old count) b + times (growth count a new.single) b
 uses-grow m0 m1 old new count a blocks single b =
     let all = times-append (indirect_of new (count + 1)) (blocks_of m1 new (count + 1)) b in
@@ -116,7 +120,8 @@ uses-grow m0 m1 old new count a blocks single b =
           omega arith
       | false ↦ λ t.
           let x = ap (λ xs. times xs b) (indirect-one new (count + 1) (grind (arith, nat_tests))) in
-          elim (count == 12) as (λ u. (count == 12) ≡ u → times (uses m1 new (count + 1)) b ≡ times (uses m0 old count) b + times (growth count a new.single) b) [
+          elim (count == 12) as (λ u. (count == 12) ≡ u
+          → times (uses m1 new (count + 1)) b ≡ times (uses m0 old count) b + times (growth count a new.single) b) [
             | true ↦ λ u.
                 let h : count ≡ 12 = grind (arith, nat_tests) in
                 let y = ap (λ xs. times xs b) (indirect-none old count (omega arith)) in
@@ -135,14 +140,18 @@ least-same : (p q : ℕ → Bool) (a : ℕ) → ((b : ℕ) → q b ≡ p b) → 
 least-same p q a h l = (h a ∙ l.0, λ b k. h b ∙ l.1 b k)
 
 -- two blocks that were taken one after the other
-pub took-two : (lot : LotView) (m0 m1 m2 : ℕ → List ℕ) (a b : ℕ) → IsLeast (used_block m0) a → Marked lot true m0 m1 (a ∷ []) → IsLeast (used_block m1) b → Marked lot true m1 m2 (b ∷ []) → TookTwo lot m0 m2 a b
+pub took-two : (lot : LotView) (m0 m1 m2 : ℕ → List ℕ) (a b : ℕ) → IsLeast (used_block m0) a → Marked lot true m0 m1 (a ∷ [])
+    → IsLeast (used_block m1) b → Marked lot true m1 m2 (b ∷ []) → TookTwo lot m0 m2 a b
 took-two lot m0 m1 m2 a b la ma lb mb = record {
   first = la;
-  second = least-same (used_block m1) (λ k. cond (k == a) true (used_block m0 k)) b (λ k. ap (λ t. cond t true (used_block m0 k)) (sym (has-one a k)) ∙ sym (ma.used k)) lb;
+  second =
+      least-same (used_block m1) (λ k. cond (k == a) true (used_block m0 k)) b
+      (λ k. ap (λ t. cond t true (used_block m0 k)) (sym (has-one a k)) ∙ sym (ma.used k)) lb;
   took = marked-then lot true m0 m1 m2 (a ∷ []) (b ∷ []) ma mb;
 }
 
-pub grown-direct : (lot : LotView) (m0 m1 : ℕ → List ℕ) (old new : Inode) (count a : ℕ) → new.direct ≡ slice_set old.direct count a → new.single ≡ old.single → count < 12 → length old.direct ≡ 12
+pub grown-direct : (lot : LotView) (m0 m1 : ℕ → List ℕ) (old new : Inode) (count a : ℕ) → new.direct ≡ slice_set old.direct count a
+    → new.single ≡ old.single → count < 12 → length old.direct ≡ 12
     → is_data lot a ≡ true → Took false m0 m1 a → ((b : ℕ) → b ≢ sub_address → b ≢ bitmap_of false a → m1 b ≡ m0 b) → Grown lot m0 m1 old new count a
 grown-direct lot m0 m1 old new count a d single h l place t only =
     let blocks = blocks-grow m0 m1 old new count a
@@ -167,20 +176,25 @@ two-free lot m0 m1 a s t = let e = t.second.0 in grind arith
 beside-bitmaps : (lot : LotView) (m1 m2 : ℕ → List ℕ) (s : ℕ) → is_data lot s ≡ true → ((b : ℕ) → b ≢ s → m2 b ≡ m1 b) → (o : ℕ) → m2 (256 * o) ≡ m1 (256 * o)
 beside-bitmaps lot m1 m2 s place only o = only (256 * o) (data_not_bitmap lot s o place)
 
-beside-sub : (lot : LotView) (m1 m2 : ℕ → List ℕ) (s : ℕ) → length lot.groups ≤ 64 → is_data lot s ≡ true → ((b : ℕ) → b ≢ s → m2 b ≡ m1 b) → m2 sub_address ≡ m1 sub_address
+beside-sub : (lot : LotView) (m1 m2 : ℕ → List ℕ) (s : ℕ) → length lot.groups ≤ 64 → is_data lot s ≡ true → ((b : ℕ) → b ≢ s → m2 b ≡ m1 b)
+    → m2 sub_address ≡ m1 sub_address
 beside-sub lot m1 m2 s few place only = only sub_address (data_not_sub lot s few place)
 
-pub marked-beside : (lot : LotView) (v : Bool) (m0 m1 m2 : ℕ → List ℕ) (xs : List ℕ) (s : ℕ) → length lot.groups ≤ 64 → is_data lot s ≡ true → ((b : ℕ) → b ≢ s → m2 b ≡ m1 b) → Marked lot v m0 m1 xs → Marked lot v m0 m2 xs
-marked-beside lot v m0 m1 m2 xs s few place only k = marked-same lot v m0 m1 m2 xs (beside-bitmaps lot m1 m2 s place only) (beside-sub lot m1 m2 s few place only) k
+pub marked-beside : (lot : LotView) (v : Bool) (m0 m1 m2 : ℕ → List ℕ) (xs : List ℕ) (s : ℕ) → length lot.groups ≤ 64
+    → is_data lot s ≡ true → ((b : ℕ) → b ≢ s → m2 b ≡ m1 b) → Marked lot v m0 m1 xs → Marked lot v m0 m2 xs
+marked-beside lot v m0 m1 m2 xs s few place only k =
+    marked-same lot v m0 m1 m2 xs (beside-bitmaps lot m1 m2 s place only) (beside-sub lot m1 m2 s few place only) k
 
-pub grown-first : (lot : LotView) (m0 m1 m2 : ℕ → List ℕ) (old new : Inode) (block text : List ℕ) (a s : ℕ) → new.direct ≡ old.direct → new.single ≡ s → length lot.groups ≤ 64 → is_data lot s ≡ true
+pub grown-first : (lot : LotView) (m0 m1 m2 : ℕ → List ℕ) (old new : Inode) (block text : List ℕ) (a s : ℕ) → new.direct ≡ old.direct
+    → new.single ≡ s → length lot.groups ≤ 64 → is_data lot s ≡ true
     → TookTwo lot m0 m1 a s → block ≡ replicate 1024 0 → WordSet block 0 a text → m2 s ≡ text → ((b : ℕ) → b ≢ s → m2 b ≡ m1 b) → Grown lot m0 m2 old new 12 a
 grown-first lot m0 m1 m2 old new block text a s d e few place two z w at only =
     let blocks = blocks-grow m0 m2 old new 12 a
     (λ n h. nth-direct m2 new n h ∙ ap (λ (x : List ℕ). slice_index x n) d ∙ sym (nth-direct m0 old n h))
     (nth-single m2 new 12 (omega arith) ∙ ap (λ (x : List ℕ). word_at x 0) (ap m2 e ∙ at) ∙ w.value) in
     let named : WordSet (replicate 1024 0) 0 a (m2 new.single) = rw (ap m2 e ∙ at) (subst (λ (x : List ℕ). WordSet x 0 a text) z w) in
-    let fresh : (b : ℕ) → has (a ∷ new.single ∷ []) b ≡ true → used_block m0 b ≡ false = (λ b. fresh-two m0 a new.single b two.first.0 (ap (used_block m0) e ∙ two-free lot m0 m1 a s two)) in
+    let fresh : (b : ℕ) → has (a ∷ new.single ∷ []) b ≡ true
+    → used_block m0 b ≡ false = (λ b. fresh-two m0 a new.single b two.first.0 (ap (used_block m0) e ∙ two-free lot m0 m1 a s two)) in
     let took : Marked lot true m0 m2 (a ∷ new.single ∷ []) = rw e (marked-beside lot true m0 m1 m2 (a ∷ s ∷ []) s few place only two.took) in
     record {
       blocks = blocks;
@@ -192,9 +206,11 @@ grown-first lot m0 m1 m2 old new block text a s d e few place two z w at only =
       named = λ _. named;
     }
 
-pub grown-single : (lot : LotView) (m0 m1 m2 : ℕ → List ℕ) (inode : Inode) (block text : List ℕ) (count a : ℕ) → 12 < count → length lot.groups ≤ 64 → is_data lot inode.single ≡ true → is_data lot a ≡ true
+pub grown-single : (lot : LotView) (m0 m1 m2 : ℕ → List ℕ) (inode : Inode) (block text : List ℕ) (count a : ℕ) → 12 < count
+    → length lot.groups ≤ 64 → is_data lot inode.single ≡ true → is_data lot a ≡ true
     → Took false m0 m1 a → ((b : ℕ) → b ≢ sub_address → b ≢ bitmap_of false a → m1 b ≡ m0 b)
-    → block ≡ m0 inode.single → WordSet block (4 * (count - 12)) a text → m2 inode.single ≡ text → ((b : ℕ) → b ≢ inode.single → m2 b ≡ m1 b) → Grown lot m0 m2 inode inode count a
+    → block ≡ m0 inode.single → WordSet block (4 * (count - 12)) a text → m2 inode.single ≡ text
+    → ((b : ℕ) → b ≢ inode.single → m2 b ≡ m1 b) → Grown lot m0 m2 inode inode count a
 grown-single lot m0 m1 m2 inode block text count a h few place new t puts e w at only =
     let blocks = blocks-grow m0 m2 inode inode count a
     (λ n q. elim (ltb n 12) as (λ t. ltb n 12 ≡ t → nth_block m2 inode n ≡ nth_block m0 inode n) [
@@ -225,10 +241,12 @@ stays-own lot m0 m1 inode count h few place only =
     stays-one lot m0 m1 (indirect_of inode count) inode.single few place (λ e. absurd (grind (arith, nat_tests))) only
 
 -- what is said of equal maps
-pub grown-from : (lot : LotView) (m0 m1 m2 : ℕ → List ℕ) (old new : Inode) (count a : ℕ) → m1 ≡ m0 → Grown lot m1 m2 old new count a → Grown lot m0 m2 old new count a
+pub grown-from : (lot : LotView) (m0 m1 m2 : ℕ → List ℕ) (old new : Inode) (count a : ℕ) → m1 ≡ m0 → Grown lot m1 m2 old new count a
+    → Grown lot m0 m2 old new count a
 grown-from lot m0 m1 m2 old new count a e g = subst (λ (m : ℕ → List ℕ). Grown lot m m2 old new count a) e g
 
-pub grown-twelve : (lot : LotView) (m0 m2 : ℕ → List ℕ) (old new : Inode) (count a : ℕ) → count ≡ 12 → Grown lot m0 m2 old new 12 a → Grown lot m0 m2 old new count a
+pub grown-twelve : (lot : LotView) (m0 m2 : ℕ → List ℕ) (old new : Inode) (count a : ℕ) → count ≡ 12 → Grown lot m0 m2 old new 12 a
+    → Grown lot m0 m2 old new count a
 grown-twelve lot m0 m2 old new count a e g = subst (λ n. Grown lot m0 m2 old new n a) (sym e) g
 
 pub stays-from : (lot : LotView) (m0 m1 m2 : ℕ → List ℕ) (but : List ℕ) → m1 ≡ m0 → Stays lot m1 m2 but → Stays lot m0 m2 but
@@ -244,7 +262,8 @@ puts-first count a s h = grind (arith, nat_tests)
 pub puts-single : (count a s : ℕ) → 12 < count → growth_puts count a s ≡ sub_address ∷ bitmap_of false a ∷ s ∷ []
 puts-single count a s h = grind (arith, nat_tests)
 
-pub puts-same : {V D : Type 0} (k : view.Ghosts V D) (lot : LotView) (ok : Bool) (xs ys : List ℕ) (v : V) (e : D) (w : V) (f : D) → ys ≡ xs → Puts k lot ok xs v e w f → Puts k lot ok ys v e w f
+pub puts-same : {V D : Type 0} (k : view.Ghosts V D) (lot : LotView) (ok : Bool) (xs ys : List ℕ) (v : V) (e : D) (w : V) (f : D) → ys ≡ xs
+    → Puts k lot ok xs v e w f → Puts k lot ok ys v e w f
 puts-same {V} {D} k lot ok xs ys v e w f same p = subst (λ (zs : List ℕ). Puts k lot ok zs v e w f) (sym same) p
 
 -- how many blocks a growth takes, by its cases
@@ -273,7 +292,8 @@ map-stays m0 m1 inode count same = record {
 }
 
 -- what stays of the others
-pub others-stay : (lot : LotView) (m0 m1 : ℕ → List ℕ) (inode : Inode) (count : ℕ) → Stays lot m0 m1 (indirect_of inode count) → OthersStay lot m0 m1 inode count
+pub others-stay : (lot : LotView) (m0 m1 : ℕ → List ℕ) (inode : Inode) (count : ℕ) → Stays lot m0 m1 (indirect_of inode count)
+    → OthersStay lot m0 m1 inode count
 others-stay lot m0 m1 inode count s other n owns apart = map-stays m0 m1 other n (λ b h. s.blocks b (owns b h).0 (owns b h).1
     (elim (ltb 12 count) as (λ t. ltb 12 count ≡ t → has (indirect_of inode count) b ≡ false) [
       | true ↦ λ t. let l : 12 < count = grind (arith, nat_tests) in

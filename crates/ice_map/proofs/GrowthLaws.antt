@@ -48,7 +48,8 @@ more-then lot m0 m1 m2 n k s a b e = record {
 }
 
 -- data places that were marked
-more-marked : (lot : LotView) (m0 m1 : ℕ → List ℕ) (xs : List ℕ) (n : ℕ) → Marked lot true m0 m1 xs → ((b : ℕ) → has xs b ≡ true → is_data lot b ≡ true) → length xs ≡ n → MoreMarked lot m0 m1 n
+more-marked : (lot : LotView) (m0 m1 : ℕ → List ℕ) (xs : List ℕ) (n : ℕ) → Marked lot true m0 m1 xs
+    → ((b : ℕ) → has xs b ≡ true → is_data lot b ≡ true) → length xs ≡ n → MoreMarked lot m0 m1 n
 more-marked lot m0 m1 xs n k placed l = record {
   free = let f = k.free in omega arith;
   counts = let v = k.counts.value in omega arith;
@@ -61,7 +62,8 @@ more-marked lot m0 m1 xs n k placed l = record {
 }
 
 -- another data place was put
-more-put : (lot : LotView) (m0 m1 m2 : ℕ → List ℕ) (n at : ℕ) → length lot.groups ≤ 64 → is_data lot at ≡ true → ((b : ℕ) → b ≢ at → m2 b ≡ m1 b) → MoreMarked lot m0 m1 n → MoreMarked lot m0 m2 n
+more-put : (lot : LotView) (m0 m1 m2 : ℕ → List ℕ) (n at : ℕ) → length lot.groups ≤ 64 → is_data lot at ≡ true
+    → ((b : ℕ) → b ≢ at → m2 b ≡ m1 b) → MoreMarked lot m0 m1 n → MoreMarked lot m0 m2 n
 more-put lot m0 m1 m2 n at few place only k =
     let bitmaps : (o : ℕ) → m2 (256 * o) ≡ m1 (256 * o) = λ o. only (256 * o) (data_not_bitmap lot at o place) in
     let s : m2 sub_address ≡ m1 sub_address = only sub_address (data_not_sub lot at few place) in
@@ -74,7 +76,8 @@ more-put lot m0 m1 m2 n at few place only k =
     }
 
 -- the blocks that a growth takes
-growth-data : (lot : LotView) (c a s : ℕ) → is_data lot a ≡ true → (12 ≤ c → is_data lot s ≡ true) → (b : ℕ) → has (growth c a s) b ≡ true → is_data lot b ≡ true
+growth-data : (lot : LotView) (c a s : ℕ) → is_data lot a ≡ true → (12 ≤ c → is_data lot s ≡ true) → (b : ℕ) → has (growth c a s) b ≡ true
+    → is_data lot b ≡ true
 growth-data lot c a s place place_single b h =
     elim (c == 12) as (λ t. (c == 12) ≡ t → is_data lot b ≡ true) [
       | true ↦ λ t. let e : c ≡ 12 = grind (arith, nat_tests) in
@@ -101,14 +104,17 @@ length-growth c a s =
 -- nothing grew
 pub grew-same : (lot : LotView) (m0 m1 : ℕ → List ℕ) (x : Inode) (c d : ℕ) → m1 ≡ m0 → d ≡ c → Grew lot m0 m1 x x c d
 grew-same lot m0 m1 x c d e f = record {
-  marked = subst (λ (m : ℕ → List ℕ). MoreMarked lot m0 m (uses_of d - uses_of c)) (sym e) (more-refl lot m0 (uses_of d - uses_of c) (let g = ap uses_of f in omega arith));
+  marked =
+      subst (λ (m : ℕ → List ℕ). MoreMarked lot m0 m (uses_of d - uses_of c)) (sym e)
+      (more-refl lot m0 (uses_of d - uses_of c) (let g = ap uses_of f in omega arith));
   direct = λ n h. refl;
   single = λ h. refl;
   place = λ h l. absurd (omega arith);
 }
 
 -- one block more
-pub grew-one : (lot : LotView) (m0 m1 : ℕ → List ℕ) (x y : Inode) (c d a : ℕ) → Grown lot m0 m1 x y c a → is_data lot a ≡ true → (12 ≤ c → is_data lot y.single ≡ true) → y ≡ widened x c a y.single → d ≡ c + 1 → Grew lot m0 m1 x y c d
+pub grew-one : (lot : LotView) (m0 m1 : ℕ → List ℕ) (x y : Inode) (c d a : ℕ) → Grown lot m0 m1 x y c a → is_data lot a ≡ true
+    → (12 ≤ c → is_data lot y.single ≡ true) → y ≡ widened x c a y.single → d ≡ c + 1 → Grew lot m0 m1 x y c d
 grew-one lot m0 m1 x y c d a grown place place_single fields e =
     let u = uses-needs c in
     let v = ap uses_of e in
@@ -121,7 +127,8 @@ grew-one lot m0 m1 x y c d a grown place place_single fields e =
     }
 
 -- one growth after another
-pub grew-then : (lot : LotView) (m0 m1 m2 : ℕ → List ℕ) (x y z : Inode) (c d e : ℕ) → c ≤ d → d ≤ e → Grew lot m0 m1 x y c d → Grew lot m1 m2 y z d e → Grew lot m0 m2 x z c e
+pub grew-then : (lot : LotView) (m0 m1 m2 : ℕ → List ℕ) (x y z : Inode) (c d e : ℕ) → c ≤ d → d ≤ e → Grew lot m0 m1 x y c d
+    → Grew lot m1 m2 y z d e → Grew lot m0 m2 x z c e
 grew-then lot m0 m1 m2 x y z c d e h k a b =
     let u = uses-less c d h in
     let v = uses-less d e k in
@@ -136,7 +143,8 @@ grew-then lot m0 m1 m2 x y z c d e h k a b =
     }
 
 -- another data place was put
-pub grew-put : (lot : LotView) (m0 m1 m2 : ℕ → List ℕ) (x y : Inode) (c d at : ℕ) → length lot.groups ≤ 64 → is_data lot at ≡ true → ((b : ℕ) → b ≢ at → m2 b ≡ m1 b) → Grew lot m0 m1 x y c d → Grew lot m0 m2 x y c d
+pub grew-put : (lot : LotView) (m0 m1 m2 : ℕ → List ℕ) (x y : Inode) (c d at : ℕ) → length lot.groups ≤ 64 → is_data lot at ≡ true
+    → ((b : ℕ) → b ≢ at → m2 b ≡ m1 b) → Grew lot m0 m1 x y c d → Grew lot m0 m2 x y c d
 grew-put lot m0 m1 m2 x y c d at few place only g = record {
   marked = more-put lot m0 m1 m2 (uses_of d - uses_of c) at few place only g.marked;
   direct = g.direct;
@@ -169,14 +177,18 @@ reserved-more lot m0 m1 n k r = record {
 }
 
 -- a way that strays does so in the map as it was
-leads-kept : (lot : LotView) (m : ℕ → List ℕ) (x y : Inode) (k : ℕ) → slice_index y.direct k ≡ slice_index x.direct k → (12 ≤ k → y.single ≡ x.single) → leads lot m x k ≡ leads lot m y k
+leads-kept : (lot : LotView) (m : ℕ → List ℕ) (x y : Inode) (k : ℕ) → slice_index y.direct k ≡ slice_index x.direct k
+    → (12 ≤ k → y.single ≡ x.single) → leads lot m x k ≡ leads lot m y k
 leads-kept lot m x y k d s =
     elim (ltb k 12) as (λ t. ltb k 12 ≡ t → leads lot m x k ≡ leads lot m y k) [
       | true ↦ λ t. let l : k < 12 = grind (arith, nat_tests) in leads-direct lot m x k l ∙ ap (is_data lot) (sym d) ∙ sym (leads-direct lot m y k l)
       | false ↦ λ t. let l : 12 ≤ k = grind (arith, nat_tests) in
           let e = s l in
           elim (is_data lot x.single) as (λ u. is_data lot x.single ≡ u → leads lot m x k ≡ leads lot m y k) [
-            | true ↦ λ u. leads-single lot m x k l u ∙ ap (is_data lot) (nth-single m x k l ∙ ap (λ a. word_at (m a) (4 * (k - 12))) (sym e) ∙ sym (nth-single m y k l)) ∙ sym (leads-single lot m y k l (ap (is_data lot) e ∙ u))
+            | true ↦ λ u.
+                leads-single lot m x k l u ∙ ap (is_data lot)
+                (nth-single m x k l ∙ ap (λ a. word_at (m a) (4 * (k - 12))) (sym e) ∙ sym (nth-single m y k l))
+                ∙ sym (leads-single lot m y k l (ap (is_data lot) e ∙ u))
             | false ↦ λ u. leads-lost lot m x k l u ∙ sym (leads-lost lot m y k l (ap (is_data lot) e ∙ u))
           ] refl
     ] refl
@@ -197,16 +209,19 @@ single-twice m x c k l h e =
     (x.single, grind arith)
 
 -- a block of the map that it has, where its pointers stay and so does its indirect block
-nth-kept : (m0 m1 : ℕ → List ℕ) (x y : Inode) (k : ℕ) → slice_index y.direct k ≡ slice_index x.direct k → (12 ≤ k → y.single ≡ x.single) → (12 ≤ k → m1 x.single ≡ m0 x.single) → nth_block m1 y k ≡ nth_block m0 x k
+nth-kept : (m0 m1 : ℕ → List ℕ) (x y : Inode) (k : ℕ) → slice_index y.direct k ≡ slice_index x.direct k → (12 ≤ k → y.single ≡ x.single)
+    → (12 ≤ k → m1 x.single ≡ m0 x.single) → nth_block m1 y k ≡ nth_block m0 x k
 nth-kept m0 m1 x y k d s same =
     elim (ltb k 12) as (λ t. ltb k 12 ≡ t → nth_block m1 y k ≡ nth_block m0 x k) [
       | true ↦ λ t. let l : k < 12 = grind (arith, nat_tests) in nth-direct m1 y k l ∙ d ∙ sym (nth-direct m0 x k l)
       | false ↦ λ t. let l : 12 ≤ k = grind (arith, nat_tests) in
-          nth-single m1 y k l ∙ ap (λ a. word_at (m1 a) (4 * (k - 12))) (s l) ∙ ap (λ (b : List ℕ). word_at b (4 * (k - 12))) (same l) ∙ sym (nth-single m0 x k l)
+          nth-single m1 y k l ∙ ap (λ a. word_at (m1 a) (4 * (k - 12))) (s l) ∙ ap (λ (b : List ℕ). word_at b (4 * (k - 12))) (same l)
+          ∙ sym (nth-single m0 x k l)
     ] refl
 
 -- one of them was written
-pub unmixed-one : (m0 m1 m2 : ℕ → List ℕ) (x : Inode) (c k at : ℕ) → 12 < c → k < c → at ≡ nth_block m0 x k → ((b : ℕ) → b ≢ at → m2 b ≡ m1 b) → m1 x.single ≡ m0 x.single → Unmixed m0 m2 x c
+pub unmixed-one : (m0 m1 m2 : ℕ → List ℕ) (x : Inode) (c k at : ℕ) → 12 < c → k < c → at ≡ nth_block m0 x k
+    → ((b : ℕ) → b ≢ at → m2 b ≡ m1 b) → m1 x.single ≡ m0 x.single → Unmixed m0 m2 x c
 unmixed-one m0 m1 m2 x c k at long h e only same =
     elim (at == x.single) as (λ t. (at == x.single) ≡ t → Unmixed m0 m2 x c) [
       | true ↦ λ t. let q : at ≡ x.single = grind (arith, nat_tests) in inr (single-twice m0 x c k long h (sym e ∙ q))
@@ -214,14 +229,16 @@ unmixed-one m0 m1 m2 x c k at long h e only same =
     ] refl
 
 -- one more of them was
-pub unmixed-next : (lot : LotView) (m0 m1 m2 : ℕ → List ℕ) (x y : Inode) (c d k : ℕ) → Grew lot m0 m1 x y c d → 12 < c → k < c → ((b : ℕ) → b ≢ nth_block m1 y k → m2 b ≡ m1 b) → Unmixed m0 m1 x c → Unmixed m0 m2 x c
+pub unmixed-next : (lot : LotView) (m0 m1 m2 : ℕ → List ℕ) (x y : Inode) (c d k : ℕ) → Grew lot m0 m1 x y c d → 12 < c → k < c
+    → ((b : ℕ) → b ≢ nth_block m1 y k → m2 b ≡ m1 b) → Unmixed m0 m1 x c → Unmixed m0 m2 x c
 unmixed-next lot m0 m1 m2 x y c d k g long h only u = ⊎_elim
     (λ same. unmixed-one m0 m1 m2 x c k (nth_block m1 y k) long h (nth-kept m0 m1 x y k (g.direct k h) (λ l. g.single long) (λ l. same)) only same)
     (λ twice. inr twice)
     u
 
 -- a block of the map that leads nowhere now
-pub misled-here : (lot : LotView) (m0 m1 : ℕ → List ℕ) (x : Inode) (c k : ℕ) → k < c → (12 < c → Unmixed m0 m1 x c) → leads lot m1 x k ≡ false → Confuses lot m0 x c
+pub misled-here : (lot : LotView) (m0 m1 : ℕ → List ℕ) (x : Inode) (c k : ℕ) → k < c → (12 < c → Unmixed m0 m1 x c)
+    → leads lot m1 x k ≡ false → Confuses lot m0 x c
 misled-here lot m0 m1 x c k l mixed lost =
     elim (ltb k 12) as (λ t. ltb k 12 ≡ t → Confuses lot m0 x c) [
       | true ↦ λ t. let h : k < 12 = grind (arith, nat_tests) in
@@ -230,14 +247,16 @@ misled-here lot m0 m1 x c k l mixed lost =
           elim (is_data lot x.single) as (λ u. is_data lot x.single ≡ u → Confuses lot m0 x c) [
             | false ↦ λ u. inl (record { block = k; below = l; bad = leads-lost lot m0 x k h u })
             | true ↦ λ u. ⊎_elim
-                (λ same. inl (record { block = k; below = l; bad = leads-single lot m0 x k h u ∙ ap (is_data lot) (sym (nth-kept m0 m1 x x k refl (λ j. refl) (λ j. same))) ∙ sym (leads-single lot m1 x k h u) ∙ lost }))
+                (λ same. inl
+                (record { block = k; below = l; bad = leads-single lot m0 x k h u ∙ ap (is_data lot) (sym (nth-kept m0 m1 x x k refl (λ j. refl) (λ j. same))) ∙ sym (leads-single lot m1 x k h u) ∙ lost }))
                 (λ twice. inr twice)
                 (mixed (omega arith))
           ] refl
     ] refl
 
 -- where the way to a block that a growth didn't add strays, the map before it misled or used a block twice
-pub misled-from : (lot : LotView) (m0 m1 : ℕ → List ℕ) (x y : Inode) (c d k : ℕ) → Grew lot m0 m1 x y c d → (k < d → k < c) → (k < c → 12 < c → Unmixed m0 m1 x c) → Strays lot m1 y d k → Confuses lot m0 x c
+pub misled-from : (lot : LotView) (m0 m1 : ℕ → List ℕ) (x y : Inode) (c d k : ℕ) → Grew lot m0 m1 x y c d → (k < d → k < c)
+    → (k < c → 12 < c → Unmixed m0 m1 x c) → Strays lot m1 y d k → Confuses lot m0 x c
 misled-from lot m0 m1 x y c d k g old mixed s = ⊎_elim
     (λ p.
     let l = old p.0 in
@@ -250,6 +269,8 @@ misled-from lot m0 m1 x y c d k g old mixed s = ⊎_elim
     s
 
 -- the sub-super block, where the inode was put after more blocks were marked
-pub sub-put : (lot : LotView) (m m0 m1 m2 : ℕ → List ℕ) (n number : ℕ) → m0 ≡ m → MoreMarked lot m0 m1 n → ((b : ℕ) → b ≢ inode_address number → m2 b ≡ m1 b) → SameBeside (count_place false) 4 (m sub_address) (m2 sub_address)
+pub sub-put : (lot : LotView) (m m0 m1 m2 : ℕ → List ℕ) (n number : ℕ) → m0 ≡ m → MoreMarked lot m0 m1 n
+    → ((b : ℕ) → b ≢ inode_address number → m2 b ≡ m1 b) → SameBeside (count_place false) 4 (m sub_address) (m2 sub_address)
 sub-put lot m m0 m1 m2 n number e k only j h =
-    ap (λ (b : List ℕ). slice_index b j) (only sub_address (λ q. inode_not_sub number (sym q))) ∙ k.sub j h ∙ ap (λ (x : ℕ → List ℕ). slice_index (x sub_address) j) e
+    ap (λ (b : List ℕ). slice_index b j) (only sub_address (λ q. inode_not_sub number (sym q))) ∙ k.sub j h
+    ∙ ap (λ (x : ℕ → List ℕ). slice_index (x sub_address) j) e

@@ -39,7 +39,8 @@ same_address a b e f =
     omega arith
 
 -- every other inode of a lot in which one was written
-inode_of_other : (m0 m1 : ℕ → List ℕ) (block new : List ℕ) (number : ℕ) → block ≡ m0 (inode_address number) → SameBeside (128 * (number % 8)) 128 block new → m1 (inode_address number) ≡ new
+inode_of_other : (m0 m1 : ℕ → List ℕ) (block new : List ℕ) (number : ℕ) → block ≡ m0 (inode_address number)
+    → SameBeside (128 * (number % 8)) 128 block new → m1 (inode_address number) ≡ new
     → ((b : ℕ) → b ≢ inode_address number → m1 b ≡ m0 b) → (other : ℕ) → other ≢ number → inode_of m1 other ≡ inode_of m0 other
 inode_of_other m0 m1 block new number e o at only other ne =
     elim (inode_address other == inode_address number) as (λ t. (inode_address other == inode_address number) ≡ t → inode_of m1 other ≡ inode_of m0 other) [
@@ -52,7 +53,8 @@ inode_of_other m0 m1 block new number e o at only other ne =
     ] refl
 
 -- what a write of an inode's block does
-pub inode_set : (m0 m1 : ℕ → List ℕ) (block new : List ℕ) (number : ℕ) (inode : Inode) → block ≡ m0 (inode_address number) → inode_at new (number % 8) ≡ inode → Blank new (number % 8) → SameBeside (128 * (number % 8)) 128 block new
+pub inode_set : (m0 m1 : ℕ → List ℕ) (block new : List ℕ) (number : ℕ) (inode : Inode) → block ≡ m0 (inode_address number)
+    → inode_at new (number % 8) ≡ inode → Blank new (number % 8) → SameBeside (128 * (number % 8)) 128 block new
     → m1 (inode_address number) ≡ new → ((b : ℕ) → b ≢ inode_address number → m1 b ≡ m0 b) → InodeSet m0 m1 number inode
 inode_set m0 m1 block new number inode e value blank o at only = record {
   value = ap (λ (b : List ℕ). inode_at b (number % 8)) at ∙ value;

@@ -37,7 +37,8 @@ map_range_same f g a n h =
     let lg = length-map-range_with_len g a n in
     ext_get_or 0 (map f (range_with_len a n)) (map g (range_with_len a n)) (lf ∙ sym lg)
     (λ k l. let small : k < n = omega arith in
-    get_or-map-range_with_len f a n k (a + k) 0 small refl ∙ h (a + k) (omega arith) (omega arith) ∙ sym (get_or-map-range_with_len g a n k (a + k) 0 small refl))
+    get_or-map-range_with_len f a n k (a + k) 0 small refl ∙ h (a + k) (omega arith) (omega arith)
+    ∙ sym (get_or-map-range_with_len g a n k (a + k) 0 small refl))
 
 count_below-suc : (p : ℕ → Bool) (n : ℕ) → count_below p (suc n) ≡ count_below p n + cond (p n) 1 0
 count_below-suc p n = rw add-one at (count_below-add_one p n)
@@ -97,7 +98,8 @@ except_elim a (b ∷ xs) P p out =
 
 pub except_intro : (a : ℕ) (xs : List ℕ) (P : Type 0) → (has xs a ≡ false → P) → Except a xs P
 except_intro a [] P f = f (has-none a)
-except_intro a (b ∷ xs) P f = λ ne. except_intro a xs P (λ out. let e = has-cons b a xs in f (let r : (b == a) ≡ false = grind (arith, nat_tests) in grind arith))
+except_intro a (b ∷ xs) P f =
+    λ ne. except_intro a xs P (λ out. let e = has-cons b a xs in f (let r : (b == a) ≡ false = grind (arith, nat_tests) in grind arith))
 
 pub where_elim : (wide xs : List ℕ) (P : Type 0) → Where wide xs P → AllHas wide xs → P
 where_elim wide [] P p all = p
@@ -127,7 +129,9 @@ has-times (a ∷ xs) b h =
 
 -- a list of a function's values, cut in two
 pub range-append : (f : ℕ → ℕ) (a n m : ℕ) → map f (range_with_len a n) ++ map f (range_with_len (a + n) m) ≡ map f (range_with_len a (n + m))
-range-append f a zero m = let e : a + zero ≡ a = omega arith in let k : zero + m ≡ m = omega arith in ap (λ x. map f (range_with_len x m)) e ∙ ap (λ x. map f (range_with_len a x)) (sym k)
+range-append f a zero m =
+    let e : a + zero ≡ a = omega arith in let k : zero + m ≡ m = omega arith in ap (λ x. map f (range_with_len x m)) e
+    ∙ ap (λ x. map f (range_with_len a x)) (sym k)
 range-append f a (suc n) m =
     let e : a + suc n ≡ a + 1 + n = omega arith in
     let k : suc n + m ≡ suc (n + m) = omega arith in
@@ -139,8 +143,12 @@ pub has-range : (f : ℕ → ℕ) (a n k : ℕ) → a ≤ k → k < a + n → ha
 has-range f a zero k l h = absurd (omega arith)
 has-range f a (suc n) k l h =
     elim (a == k) as (λ t. (a == k) ≡ t → has (map f (range_with_len a (suc n))) (f k) ≡ true) [
-      | true ↦ λ t. let same : a ≡ k = grind (arith, nat_tests) in ap (λ x. has (map f (range_with_len a (suc n))) (f x)) (sym same) ∙ has-head (f a) (map f (range_with_len (a + 1) n))
-      | false ↦ λ t. let ne : a ≢ k = grind (arith, nat_tests) in has-tail (f a) (f k) (map f (range_with_len (a + 1) n)) (has-range f (a + 1) n k (omega arith) (omega arith))
+      | true ↦ λ t.
+          let same : a ≡ k = grind (arith, nat_tests) in ap (λ x. has (map f (range_with_len a (suc n))) (f x)) (sym same)
+          ∙ has-head (f a) (map f (range_with_len (a + 1) n))
+      | false ↦ λ t.
+          let ne : a ≢ k = grind (arith, nat_tests) in
+          has-tail (f a) (f k) (map f (range_with_len (a + 1) n)) (has-range f (a + 1) n k (omega arith) (omega arith))
     ] refl
 
 pub lacks-wide : (held : ℕ → Bool) (a : ℕ) (xs : List ℕ) → lacks held (a ∷ xs) ≤ 1 + lacks held xs

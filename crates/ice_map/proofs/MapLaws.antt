@@ -23,7 +23,8 @@ unfolding leads
 leads-direct lot m inode n h = let e = nth-direct m inode n h in grind (arith, nat_tests)
 
 -- so does a later one, where the indirect block is a data place
-pub leads-single : (lot : LotView) (m : ℕ → List ℕ) (inode : Inode) (n : ℕ) → 12 ≤ n → is_data lot inode.single ≡ true → leads lot m inode n ≡ is_data lot (nth_block m inode n)
+pub leads-single : (lot : LotView) (m : ℕ → List ℕ) (inode : Inode) (n : ℕ) → 12 ≤ n → is_data lot inode.single ≡ true
+    → leads lot m inode n ≡ is_data lot (nth_block m inode n)
 unfolding leads
 leads-single lot m inode n h d = grind (arith, nat_tests)
 

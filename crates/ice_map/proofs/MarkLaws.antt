@@ -31,7 +31,8 @@ pub free-same : (lot : LotView) (m0 m1 : ℕ → List ℕ) → ((b : ℕ) → us
 free-same lot m0 m1 h = count_below-same (λ i. not (used_block m0 i)) (λ i. not (used_block m1 i)) (256 * length lot.groups) (λ b l. ap not (h b))
 
 -- a change of other blocks leaves the marks
-pub marked-same : (lot : LotView) (v : Bool) (m0 m1 m2 : ℕ → List ℕ) (xs : List ℕ) → ((o : ℕ) → m2 (256 * o) ≡ m1 (256 * o)) → m2 sub_address ≡ m1 sub_address → Marked lot v m0 m1 xs → Marked lot v m0 m2 xs
+pub marked-same : (lot : LotView) (v : Bool) (m0 m1 m2 : ℕ → List ℕ) (xs : List ℕ) → ((o : ℕ) → m2 (256 * o) ≡ m1 (256 * o))
+    → m2 sub_address ≡ m1 sub_address → Marked lot v m0 m1 xs → Marked lot v m0 m2 xs
 marked-same lot v m0 m1 m2 xs bitmaps sub k = record {
   used = λ b. used-same false m1 m2 b bitmaps ∙ k.used b;
   inodes = λ i. used-same true m1 m2 i bitmaps ∙ k.inodes i;
@@ -67,7 +68,8 @@ both_counts : (v : Bool) (c n m : ℕ) → cond v (cond v (c + n) (c - n) + m) (
 both_counts true c n m = omega arith
 both_counts false c n m = omega arith
 
-both_free : (v : Bool) (f0 f1 f2 n m : ℕ) → f1 + cond v n 0 ≡ f0 + cond v 0 n → f2 + cond v m 0 ≡ f1 + cond v 0 m → f2 + cond v (n + m) 0 ≡ f0 + cond v 0 (n + m)
+both_free : (v : Bool) (f0 f1 f2 n m : ℕ) → f1 + cond v n 0 ≡ f0 + cond v 0 n → f2 + cond v m 0 ≡ f1 + cond v 0 m
+    → f2 + cond v (n + m) 0 ≡ f0 + cond v 0 (n + m)
 both_free true f0 f1 f2 n m h k = omega arith
 both_free false f0 f1 f2 n m h k = omega arith
 
@@ -75,20 +77,25 @@ word_set-then : (s0 s1 s2 : List ℕ) (at x y z : ℕ) → WordSet s0 at x s1 �
 word_set-then s0 s1 s2 at x y z v w e = record { value = w.value ∙ e; others = λ k h. w.others k h ∙ v.others k h }
 
 -- one list of blocks, and then another
-pub marked-then : (lot : LotView) (v : Bool) (m0 m1 m2 : ℕ → List ℕ) (xs ys : List ℕ) → Marked lot v m0 m1 xs → Marked lot v m1 m2 ys → Marked lot v m0 m2 (xs ++ ys)
+pub marked-then : (lot : LotView) (v : Bool) (m0 m1 m2 : ℕ → List ℕ) (xs ys : List ℕ) → Marked lot v m0 m1 xs → Marked lot v m1 m2 ys
+    → Marked lot v m0 m2 (xs ++ ys)
 marked-then lot v m0 m1 m2 xs ys a b =
     let l = length-append xs ys in
     record {
-      used = λ k. b.used k ∙ ap (λ x. cond (has ys k) v x) (a.used k) ∙ both (has xs k) (has ys k) v (used_block m0 k) ∙ ap (λ x. cond x v (used_block m0 k)) (sym (has-append xs ys k));
+      used =
+          λ k. b.used k ∙ ap (λ x. cond (has ys k) v x) (a.used k) ∙ both (has xs k) (has ys k) v (used_block m0 k)
+          ∙ ap (λ x. cond x v (used_block m0 k)) (sym (has-append xs ys k));
       inodes = λ i. b.inodes i ∙ a.inodes i;
       rest = λ o k h. b.rest o k h ∙ a.rest o k h;
       counts = word_set-then _ _ _ _ _ _ _ a.counts b.counts
-          (ap (λ c. cond v (c + length ys) (c - length ys)) a.counts.value ∙ both_counts v (counted false m0) (length xs) (length ys) ∙ ap (λ n. cond v (counted false m0 + n) (counted false m0 - n)) (sym l));
+          (ap (λ c. cond v (c + length ys) (c - length ys)) a.counts.value ∙ both_counts v (counted false m0) (length xs) (length ys)
+          ∙ ap (λ n. cond v (counted false m0 + n) (counted false m0 - n)) (sym l));
       free = let f = both_free v _ _ _ (length xs) (length ys) a.free b.free in rw l f;
     }
 
 -- the bits of one bitmap block past those of the blocks
-rest_kept : (v : Bool) (m0 m1 : ℕ → List ℕ) (a : ℕ) → ((k : ℕ) → bit_of (m1 (bitmap_of false a)) k ≡ cond (k == bit_place false a) v (bit_of (m0 (bitmap_of false a)) k))
+rest_kept : (v : Bool) (m0 m1 : ℕ → List ℕ) (a : ℕ)
+    → ((k : ℕ) → bit_of (m1 (bitmap_of false a)) k ≡ cond (k == bit_place false a) v (bit_of (m0 (bitmap_of false a)) k))
     → ((b : ℕ) → b ≢ sub_address → b ≢ bitmap_of false a → m1 b ≡ m0 b) → (o k : ℕ) → 320 ≤ k → bit_of (m1 (256 * o)) k ≡ bit_of (m0 (256 * o)) k
 rest_kept v m0 m1 a marked only o k h =
     elim (256 * o == bitmap_of false a) as (λ t. (256 * o == bitmap_of false a) ≡ t → bit_of (m1 (256 * o)) k ≡ bit_of (m0 (256 * o)) k) [
@@ -99,7 +106,8 @@ rest_kept v m0 m1 a marked only o k h =
       | false ↦ λ t. ap (λ x. bit_of x k) (only (256 * o) (bitmap_not_sub o) (grind (arith, nat_tests)))
     ] refl
 
-one_used : (v : Bool) (m0 m1 : ℕ → List ℕ) (a b : ℕ) → used_block m1 b ≡ cond (b == a) v (used_block m0 b) → used_block m1 b ≡ cond (has (a ∷ []) b) v (used_block m0 b)
+one_used : (v : Bool) (m0 m1 : ℕ → List ℕ) (a b : ℕ) → used_block m1 b ≡ cond (b == a) v (used_block m0 b)
+    → used_block m1 b ≡ cond (has (a ∷ []) b) v (used_block m0 b)
 one_used v m0 m1 a b h = h ∙ ap (λ t. cond t v (used_block m0 b)) (sym (has-one a b))
 
 not_cond : (t v x : Bool) → not (cond t v x) ≡ cond t (not v) (not x)
@@ -107,7 +115,8 @@ not_cond true v x = refl
 not_cond false v x = refl
 
 -- a block that was taken
-pub marked-took : (lot : LotView) (m0 m1 : ℕ → List ℕ) (a : ℕ) → is_data lot a ≡ true → Took false m0 m1 a → ((b : ℕ) → b ≢ sub_address → b ≢ bitmap_of false a → m1 b ≡ m0 b) → Marked lot true m0 m1 (a ∷ [])
+pub marked-took : (lot : LotView) (m0 m1 : ℕ → List ℕ) (a : ℕ) → is_data lot a ≡ true → Took false m0 m1 a
+    → ((b : ℕ) → b ≢ sub_address → b ≢ bitmap_of false a → m1 b ≡ m0 b) → Marked lot true m0 m1 (a ∷ [])
 marked-took lot m0 m1 a d t only = record {
   used = λ b. one_used true m0 m1 a b (t.taken b);
   inodes = t.others;
@@ -118,13 +127,15 @@ marked-took lot m0 m1 a d t only = record {
 }
 
 -- a block that was given back
-pub marked-gave : (lot : LotView) (m0 m1 : ℕ → List ℕ) (a : ℕ) → is_data lot a ≡ true → Gave false m0 m1 a → ((b : ℕ) → b ≢ sub_address → b ≢ bitmap_of false a → m1 b ≡ m0 b) → Marked lot false m0 m1 (a ∷ [])
+pub marked-gave : (lot : LotView) (m0 m1 : ℕ → List ℕ) (a : ℕ) → is_data lot a ≡ true → Gave false m0 m1 a
+    → ((b : ℕ) → b ≢ sub_address → b ≢ bitmap_of false a → m1 b ≡ m0 b) → Marked lot false m0 m1 (a ∷ [])
 marked-gave lot m0 m1 a d t only = record {
   used = λ b. one_used false m0 m1 a b (t.given b);
   inodes = t.others;
   rest = rest_kept false m0 m1 a t.marked only;
   counts = t.counts;
-  free = let f = count_below-takes (λ i. not (used_block m0 i)) (λ i. not (used_block m1 i)) a (256 * length lot.groups) (data_below lot a d) (ap not t.was_used)
+  free =
+      let f = count_below-takes (λ i. not (used_block m0 i)) (λ i. not (used_block m1 i)) a (256 * length lot.groups) (data_below lot a d) (ap not t.was_used)
       (λ b. ap not (t.given b) ∙ not_cond (b == a) false (used_block m0 b)) in omega arith;
 }
 

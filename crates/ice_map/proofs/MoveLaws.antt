@@ -19,7 +19,8 @@ use Rattle.ice_map.specs.Moves.{Moved, HadBlock, content_of}
 use Rattle.ice_map.proofs.OwnLaws.{times-one, times-none, times-has, marks-refl, marks-then, marks-same, marks-grow, indirect-none, indirect-one, length-uses, uses-nth, uses-single, single-apart, nth-apart, nth-moves, stays-then}
 
 -- one move after another
-pub moved-then : (lot : LotView) (m0 m1 m2 : ℕ → List ℕ) (x y z : Inode) (c d e : ℕ) → Moved lot m0 m1 x y c d → Moved lot m1 m2 y z d e → Moved lot m0 m2 x z c e
+pub moved-then : (lot : LotView) (m0 m1 m2 : ℕ → List ℕ) (x y z : Inode) (c d e : ℕ) → Moved lot m0 m1 x y c d → Moved lot m1 m2 y z d e
+    → Moved lot m0 m2 x z c e
 moved-then lot m0 m1 m2 x y z c d e a b = record {
   made = b.made;
   marks = marks-then lot m0 m1 m2 (uses m0 x c) (uses m1 y d) (uses m2 z e) a.marks b.marks;
@@ -39,7 +40,8 @@ moved-refl lot m x c made = record {
 }
 
 -- a put of one block of a map
-module _ (lot : LotView) (m0 m1 : ℕ → List ℕ) (x : Inode) (c k at : ℕ) (made : MadeOf lot m0 x c) (few : length lot.groups ≤ 64) (small : k < c) (here : nth_block m0 x k ≡ at) (only : (b : ℕ) → b ≢ at → m1 b ≡ m0 b) where
+module _ (lot : LotView) (m0 m1 : ℕ → List ℕ) (x : Inode) (c k at : ℕ) (made : MadeOf lot m0 x c) (few : length lot.groups ≤ 64)
+    (small : k < c) (here : nth_block m0 x k ≡ at) (only : (b : ℕ) → b ≢ at → m1 b ≡ m0 b) where
   at-has : has (uses m0 x c) at ≡ true
   at-has = ap (has (uses m0 x c)) (sym here) ∙ uses-nth m0 x c k small
 
@@ -69,7 +71,9 @@ module _ (lot : LotView) (m0 m1 : ℕ → List ℕ) (x : Inode) (c k at : ℕ) (
   pub put-moved : Moved lot m0 m1 x x c c
   put-moved = record {
     made = put-made;
-    marks = subst (λ xs. MarksFollow lot m0 m1 (uses m0 x c) xs) (sym put-uses) (marks-same lot m0 m1 (uses m0 x c) put-bitmaps (only sub_address (data_not_sub lot at few at-place)));
+    marks =
+        subst (λ xs. MarksFollow lot m0 m1 (uses m0 x c) xs) (sym put-uses)
+        (marks-same lot m0 m1 (uses m0 x c) put-bitmaps (only sub_address (data_not_sub lot at few at-place)));
     stays = record {
       inodes = λ n. ap (λ (b : List ℕ). inode_at b (n % 8)) (only (inode_address n) (inode_not_data lot n at at-place));
       blocks = λ b d u h. only b (λ e. let q = ap (has (uses m0 x c)) e ∙ at-has in absurd cc);
@@ -108,7 +112,8 @@ widened-single x y c a e ne =
     s ∙ ap (λ t. cond t y.single x.single) t
 
 -- a map that grew
-module _ (lot : LotView) (m0 m1 : ℕ → List ℕ) (x y : Inode) (c a : ℕ) (made : MadeOf lot m0 x c) (grown : Grown lot m0 m1 x y c a) (stay : Stays lot m0 m1 (indirect_of x c)) (place : is_data lot a ≡ true) (place_single : 12 ≤ c → is_data lot y.single ≡ true) (fields : y ≡ widened x c a y.single) where
+module _ (lot : LotView) (m0 m1 : ℕ → List ℕ) (x y : Inode) (c a : ℕ) (made : MadeOf lot m0 x c) (grown : Grown lot m0 m1 x y c a)
+    (stay : Stays lot m0 m1 (indirect_of x c)) (place : is_data lot a ≡ true) (place_single : 12 ≤ c → is_data lot y.single ≡ true) (fields : y ≡ widened x c a y.single) where
   growth-data : (b : ℕ) → has (growth c a y.single) b ≡ true → is_data lot b ≡ true
   growth-data b h =
       elim (c == 12) as (λ t. (c == 12) ≡ t → is_data lot b ≡ true) [

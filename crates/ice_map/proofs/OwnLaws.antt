@@ -23,14 +23,17 @@ pub own-short : (f : Form) → f ≡ form_one → (m : ℕ → List ℕ) (number
 own-short f one m number = rw one refl
 
 -- and uses what that map uses
-pub uses-short : (f : Form) → f ≡ form_one → (m : ℕ → List ℕ) (number : ℕ) → (own f m number).uses ≡ uses m (inode_of m number) (map_length f (inode_of m number))
+pub uses-short : (f : Form) → f ≡ form_one → (m : ℕ → List ℕ) (number : ℕ)
+    → (own f m number).uses ≡ uses m (inode_of m number) (map_length f (inode_of m number))
 uses-short f one m number = ap (λ (o : Own). o.uses) (own-short f one m number)
 
 -- so it is well made where that map is
-pub made-short : (lot : LotView) (f : Form) → f ≡ form_one → (m : ℕ → List ℕ) (number : ℕ) → WellMade lot f m number → MadeOf lot m (inode_of m number) (map_length f (inode_of m number))
+pub made-short : (lot : LotView) (f : Form) → f ≡ form_one → (m : ℕ → List ℕ) (number : ℕ) → WellMade lot f m number
+    → MadeOf lot m (inode_of m number) (map_length f (inode_of m number))
 made-short lot f one m number made = subst (λ us. Made lot m (inode_of m number) us (map_length f (inode_of m number))) (uses-short f one m number) made
 
-pub short-made : (lot : LotView) (f : Form) → f ≡ form_one → (m : ℕ → List ℕ) (number : ℕ) → MadeOf lot m (inode_of m number) (map_length f (inode_of m number)) → WellMade lot f m number
+pub short-made : (lot : LotView) (f : Form) → f ≡ form_one → (m : ℕ → List ℕ) (number : ℕ)
+    → MadeOf lot m (inode_of m number) (map_length f (inode_of m number)) → WellMade lot f m number
 short-made lot f one m number made = subst (λ us. Made lot m (inode_of m number) us (map_length f (inode_of m number))) (sym (uses-short f one m number)) made
 
 times-cons : (a b : ℕ) (xs : List ℕ) → times (a ∷ xs) b ≡ cond (a == b) 1 0 + times xs b
@@ -67,7 +70,8 @@ times-zero xs b h =
 pub marks-refl : (lot : LotView) (m : ℕ → List ℕ) (xs : List ℕ) → MarksFollow lot m m xs xs
 marks-refl lot m xs = record { used = λ b. refl; inodes = λ i. refl; rest = λ o k h. refl; counts = λ h. refl; sub = λ k h. refl; free = refl }
 
-pub marks-then : (lot : LotView) (m0 m1 m2 : ℕ → List ℕ) (xs ys zs : List ℕ) → MarksFollow lot m0 m1 xs ys → MarksFollow lot m1 m2 ys zs → MarksFollow lot m0 m2 xs zs
+pub marks-then : (lot : LotView) (m0 m1 m2 : ℕ → List ℕ) (xs ys zs : List ℕ) → MarksFollow lot m0 m1 xs ys → MarksFollow lot m1 m2 ys zs
+    → MarksFollow lot m0 m2 xs zs
 marks-then lot m0 m1 m2 xs ys zs p q = record {
   used = λ b. let r = p.used b in let s = q.used b in omega arith;
   inodes = λ i. q.inodes i ∙ p.inodes i;
@@ -78,7 +82,8 @@ marks-then lot m0 m1 m2 xs ys zs p q = record {
 }
 
 -- other blocks changed
-pub marks-same : (lot : LotView) (m0 m1 : ℕ → List ℕ) (xs : List ℕ) → ((o : ℕ) → m1 (256 * o) ≡ m0 (256 * o)) → m1 sub_address ≡ m0 sub_address → MarksFollow lot m0 m1 xs xs
+pub marks-same : (lot : LotView) (m0 m1 : ℕ → List ℕ) (xs : List ℕ) → ((o : ℕ) → m1 (256 * o) ≡ m0 (256 * o))
+    → m1 sub_address ≡ m0 sub_address → MarksFollow lot m0 m1 xs xs
 marks-same lot m0 m1 xs bitmaps sub = record {
   used = λ b. ap (λ t. mark t + times xs b) (used-same false m0 m1 b bitmaps);
   inodes = λ i. used-same true m0 m1 i bitmaps;
@@ -88,15 +93,19 @@ marks-same lot m0 m1 xs bitmaps sub = record {
   free = ap (λ x. x + length xs) (free-same lot m0 m1 (λ b. used-same false m0 m1 b bitmaps));
 }
 
-mark-up : (xs ys zs : List ℕ) (b : ℕ) (old new : Bool) → new ≡ cond (has ys b) true old → times zs b ≡ times xs b + times ys b → times ys b ≤ 1 → (has ys b ≡ true → old ≡ false) → mark new + times xs b ≡ mark old + times zs b
+mark-up : (xs ys zs : List ℕ) (b : ℕ) (old new : Bool) → new ≡ cond (has ys b) true old → times zs b ≡ times xs b + times ys b
+    → times ys b ≤ 1 → (has ys b ≡ true → old ≡ false) → mark new + times xs b ≡ mark old + times zs b
 mark-up xs ys zs b old new e more once fresh =
     elim (has ys b) as (λ t. has ys b ≡ t → mark new + times xs b ≡ mark old + times zs b) [
-      | true ↦ λ t. let n = has-times ys b t in let f : mark old ≡ 0 = ap mark (fresh t) in let g : mark new ≡ 1 = ap mark (e ∙ ap (λ t. cond t true old) t) in omega arith
+      | true ↦ λ t.
+          let n = has-times ys b t in let f : mark old ≡ 0 = ap mark (fresh t) in
+          let g : mark new ≡ 1 = ap mark (e ∙ ap (λ t. cond t true old) t) in omega arith
       | false ↦ λ t. let n = times-none ys b t in let g : new ≡ old = e ∙ ap (λ t. cond t true old) t in let r : mark new ≡ mark old = ap mark g in omega arith
     ] refl
 
 -- what an inode uses grew by fresh blocks
-pub marks-grow : (lot : LotView) (m0 m1 : ℕ → List ℕ) (xs ys zs : List ℕ) → Marked lot true m0 m1 ys → ((b : ℕ) → times zs b ≡ times xs b + times ys b) → ((b : ℕ) → times ys b ≤ 1) → ((b : ℕ) → has ys b ≡ true → used_block m0 b ≡ false)
+pub marks-grow : (lot : LotView) (m0 m1 : ℕ → List ℕ) (xs ys zs : List ℕ) → Marked lot true m0 m1 ys
+    → ((b : ℕ) → times zs b ≡ times xs b + times ys b) → ((b : ℕ) → times ys b ≤ 1) → ((b : ℕ) → has ys b ≡ true → used_block m0 b ≡ false)
     → length zs ≡ length xs + length ys → MarksFollow lot m0 m1 xs zs
 marks-grow lot m0 m1 xs ys zs k more once fresh long = record {
   used = λ b. mark-up xs ys zs b (used_block m0 b) (used_block m1 b) (k.used b) (more b) (once b) (fresh b);
@@ -107,15 +116,19 @@ marks-grow lot m0 m1 xs ys zs k more once fresh long = record {
   free = let f = k.free in omega arith;
 }
 
-mark-down : (xs ys zs : List ℕ) (b : ℕ) (old new : Bool) → new ≡ cond (has ys b) false old → times xs b ≡ times zs b + times ys b → times xs b ≤ 1 → (has ys b ≡ true → old ≡ true) → mark new + times xs b ≡ mark old + times zs b
+mark-down : (xs ys zs : List ℕ) (b : ℕ) (old new : Bool) → new ≡ cond (has ys b) false old → times xs b ≡ times zs b + times ys b
+    → times xs b ≤ 1 → (has ys b ≡ true → old ≡ true) → mark new + times xs b ≡ mark old + times zs b
 mark-down xs ys zs b old new e less once was =
     elim (has ys b) as (λ t. has ys b ≡ t → mark new + times xs b ≡ mark old + times zs b) [
-      | true ↦ λ t. let n = has-times ys b t in let f : mark old ≡ 1 = ap mark (was t) in let g : mark new ≡ 0 = ap mark (e ∙ ap (λ t. cond t false old) t) in let o = less in omega arith
+      | true ↦ λ t.
+          let n = has-times ys b t in let f : mark old ≡ 1 = ap mark (was t) in
+          let g : mark new ≡ 0 = ap mark (e ∙ ap (λ t. cond t false old) t) in let o = less in omega arith
       | false ↦ λ t. let n = times-none ys b t in let g : new ≡ old = e ∙ ap (λ t. cond t false old) t in let r : mark new ≡ mark old = ap mark g in omega arith
     ] refl
 
 -- what an inode uses lost blocks
-pub marks-cut : (lot : LotView) (m0 m1 : ℕ → List ℕ) (xs ys zs : List ℕ) → Marked lot false m0 m1 ys → ((b : ℕ) → times xs b ≡ times zs b + times ys b) → ((b : ℕ) → times xs b ≤ 1) → ((b : ℕ) → has ys b ≡ true → used_block m0 b ≡ true)
+pub marks-cut : (lot : LotView) (m0 m1 : ℕ → List ℕ) (xs ys zs : List ℕ) → Marked lot false m0 m1 ys
+    → ((b : ℕ) → times xs b ≡ times zs b + times ys b) → ((b : ℕ) → times xs b ≤ 1) → ((b : ℕ) → has ys b ≡ true → used_block m0 b ≡ true)
     → length xs ≡ length zs + length ys → MarksFollow lot m0 m1 xs zs
 marks-cut lot m0 m1 xs ys zs k less once was long = record {
   used = λ b. mark-down xs ys zs b (used_block m0 b) (used_block m1 b) (k.used b) (less b) (once b) (was b);
@@ -171,10 +184,12 @@ nth-after m x c n k once l h e =
     let f = nth_block m x in
     let b = nth_block m x k in
     let all = times-append (indirect_of x c) (blocks_of m x c) b in
-    let parts : map f (range_with_len 0 (n + 1)) ++ map f (range_with_len (0 + (n + 1)) (c - (n + 1))) ≡ map f (range_with_len 0 ((n + 1) + (c - (n + 1)))) = range-append f 0 (n + 1) (c - (n + 1)) in
+    let parts : map f (range_with_len 0 (n + 1)) ++ map f (range_with_len (0 + (n + 1)) (c - (n + 1))) ≡ map f
+    (range_with_len 0 ((n + 1) + (c - (n + 1)))) = range-append f 0 (n + 1) (c - (n + 1)) in
     let whole : (n + 1) + (c - (n + 1)) ≡ c = omega arith in
     let two = times-append (map f (range_with_len 0 (n + 1))) (map f (range_with_len (0 + (n + 1)) (c - (n + 1)))) b in
-    let first = has-times (map f (range_with_len 0 (n + 1))) b (ap (has (map f (range_with_len 0 (n + 1)))) (sym e) ∙ has-range f 0 (n + 1) n (omega arith) (omega arith)) in
+    let first = has-times (map f (range_with_len 0 (n + 1))) b
+    (ap (has (map f (range_with_len 0 (n + 1)))) (sym e) ∙ has-range f 0 (n + 1) n (omega arith) (omega arith)) in
     let second = has-times (map f (range_with_len (0 + (n + 1)) (c - (n + 1)))) b (has-range f (0 + (n + 1)) (c - (n + 1)) k (omega arith) (omega arith)) in
     let same = ap (λ xs. times xs b) (parts ∙ ap (λ n. map f (range_with_len 0 n)) whole) in
     let o = once b in
@@ -193,11 +208,13 @@ pub nth-moves : (m0 m1 : ℕ → List ℕ) (x : Inode) (n : ℕ) → (12 ≤ n �
 nth-moves m0 m1 x n h =
     elim (ltb n 12) as (λ t. ltb n 12 ≡ t → nth_block m1 x n ≡ nth_block m0 x n) [
       | true ↦ λ t. let l : n < 12 = grind (arith, nat_tests) in nth-direct m1 x n l ∙ sym (nth-direct m0 x n l)
-      | false ↦ λ t. let l : 12 ≤ n = grind (arith, nat_tests) in nth-single m1 x n l ∙ ap (λ (b : List ℕ). word_at b (4 * (n - 12))) (h l) ∙ sym (nth-single m0 x n l)
+      | false ↦ λ t.
+          let l : 12 ≤ n = grind (arith, nat_tests) in nth-single m1 x n l ∙ ap (λ (b : List ℕ). word_at b (4 * (n - 12))) (h l) ∙ sym (nth-single m0 x n l)
     ] refl
 
 -- what was not of an inode stays used, and not of it
-pub other-used : (lot : LotView) (m0 m1 : ℕ → List ℕ) (xs ys : List ℕ) (b : ℕ) → MarksFollow lot m0 m1 xs ys → used_block m0 b ≡ true → has xs b ≡ false → used_block m1 b ≡ true
+pub other-used : (lot : LotView) (m0 m1 : ℕ → List ℕ) (xs ys : List ℕ) (b : ℕ) → MarksFollow lot m0 m1 xs ys → used_block m0 b ≡ true
+    → has xs b ≡ false → used_block m1 b ≡ true
 other-used lot m0 m1 xs ys b k u h =
     let e = k.used b in
     let n = times-none xs b h in
@@ -211,7 +228,8 @@ mark_small : (t : Bool) → mark t ≤ 1
 mark_small true = omega arith
 mark_small false = omega arith
 
-pub other-free : (lot : LotView) (m0 m1 : ℕ → List ℕ) (xs ys : List ℕ) (b : ℕ) → MarksFollow lot m0 m1 xs ys → used_block m0 b ≡ true → has xs b ≡ false → has ys b ≡ false
+pub other-free : (lot : LotView) (m0 m1 : ℕ → List ℕ) (xs ys : List ℕ) (b : ℕ) → MarksFollow lot m0 m1 xs ys → used_block m0 b ≡ true
+    → has xs b ≡ false → has ys b ≡ false
 other-free lot m0 m1 xs ys b k u h =
     let e = k.used b in
     let n = times-none xs b h in
@@ -219,7 +237,8 @@ other-free lot m0 m1 xs ys b k u h =
     let s = mark_small (used_block m1 b) in
     times-zero ys b (omega arith)
 
-pub stays-then : (lot : LotView) (m0 m1 m2 : ℕ → List ℕ) (xs ys : List ℕ) → MarksFollow lot m0 m1 xs ys → Stays lot m0 m1 xs → Stays lot m1 m2 ys → Stays lot m0 m2 xs
+pub stays-then : (lot : LotView) (m0 m1 m2 : ℕ → List ℕ) (xs ys : List ℕ) → MarksFollow lot m0 m1 xs ys → Stays lot m0 m1 xs
+    → Stays lot m1 m2 ys → Stays lot m0 m2 xs
 stays-then lot m0 m1 m2 xs ys k a b = record {
   inodes = λ n. b.inodes n ∙ a.inodes n;
   blocks = λ x d u h. b.blocks x d (other-used lot m0 m1 xs ys x k u h) (other-free lot m0 m1 xs ys x k u h) ∙ a.blocks x d u h;

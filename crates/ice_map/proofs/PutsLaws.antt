@@ -15,7 +15,8 @@ use Rattle.ice_map.proofs.ListLaws.{AllHas, has-none, has-tail, has-cons, has-le
 
 module _ {V D : Type 0} (k : view.Ghosts V D) (lot : LotView) where
   -- puts, and then others
-  pub puts-then : (ok : Bool) (xs ys zs : List ℕ) (v : V) (d : D) (w : V) (e : D) (x : V) (f : D) → Puts k lot true xs v d w e → Puts k lot ok ys w e x f → AllHas zs xs → AllHas zs ys → Puts k lot ok zs v d x f
+  pub puts-then : (ok : Bool) (xs ys zs : List ℕ) (v : V) (d : D) (w : V) (e : D) (x : V) (f : D) → Puts k lot true xs v d w e
+      → Puts k lot ok ys w e x f → AllHas zs xs → AllHas zs ys → Puts k lot ok zs v d x f
   puts-then ok xs ys zs v d w e x f p q inx iny = record {
     only = λ a. except_intro a zs _ (λ out. except_elim a ys _ (q.only a) (has-not zs ys a iny out) ∙ except_elim a xs _ (p.only a) (has-not zs xs a inx out));
     pays = λ wide. where_intro wide zs _ (λ all.
@@ -70,7 +71,9 @@ bitmaps-one lot a d x h =
       | false ↦ λ t.
           let one : has (bitmap_of false a ∷ []) x ≡ true = sym (c ∙ ap (λ t. cond t true (has (bitmap_of false a ∷ []) x)) t) ∙ h in
           elim (x == bitmap_of false a) as (λ u. (x == bitmap_of false a) ≡ u → has (sub_address ∷ bitmaps (length lot.groups)) x ≡ true) [
-            | true ↦ λ u. let same : x ≡ bitmap_of false a = grind (arith, nat_tests) in has-tail sub_address x (bitmaps (length lot.groups)) (ap (has (bitmaps (length lot.groups))) same ∙ b)
+            | true ↦ λ u.
+                let same : x ≡ bitmap_of false a = grind (arith, nat_tests) in
+                has-tail sub_address x (bitmaps (length lot.groups)) (ap (has (bitmaps (length lot.groups))) same ∙ b)
             | false ↦ λ u. absurd (cc)
           ] refl
     ] refl
@@ -110,7 +113,8 @@ module _ {V D : Type 0} (d : disk.Ghosts D) (k : view.Ghosts V D) (lot : LotView
   }
 
   -- and two calls
-  pub spent-then : (n m p : ℕ) (v : V) (e : D) (w : V) (f : D) (x : V) (h : D) → Spent d k lot n v e w f → Spent d k lot m w f x h → n + m ≤ p → Spent d k lot p v e x h
+  pub spent-then : (n m p : ℕ) (v : V) (e : D) (w : V) (f : D) (x : V) (h : D) → Spent d k lot n v e w f → Spent d k lot m w f x h
+      → n + m ≤ p → Spent d k lot p v e x h
   spent-then n m p v e w f x h a b l = record {
     shows = λ s. b.shows (a.shows s);
     grows = λ q i. b.grows q (a.grows q i);
@@ -148,6 +152,9 @@ not_bitmap zero a h = refl
 not_bitmap (suc n) a h = let r = not_bitmap n a h in let ne = h n in grind (arith, nat_tests)
 
 -- what is put where only bitmap blocks and the sub-super block are
-pub bitmaps-only : {V D : Type 0} (k : view.Ghosts V D) (lot : LotView) (ok : Bool) (n : ℕ) (v : V) (d : D) (w : V) (e : D) → Puts k lot ok (sub_address ∷ bitmaps n) v d w e → (b : ℕ) → b ≢ sub_address → ((o : ℕ) → b ≢ 256 * o) → k.map w e lot b ≡ k.map v d lot b
+pub bitmaps-only : {V D : Type 0} (k : view.Ghosts V D) (lot : LotView) (ok : Bool) (n : ℕ) (v : V) (d : D) (w : V) (e : D)
+    → Puts k lot ok (sub_address ∷ bitmaps n) v d w e → (b : ℕ) → b ≢ sub_address → ((o : ℕ) → b ≢ 256 * o) → k.map w e lot b ≡ k.map v d lot b
 bitmaps-only k lot ok n v d w e p b ns nb =
-    except_elim b (sub_address ∷ bitmaps n) _ (p.only b) (let c = has-cons sub_address b (bitmaps n) in let r = not_bitmap n b nb in let t : (sub_address == b) ≡ false = grind (arith, nat_tests) in c ∙ ap (λ t. cond t true (has (bitmaps n) b)) t ∙ r)
+    except_elim b (sub_address ∷ bitmaps n) _ (p.only b)
+    (let c = has-cons sub_address b (bitmaps n) in let r = not_bitmap n b nb in
+    let t : (sub_address == b) ≡ false = grind (arith, nat_tests) in c ∙ ap (λ t. cond t true (has (bitmaps n) b)) t ∙ r)

@@ -30,7 +30,8 @@ make-own i u c = record { inode = i; uses = u; contents = c }
 make-same : (i j : Inode) (u v : List ℕ) (c d : List (List ℕ)) → i ≡ j → u ≡ v → c ≡ d → make-own i u c ≡ make-own j v d
 make-same i j u v c d p q r = cc
 
-own-same : (m0 m1 : ℕ → List ℕ) (i : Inode) (n : ℕ) → uses m1 i n ≡ uses m0 i n → map m1 (blocks_of m1 i n) ≡ map m0 (blocks_of m0 i n) → own_of m1 i n ≡ own_of m0 i n
+own-same : (m0 m1 : ℕ → List ℕ) (i : Inode) (n : ℕ) → uses m1 i n ≡ uses m0 i n → map m1 (blocks_of m1 i n) ≡ map m0 (blocks_of m0 i n)
+    → own_of m1 i n ≡ own_of m0 i n
 unfolding make-own
 own-same m0 m1 i n p q = make-same i i _ _ _ _ refl p q
 
@@ -50,7 +51,8 @@ own-stays m0 m1 i n same =
     (ap (map m1) blocks ∙ map-same m0 m1 (blocks_of m0 i n) (λ b h. same b (has-right (indirect_of i n) (blocks_of m0 i n) b h)))
 
 -- an inode of a map that moved was put with another size
-module _ (lot : LotView) (m0 m1 m2 : ℕ → List ℕ) (x y : Inode) (c d s : ℕ) (f : Form) (one : f ≡ form_one) (number : ℕ) (is : inode_of m0 number ≡ x) (count : map_length f x ≡ c) (moved : Moved lot m0 m1 x y c d)
+module _ (lot : LotView) (m0 m1 m2 : ℕ → List ℕ) (x y : Inode) (c d s : ℕ) (f : Form) (one : f ≡ form_one) (number : ℕ)
+    (is : inode_of m0 number ≡ x) (count : map_length f x ≡ c) (moved : Moved lot m0 m1 x y c d)
     (set : InodeSet m1 m2 number (resized y s)) (next : map_length f (resized y s) ≡ d) (only : (b : ℕ) → b ≢ inode_address number → m2 b ≡ m1 b) where
   -- the put of the inode leaves each data place
   pub set-data : (b : ℕ) → is_data lot b ≡ true → m2 b ≡ m1 b
@@ -99,8 +101,12 @@ module _ (lot : LotView) (m0 m1 m2 : ℕ → List ℕ) (x y : Inode) (c d s : �
   -- the inode was set: it is well made, the marks follow it, and every other inode says what it said
   pub own-set : OwnSet lot f m0 m2 number
   own-set = record {
-    made = short-made lot f one m2 number (subst (λ (i : Inode). MadeOf lot m2 i (map_length f i)) (sym set.value) (subst (λ n. MadeOf lot m2 (resized y s) n) (sym next) set-made));
-    marks = subst (λ xs. MarksFollow lot m0 m2 xs (own f m2 number).uses) (sym old-uses) (subst (λ xs. MarksFollow lot m0 m2 (uses m0 x c) xs) (sym own-uses) set-marks);
+    made =
+        short-made lot f one m2 number
+        (subst (λ (i : Inode). MadeOf lot m2 i (map_length f i)) (sym set.value) (subst (λ n. MadeOf lot m2 (resized y s) n) (sym next) set-made));
+    marks =
+        subst (λ xs. MarksFollow lot m0 m2 xs (own f m2 number).uses) (sym old-uses)
+        (subst (λ xs. MarksFollow lot m0 m2 (uses m0 x c) xs) (sym own-uses) set-marks);
     inodes = λ k ne. set.others k ne ∙ moved.stays.inodes k;
     others = set-others;
   }

@@ -53,7 +53,8 @@ shortened-direct xs r k h =
     let t = length-take {A = ℕ} r xs in
     get_or-append_right (take r xs) (replicate (12 - r) 0) (length (take r xs)) k 0 refl (omega arith) ∙ zeros-past (12 - r) (k - length (take r xs))
 
-module _ (lot : LotView) (m0 m1 : ℕ → List ℕ) (x y : Inode) (c r : ℕ) (made : MadeOf lot m0 x c) (order : r ≤ c) (was : Cut lot m0 m1 x y c r) (stay : Stays lot m0 m1 []) (fields : y ≡ shortened x r) where
+module _ (lot : LotView) (m0 m1 : ℕ → List ℕ) (x y : Inode) (c r : ℕ) (made : MadeOf lot m0 x c) (order : r ≤ c)
+    (was : Cut lot m0 m1 x y c r) (stay : Stays lot m0 m1 []) (fields : y ≡ shortened x r) where
   off-had : (b : ℕ) → has (cut_off m0 x c r) b ≡ true → has (uses m0 x c) b ≡ true
   off-had b h = let u = was.used b in let n = has-times (cut_off m0 x c r) b h in times-has (uses m0 x c) b (omega arith)
 
@@ -93,12 +94,15 @@ module _ (lot : LotView) (m0 m1 : ℕ → List ℕ) (x y : Inode) (c r : ℕ) (m
   -- each block that the cut left holds what it held
   pub cut-contents : (n : ℕ) → n < r → content_of m1 y n ≡ content_of m0 x n
   cut-contents n h =
-      let e : nth_block m1 y n ≡ nth_block m0 x n = sym (get_or-map-range_with_len (nth_block m1 y) 0 r n n 0 h (omega arith)) ∙ ap (λ (xs : List ℕ). slice_index xs n) was.blocks ∙ get_or-map-range_with_len (nth_block m0 x) 0 r n n 0 h (omega arith) in
+      let e : nth_block m1 y n ≡ nth_block m0 x n = sym (get_or-map-range_with_len (nth_block m1 y) 0 r n n 0 h (omega arith))
+      ∙ ap (λ (xs : List ℕ). slice_index xs n) was.blocks ∙ get_or-map-range_with_len (nth_block m0 x) 0 r n n 0 h (omega arith) in
       let q = made.holds (nth_block m0 x n) (uses-nth m0 x c n (omega arith)) in
       ap m1 e ∙ stay.blocks (nth_block m0 x n) q.0 q.1 (has-none (nth_block m0 x n))
 
 -- a cut, and then a put of the inode's block, change nothing of the sub-super block but the count of used blocks
-pub cut-sub : (lot : LotView) (m m0 m1 m2 : ℕ → List ℕ) (x y : Inode) (number c r : ℕ) → m0 ≡ m → Cut lot m0 m1 x y c r → ((b : ℕ) → b ≢ inode_address number → m2 b ≡ m1 b)
+pub cut-sub : (lot : LotView) (m m0 m1 m2 : ℕ → List ℕ) (x y : Inode) (number c r : ℕ) → m0 ≡ m → Cut lot m0 m1 x y c r
+    → ((b : ℕ) → b ≢ inode_address number → m2 b ≡ m1 b)
     → SameBeside (count_place false) 4 (m sub_address) (m2 sub_address)
 cut-sub lot m m0 m1 m2 x y number c r e was only = λ k h.
-    ap (λ (b : List ℕ). slice_index b k) (only sub_address (λ q. inode_not_sub number (sym q))) ∙ was.gave.counts.others k h ∙ ap (λ (n : ℕ → List ℕ). slice_index (n sub_address) k) e
+    ap (λ (b : List ℕ). slice_index b k) (only sub_address (λ q. inode_not_sub number (sym q))) ∙ was.gave.counts.others k h
+    ∙ ap (λ (n : ℕ → List ℕ). slice_index (n sub_address) k) e

@@ -29,7 +29,8 @@ times-none xs b h =
     ] refl
 
 -- a growth takes no block twice
-pub growth-once : (lot : LotView) (m0 m1 : ℕ → List ℕ) (old new : Inode) (count a : ℕ) → Grown lot m0 m1 old new count a → (b : ℕ) → times (growth count a new.single) b ≤ 1
+pub growth-once : (lot : LotView) (m0 m1 : ℕ → List ℕ) (old new : Inode) (count a : ℕ) → Grown lot m0 m1 old new count a → (b : ℕ)
+    → times (growth count a new.single) b ≤ 1
 growth-once lot m0 m1 old new count a g b =
     elim (count == 12) as (λ t. (count == 12) ≡ t → times (growth count a new.single) b ≤ 1) [
       | true ↦ λ t.
@@ -49,7 +50,8 @@ growth-once lot m0 m1 old new count a g b =
     ] refl
 
 -- the blocks of a growth are data places
-growth-data : (lot : LotView) (count a s : ℕ) → is_data lot a ≡ true → (12 ≤ count → is_data lot s ≡ true) → (b : ℕ) → has (growth count a s) b ≡ true → is_data lot b ≡ true
+growth-data : (lot : LotView) (count a s : ℕ) → is_data lot a ≡ true → (12 ≤ count → is_data lot s ≡ true) → (b : ℕ)
+    → has (growth count a s) b ≡ true → is_data lot b ≡ true
 growth-data lot count a s da ds b h =
     elim (count == 12) as (λ t. (count == 12) ≡ t → is_data lot b ≡ true) [
       | true ↦ λ t.
@@ -70,7 +72,8 @@ growth-data lot count a s da ds b h =
     ] refl
 
 -- the grown map uses used data places, where the map did
-pub owns-grown : (lot : LotView) (m0 m1 : ℕ → List ℕ) (old new : Inode) (count a : ℕ) → Grown lot m0 m1 old new count a → is_data lot a ≡ true → (12 ≤ count → is_data lot new.single ≡ true) → Owns lot m0 old count → Owns lot m1 new (count + 1)
+pub owns-grown : (lot : LotView) (m0 m1 : ℕ → List ℕ) (old new : Inode) (count a : ℕ) → Grown lot m0 m1 old new count a
+    → is_data lot a ≡ true → (12 ≤ count → is_data lot new.single ≡ true) → Owns lot m0 old count → Owns lot m1 new (count + 1)
 owns-grown lot m0 m1 old new count a g da ds owns b h =
     let t = g.used b in
     let n = has-times (uses m1 new (count + 1)) b h in
@@ -88,7 +91,8 @@ owns-grown lot m0 m1 old new count a g da ds owns b h =
     none-times xs b h = let f : 1 ≤ times xs b → ⊥ = (λ l. let e = times-has xs b l in absurd cc) in omega arith
 
 -- the cut map uses used data places, where the map did and used none twice
-pub owns-cut : (lot : LotView) (m0 m1 : ℕ → List ℕ) (old new : Inode) (count rest : ℕ) → Cut lot m0 m1 old new count rest → OwnsOnce m0 (uses m0 old count) → Owns lot m0 old count → Owns lot m1 new rest
+pub owns-cut : (lot : LotView) (m0 m1 : ℕ → List ℕ) (old new : Inode) (count rest : ℕ) → Cut lot m0 m1 old new count rest
+    → OwnsOnce m0 (uses m0 old count) → Owns lot m0 old count → Owns lot m1 new rest
 owns-cut lot m0 m1 old new count rest c once owns b h =
     let t = c.used b in
     let n = has-times (uses m1 new rest) b h in
@@ -111,7 +115,8 @@ off-times m x c r h b =
     let f = nth_block m x in
     let all = times-append (indirect_of x c) (blocks_of m x c) b in
     let e : r + (c - r) ≡ c = omega arith in
-    let parts : map f (range_with_len 0 r) ++ map f (range_with_len (0 + r) (c - r)) ≡ blocks_of m x c = range-append f 0 r (c - r) ∙ ap (λ n. map f (range_with_len 0 n)) e in
+    let parts : map f (range_with_len 0 r) ++ map f (range_with_len (0 + r) (c - r)) ≡ blocks_of m x c = range-append f 0 r (c - r)
+    ∙ ap (λ n. map f (range_with_len 0 n)) e in
     let z : map f (range_with_len (0 + r) (c - r)) ≡ blocks_between m x r c = ap (λ n. map f (range_with_len n (c - r))) (omega arith) in
     let two = times-append (map f (range_with_len 0 r)) (map f (range_with_len (0 + r) (c - r))) b in
     let same : times (map f (range_with_len 0 r) ++ map f (range_with_len (0 + r) (c - r))) b ≡ times (blocks_of m x c) b = ap (λ xs. times xs b) parts in
@@ -155,7 +160,8 @@ misled-uses lot m x c l =
     let low = l.below in
     let bad = l.bad in
     elim (is_data lot (nth_block m x n)) as (λ t. is_data lot (nth_block m x n) ≡ t → (b : ℕ) × (has (uses m x c) b ≡ true) × (is_data lot b ≡ false)) [
-      | false ↦ λ t. (nth_block m x n, has-right (indirect_of x c) (blocks_of m x c) (nth_block m x n) (has-range (nth_block m x) 0 c n (omega arith) (omega arith)), t)
+      | false ↦ λ t.
+          (nth_block m x n, has-right (indirect_of x c) (blocks_of m x c) (nth_block m x n) (has-range (nth_block m x) 0 c n (omega arith) (omega arith)), t)
       | true ↦ λ t. elim (ltb n 12) as (λ u. ltb n 12 ≡ u → (b : ℕ) × (has (uses m x c) b ≡ true) × (is_data lot b ≡ false)) [
         | true ↦ λ u.
             let h : n < 12 = grind (arith, nat_tests) in

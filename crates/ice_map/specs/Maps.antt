@@ -111,7 +111,8 @@ pub record MapStays (old new : ℕ → List ℕ) (inode : Inode) (count : ℕ) :
 
 -- so is each map that uses used blocks, and not the indirect block of a map of `count` blocks of this inode
 abbrev pub OthersStay : LotView → (ℕ → List ℕ) → (ℕ → List ℕ) → Inode → ℕ → Type 0
-OthersStay lot old new inode count = (other : Inode) (n : ℕ) → Owns lot old other n → (12 < count → has (uses old other n) inode.single ≡ false) → MapStays old new other n
+OthersStay lot old new inode count =
+    (other : Inode) (n : ℕ) → Owns lot old other n → (12 < count → has (uses old other n) inode.single ≡ false) → MapStays old new other n
 
 -- the inode with the first `rest` blocks of its map alone; pointers past them are 0
 abbrev pub shortened : Inode → ℕ → Inode

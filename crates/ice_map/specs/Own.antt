@@ -35,7 +35,8 @@ own_of m inode count = record { inode = inode; uses = uses m inode count; conten
 
 -- block n of a long map: past the 268 blocks of the inode and of its indirect block, the double-indirect block names blocks of 256 pointers each
 abbrev pub nth_long : (ℕ → List ℕ) → Inode → ℕ → ℕ
-nth_long m inode n = if nat_lt n longest then nth_block m inode n else word_at (m (word_at (m inode.double) (4 * ((n - longest) / 256)))) (4 * ((n - longest) % 256))
+nth_long m inode n =
+    if nat_lt n longest then nth_block m inode n else word_at (m (word_at (m inode.double) (4 * ((n - longest) / 256)))) (4 * ((n - longest) % 256))
 
 -- the blocks of pointers that a long map of `count` blocks has
 abbrev pub indirects_long : (ℕ → List ℕ) → Inode → ℕ → List ℕ

@@ -120,7 +120,8 @@ fn take_two<D: Disk, K: Keep<D>, P: Pool<D, K>>(
     ensures second { IfOk result (λ p. is_data lot.now p.1 ≡ true) }
     ensures only { IfOk result (λ p. (b : ℕ) → b ≢ sub_address → b ≢ bitmap_of false p.0
         → b ≢ bitmap_of false p.1 → K.map keep.new disk.new lot.now b ≡ K.map keep.old disk.old lot.now b) }
-    ensures pays { IfOk result (λ p. Pays (K.held keep.old) (K.room keep.old) (K.held keep.new) (K.room keep.new) true (sub_address ∷ bitmap_of false p.0 ∷ bitmap_of false p.1 ∷ [])) }
+    ensures pays { IfOk result (λ p. Pays (K.held keep.old) (K.room keep.old) (K.held keep.new) (K.room keep.new) true
+        (sub_address ∷ bitmap_of false p.0 ∷ bitmap_of false p.1 ∷ [])) }
     ensures broken { OnErr result ((a : ℕ) × (b : ℕ)
         × Puts K.View lot.now false (sub_address ∷ bitmap_of false a ∷ bitmap_of false b ∷ []) keep.old disk.old keep.new disk.new) }
     ensures others { (b : ℕ) → b ≢ sub_address → ((o : ℕ) → b ≢ 256 * o)
@@ -243,7 +244,8 @@ fn extend_single<D: Disk, K: Keep<D>, P: Pool<D, K>>(
 
 /// Gives a map of `count` blocks one more, which is answered: the least free block, and with the first block past the direct ones
 /// the least free block after that as the indirect block. The inode is the caller's to put.
-/// NoSpace, exactly: fewer blocks are free than that takes, and the pointer to the indirect block is none that is damaged. Damaged: the count of used blocks can't grow so far, or the least free block is no data place, or the indirect block is none.
+/// NoSpace, exactly: fewer blocks are free than that takes, and the pointer to the indirect block is none that is damaged.
+/// Damaged: the count of used blocks can't grow so far, or the least free block is no data place, or the indirect block is none.
 pub fn extend<D: Disk, K: Keep<D>, P: Pool<D, K>, F: Form>(
     keep: &mut K,
     pool: &mut P,

@@ -19,10 +19,13 @@ by_tests empty bytes dots long text =
 abbrev after_slash : Bool → Bool → List ℕ → Option PathFault
 after_slash slash alone text =
     let names = cond alone [] (names_of text) in
-    cond slash (Some Slash) (by_tests (list_any is_empty_name names) (list_all is_path_byte text) (list_any is_dots names) (list_any is_long_name names) (nat_lt longest_text (length text)))
+    cond slash (Some Slash)
+    (by_tests (list_any is_empty_name names) (list_all is_path_byte text) (list_any is_dots names) (list_any is_long_name names)
+    (nat_lt longest_text (length text)))
 
 pub fault_by_tests : (text : List ℕ) (empty bytes dots long : Bool) → begins_elsewhere text ≡ false → is_slash text ≡ false
-    → empty ≡ list_any is_empty_name (names_of text) → bytes ≡ list_all is_path_byte text → dots ≡ list_any is_dots (names_of text) → long ≡ list_any is_long_name (names_of text)
+    → empty ≡ list_any is_empty_name (names_of text) → bytes ≡ list_all is_path_byte text → dots ≡ list_any is_dots (names_of text)
+    → long ≡ list_any is_long_name (names_of text)
     → path_fault text ≡ by_tests empty bytes dots long (nat_lt longest_text (length text))
 unfolding path_fault
 fault_by_tests text empty bytes dots long slash alone e b d l =
@@ -60,7 +63,8 @@ begins (b ∷ text) h = ap (λ x. (begin x b (parts text)).0) (is (nat_eq b 47) 
 
 is_name_by_tests : (c : List ℕ) → is_empty_name c ≡ false → is_long_name c ≡ false → list_all is_name_byte c ≡ true → is_dots c ≡ false → is_name c ≡ true
 unfolding is_name
-is_name_by_tests c e l b d = join (nat_lt 0 (length c)) (nat_le (length c) longest_name) (list_all is_name_byte c) (is_dots c) (some c e) (short (length c) longest_name l) b d
+is_name_by_tests c e l b d =
+    join (nat_lt 0 (length c)) (nat_le (length c) longest_name) (list_all is_name_byte c) (is_dots c) (some c e) (short (length c) longest_name l) b d
   where
     join : (a b c d : Bool) → a ≡ true → b ≡ true → c ≡ true → d ≡ false → (a && (b && (c && not d))) ≡ true
     join a b c d h i j k = λ z. h z && (i z && (j z && not (k z)))
@@ -91,7 +95,8 @@ second_and : (a b : Bool) → (a && b) ≡ true → b ≡ true
 second_and true b h = h
 second_and false b h = absurd (subst T (sym h) tt)
 
-all_names : (names : List (List ℕ)) → list_any is_empty_name names ≡ false → list_any is_long_name names ≡ false → list_all (list_all is_name_byte) names ≡ true → list_any is_dots names ≡ false → list_all is_name names ≡ true
+all_names : (names : List (List ℕ)) → list_any is_empty_name names ≡ false → list_any is_long_name names ≡ false
+    → list_all (list_all is_name_byte) names ≡ true → list_any is_dots names ≡ false → list_all is_name names ≡ true
 all_names [] e l b d = refl
 all_names (c ∷ names) e l b d =
     let here = is_name_by_tests c (first_or _ _ e) (first_or _ _ l) (first_and _ _ b) (first_or _ _ d) in
@@ -114,7 +119,8 @@ parts_have (b ∷ text) h = on (nat_eq b 47) refl (parts_have text (second_and (
 
     on : (x : Bool) → nat_eq b 47 ≡ x → PartsHave (parts text) → PartsHave (begin x b (parts text))
     on true e p = record { front = refl; names = λ z. p.front z && p.names z }
-    on false e p = record { front = λ z. byte (nat_le 33 b) (nat_le b 126) (nat_eq b 47) (first_and (is_path_byte b) (list_all is_path_byte text) h) e z && p.front z; names = p.names }
+    on false e p =
+        record { front = λ z. byte (nat_le 33 b) (nat_le b 126) (nat_eq b 47) (first_and (is_path_byte b) (list_all is_path_byte text) h) e z && p.front z; names = p.names }
 
 byte_names : (text : List ℕ) → list_all is_path_byte text ≡ true → list_all (list_all is_name_byte) (names_of text) ≡ true
 unfolding names_of
@@ -153,7 +159,9 @@ module _ (text : List ℕ) (slash : begins_elsewhere text ≡ false) (alone : is
 -- the text of the names is the text
 pub text_of-names_of : (text : List ℕ) → begins_elsewhere text ≡ false → text_of (names_of text) ≡ text
 text_of-names_of [] slash = absurd (subst T slash tt)
-text_of-names_of (b ∷ text) slash = text_of-some (names_of (b ∷ text)) (has_name (b ∷ text) (begins (b ∷ text) slash) (omega arith)) ∙ with_slashes-names_of (b ∷ text) (begins (b ∷ text) slash)
+text_of-names_of (b ∷ text) slash =
+    text_of-some (names_of (b ∷ text)) (has_name (b ∷ text) (begins (b ∷ text) slash) (omega arith))
+    ∙ with_slashes-names_of (b ∷ text) (begins (b ∷ text) slash)
 
 -- ---- the first byte
 

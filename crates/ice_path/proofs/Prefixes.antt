@@ -23,15 +23,18 @@ at_place p i h = drop-cons p i [] h ∙ ap (λ k. get_or p i [] ∷ drop k p) (s
     suc_is : (i : ℕ) → suc i ≡ i + 1
     suc_is i = omega arith
 
-cut : (p q : Names) (i : ℕ) → i < length p → i < length q → is_prefix (drop i p) (drop i q) ≡ (is_same_name (get_or p i []) (get_or q i []) && is_prefix (drop (i + 1) p) (drop (i + 1) q))
+cut : (p q : Names) (i : ℕ) → i < length p → i < length q
+    → is_prefix (drop i p) (drop i q) ≡ (is_same_name (get_or p i []) (get_or q i []) && is_prefix (drop (i + 1) p) (drop (i + 1) q))
 cut p q i h k = ap (λ x. is_prefix x (drop i q)) (at_place p i h) ∙ ap (λ x. is_prefix (get_or p i [] ∷ drop (i + 1) p) x) (at_place q i k)
 
 -- one name on
-pub step : (p q : Names) (i : ℕ) → i < length p → i < length q → is_same_name (get_or p i []) (get_or q i []) ≡ true → is_prefix (drop i p) (drop i q) ≡ is_prefix p q → is_prefix (drop (i + 1) p) (drop (i + 1) q) ≡ is_prefix p q
+pub step : (p q : Names) (i : ℕ) → i < length p → i < length q → is_same_name (get_or p i []) (get_or q i []) ≡ true
+    → is_prefix (drop i p) (drop i q) ≡ is_prefix p q → is_prefix (drop (i + 1) p) (drop (i + 1) q) ≡ is_prefix p q
 step p q i h k same is = sym (cut p q i h k ∙ ap (λ b. b && is_prefix (drop (i + 1) p) (drop (i + 1) q)) same) ∙ is
 
 -- a name that differs
-pub differs : (p q : Names) (i : ℕ) → i < length p → i < length q → is_same_name (get_or p i []) (get_or q i []) ≡ false → is_prefix (drop i p) (drop i q) ≡ is_prefix p q → false ≡ is_prefix p q
+pub differs : (p q : Names) (i : ℕ) → i < length p → i < length q → is_same_name (get_or p i []) (get_or q i []) ≡ false
+    → is_prefix (drop i p) (drop i q) ≡ is_prefix p q → false ≡ is_prefix p q
 differs p q i h k other is = sym (sym is ∙ cut p q i h k ∙ ap (λ b. b && is_prefix (drop (i + 1) p) (drop (i + 1) q)) other)
 
 -- each name is the same

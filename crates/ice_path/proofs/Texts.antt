@@ -20,21 +20,25 @@ pub has_name : (text : List ℕ) → BeginsAtSlash text → 0 < length text → 
 has_name text begins h = omega (arith, ap length (first_name text (drop 1 text) refl begins (omega arith)))
 
 -- what is behind the first name is shorter by the name and its slash
-pub behind_shorter : (text name behind : List ℕ) → BeginsAtSlash text → BeginsAtSlash behind → names_of text ≡ name ∷ names_of behind → length text ≡ suc (length name + length behind)
+pub behind_shorter : (text name behind : List ℕ) → BeginsAtSlash text → BeginsAtSlash behind → names_of text ≡ name ∷ names_of behind
+    → length text ≡ suc (length name + length behind)
 behind_shorter text name behind begins later is =
     omega (arith, ap length (with_slashes-names_of text begins), ap (λ n. length (with_slashes n)) is, length-append name (with_slashes (names_of behind)), ap length (with_slashes-names_of behind later))
 
 -- a test of some name, one name on
-pub any_step : (test : List ℕ → Bool) (all rest : List (List ℕ)) (name : List ℕ) (others : List (List ℕ)) (seen more : Bool) → rest ≡ name ∷ others → more ≡ (seen || test name)
+pub any_step : (test : List ℕ → Bool) (all rest : List (List ℕ)) (name : List ℕ) (others : List (List ℕ)) (seen more : Bool)
+    → rest ≡ name ∷ others → more ≡ (seen || test name)
     → list_any test all ≡ (seen || list_any test rest) → list_any test all ≡ (more || list_any test others)
-any_step test all rest name others seen more is e h = h ∙ ap (λ r. seen || list_any test r) is ∙ regroup seen (test name) (list_any test others) ∙ ap (λ b. b || list_any test others) (sym e)
+any_step test all rest name others seen more is e h =
+    h ∙ ap (λ r. seen || list_any test r) is ∙ regroup seen (test name) (list_any test others) ∙ ap (λ b. b || list_any test others) (sym e)
   where
     regroup : (a b c : Bool) → (a || (b || c)) ≡ ((a || b) || c)
     regroup true b c = refl
     regroup false b c = refl
 
 -- and at the end
-pub any_end : (test : List ℕ → Bool) (all : List (List ℕ)) (rest : List ℕ) (seen : Bool) → length rest ≡ 0 → list_any test all ≡ (seen || list_any test (names_of rest)) → seen ≡ list_any test all
+pub any_end : (test : List ℕ → Bool) (all : List (List ℕ)) (rest : List ℕ) (seen : Bool) → length rest ≡ 0
+    → list_any test all ≡ (seen || list_any test (names_of rest)) → seen ≡ list_any test all
 unfolding names_of
 any_end test all [] seen z h = sym (h ∙ none seen)
   where
@@ -46,7 +50,8 @@ any_end test all (b ∷ rest) seen z h = absurd (omega arith)
 -- ---- a path that gets the names of a text one by one
 
 -- what is left of the text has a name less
-pub names_step : (path rest all : List (List ℕ)) (name : List ℕ) (others : List (List ℕ)) → rest ≡ name ∷ others → path ++ rest ≡ all → (path ++ name ∷ []) ++ others ≡ all
+pub names_step : (path rest all : List (List ℕ)) (name : List ℕ) (others : List (List ℕ)) → rest ≡ name ∷ others → path ++ rest ≡ all
+    → (path ++ name ∷ []) ++ others ≡ all
 names_step path rest all name others is h = append_assoc path (name ∷ []) others ∙ ap (λ x. path ++ x) (sym is) ∙ h
 
 pub names_end : (path all : List (List ℕ)) (rest : List ℕ) → length rest ≡ 0 → path ++ names_of rest ≡ all → path ≡ all
@@ -55,10 +60,12 @@ names_end path all [] z h = sym (append-nil path) ∙ h
 names_end path all (b ∷ rest) z h = absurd (omega arith)
 
 -- each name of the text is a name
-pub name_of_text : (path rest all : List (List ℕ)) (name : List ℕ) (others : List (List ℕ)) → rest ≡ name ∷ others → path ++ rest ≡ all → IsNameList all → is_name name ≡ true
+pub name_of_text : (path rest all : List (List ℕ)) (name : List ℕ) (others : List (List ℕ)) → rest ≡ name ∷ others → path ++ rest ≡ all
+    → IsNameList all → is_name name ≡ true
 name_of_text path rest all name others is h names =
     let at : get_or all (length path) [] ≡ name =
-    ap (λ x. get_or x (length path) []) (sym h ∙ ap (λ x. path ++ x) is) ∙ get_or-append_right path (name ∷ others) (length path) [] (omega arith) ∙ ap (λ k. get_or (name ∷ others) k []) (nothing (length path)) in
+    ap (λ x. get_or x (length path) []) (sym h ∙ ap (λ x. path ++ x) is)
+    ∙ get_or-append_right path (name ∷ others) (length path) [] (omega arith) ∙ ap (λ k. get_or (name ∷ others) k []) (nothing (length path)) in
     subst (λ x. is_name x ≡ true) at (names (length path) [] (omega (arith, ap length h, ap length is, length-append path rest)))
   where
     nothing : (n : ℕ) → n - n ≡ 0
@@ -69,12 +76,15 @@ length-with_slashes-append [] q = omega arith
 length-with_slashes-append (c ∷ p) q = omega (arith, length-with_slashes-append p q, length-append c (with_slashes p), length-append c (with_slashes (p ++ q)))
 
 -- and it fits behind those before it
-pub name_fits : (path : List (List ℕ)) (rest text name : List ℕ) (others : List (List ℕ)) → names_of rest ≡ name ∷ others → path ++ names_of rest ≡ names_of text → BeginsAtSlash text → length text ≤ longest_text
+pub name_fits : (path : List (List ℕ)) (rest text name : List ℕ) (others : List (List ℕ)) → names_of rest ≡ name ∷ others
+    → path ++ names_of rest ≡ names_of text → BeginsAtSlash text → length text ≤ longest_text
     → nat_le (length (text_of (path ++ name ∷ []))) longest_text ≡ true
 name_fits path rest text name others is h begins short =
     let all : (path ++ name ∷ []) ++ others ≡ names_of text = names_step path (names_of rest) (names_of text) name others is h in
-    let long : length (text_of (path ++ name ∷ [])) ≡ length (with_slashes (path ++ name ∷ [])) = ap length (text_of-some (path ++ name ∷ []) (omega (arith, length-append path (name ∷ [])))) in
-    yes _ _ (omega (arith, long, ap (λ x. length (with_slashes x)) all, ap length (with_slashes-names_of text begins), length-with_slashes-append (path ++ name ∷ []) others))
+    let long : length (text_of (path ++ name ∷ [])) ≡ length (with_slashes (path ++ name ∷ [])) = ap length
+    (text_of-some (path ++ name ∷ []) (omega (arith, length-append path (name ∷ [])))) in
+    yes _ _ (omega
+    (arith, long, ap (λ x. length (with_slashes x)) all, ap length (with_slashes-names_of text begins), length-with_slashes-append (path ++ name ∷ []) others))
   where
     yes : (a b : ℕ) → a ≤ b → nat_le a b ≡ true
     yes a b h = grind (arith, nat_tests)

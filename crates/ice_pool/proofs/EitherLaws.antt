@@ -42,17 +42,23 @@ free_more inodes map block o e =
     omega arith
 
 pub free_next : (inodes : Bool) (map : ℕ → List ℕ) (block : List ℕ) (o free bits n : ℕ) → block ≡ map (256 * o)
-    → free ≡ count_below (λ i. not (used inodes map i)) (bits_of inodes * o) → bits ≡ bits_of inodes → n ≡ count_below (λ j. bit_of block (bit_index inodes j)) (bits_of inodes)
+    → free ≡ count_below (λ i. not (used inodes map i)) (bits_of inodes * o) → bits ≡ bits_of inodes
+    → n ≡ count_below (λ j. bit_of block (bit_index inodes j)) (bits_of inodes)
     → free + (bits - n) ≡ count_below (λ i. not (used inodes map i)) (bits_of inodes * (o + 1))
-free_next true map block o free bits n e f b c = let m = free_more true map block o e in let t : 64 * (o + 1) ≡ 64 * o + 64 = omega arith in let g = ap (count_below (λ i. not (used true map i))) t in omega arith
-free_next false map block o free bits n e f b c = let m = free_more false map block o e in let t : 256 * (o + 1) ≡ 256 * o + 256 = omega arith in let g = ap (count_below (λ i. not (used false map i))) t in omega arith
+free_next true map block o free bits n e f b c =
+    let m = free_more true map block o e in let t : 64 * (o + 1) ≡ 64 * o + 64 = omega arith in
+    let g = ap (count_below (λ i. not (used true map i))) t in omega arith
+free_next false map block o free bits n e f b c =
+    let m = free_more false map block o e in let t : 256 * (o + 1) ≡ 256 * o + 256 = omega arith in
+    let g = ap (count_below (λ i. not (used false map i))) t in omega arith
 
 pub bits_few : (inodes : Bool) → bits_of inodes ≤ 256
 bits_few true = omega arith
 bits_few false = omega arith
 
 -- a free place that holds no data
-pub unreserved_at : (inodes : Bool) (lot : LotView) (map : ℕ → List ℕ) (block : List ℕ) (o i : ℕ) → inodes ≡ false → block ≡ map (256 * o) → o < length lot.groups → i < 9 → bit_of block (bit_index inodes i) ≡ false → ¬ Reserved lot map
+pub unreserved_at : (inodes : Bool) (lot : LotView) (map : ℕ → List ℕ) (block : List ℕ) (o i : ℕ) → inodes ≡ false → block ≡ map (256 * o)
+    → o < length lot.groups → i < 9 → bit_of block (bit_index inodes i) ≡ false → ¬ Reserved lot map
 unreserved_at true lot map block o i f e h p clear = absurd cc
 unreserved_at false lot map block o i f e h p clear = unreserved lot map block o i e h p clear
 
@@ -61,14 +67,16 @@ number_below true n o i h l = omega arith
 number_below false n o i h l = omega arith
 
 -- where one is clear, not all are used
-pub not_all : (inodes : Bool) (lot : LotView) (map : ℕ → List ℕ) (block : List ℕ) (o i : ℕ) → block ≡ map (256 * o) → o < length lot.groups → i < bits_of inodes → bit_of block (bit_index inodes i) ≡ false → ¬ AllUsed inodes lot map
+pub not_all : (inodes : Bool) (lot : LotView) (map : ℕ → List ℕ) (block : List ℕ) (o i : ℕ) → block ≡ map (256 * o) → o < length lot.groups
+    → i < bits_of inodes → bit_of block (bit_index inodes i) ≡ false → ¬ AllUsed inodes lot map
 not_all inodes lot map block o i e h l clear all =
     let set = all (bits_of inodes * o + i) (number_below inodes (length lot.groups) o i h l) in
     let bit = used-at inodes map o i l ∙ ap (λ x. bit_of x (bit_index inodes i)) (sym e) ∙ clear in
     false≢true (sym bit ∙ set)
 
 -- a bit that was read says whether it is used
-pub bit_used : (inodes : Bool) (map : ℕ → List ℕ) (block : List ℕ) (i p : ℕ) (v : Bool) → bit_of block (bit_index inodes p) ≡ v → p ≡ i % bits_of inodes → block ≡ map (bitmap_of inodes i) → used inodes map i ≡ v
+pub bit_used : (inodes : Bool) (map : ℕ → List ℕ) (block : List ℕ) (i p : ℕ) (v : Bool) → bit_of block (bit_index inodes p) ≡ v
+    → p ≡ i % bits_of inodes → block ≡ map (bitmap_of inodes i) → used inodes map i ≡ v
 bit_used inodes map block i p v was place e =
     used-bit inodes map i ∙ ap (λ x. bit_of x (bit_place inodes i)) (sym e) ∙ ap (λ x. bit_of block (bit_index inodes x)) (sym place) ∙ was
 
@@ -81,7 +89,8 @@ pub took_by : (inodes : Bool) (m0 m1 : ℕ → List ℕ) (block set sub : List �
     → ((b : ℕ) → b ≢ sub_address → b ≢ bitmap_of inodes i → m1 b ≡ m0 b)
     → Took inodes m0 m1 i
 took_by inodes m0 m1 block set sub i p least place e marks counts at at_sub only =
-    let bits : (j : ℕ) → bit_of set j ≡ cond (j == bit_place inodes i) true (bit_of (m0 (bitmap_of inodes i)) j) = λ j. marks j ∙ ap (λ x. cond (j == bit_index inodes x) true (bit_of block j)) place ∙ ap (λ x. cond (j == bit_place inodes i) true (bit_of x j)) e in
+    let bits : (j : ℕ) → bit_of set j ≡ cond (j == bit_place inodes i) true (bit_of (m0 (bitmap_of inodes i)) j) = λ j. marks j
+    ∙ ap (λ x. cond (j == bit_index inodes x) true (bit_of block j)) place ∙ ap (λ x. cond (j == bit_place inodes i) true (bit_of x j)) e in
     record {
       least = least;
       taken = bit_moves inodes true m0 m1 set i bits at only;
@@ -99,7 +108,8 @@ pub gave_by : (inodes : Bool) (m0 m1 : ℕ → List ℕ) (block set sub : List �
     → ((b : ℕ) → b ≢ sub_address → b ≢ bitmap_of inodes i → m1 b ≡ m0 b)
     → Gave inodes m0 m1 i
 gave_by inodes m0 m1 block set sub i p was place e marks counts at at_sub only =
-    let bits : (j : ℕ) → bit_of set j ≡ cond (j == bit_place inodes i) false (bit_of (m0 (bitmap_of inodes i)) j) = λ j. marks j ∙ ap (λ x. cond (j == bit_index inodes x) false (bit_of block j)) place ∙ ap (λ x. cond (j == bit_place inodes i) false (bit_of x j)) e in
+    let bits : (j : ℕ) → bit_of set j ≡ cond (j == bit_place inodes i) false (bit_of (m0 (bitmap_of inodes i)) j) = λ j. marks j
+    ∙ ap (λ x. cond (j == bit_index inodes x) false (bit_of block j)) place ∙ ap (λ x. cond (j == bit_place inodes i) false (bit_of x j)) e in
     record {
       was_used = bit_used inodes m0 block i p true was place e;
       given = bit_moves inodes false m0 m1 set i bits at only;

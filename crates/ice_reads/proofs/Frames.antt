@@ -70,7 +70,8 @@ module _ (f : Form) (o p : Table) (mine yours : ℕ → List ℕ) (alike : (k : 
     pub uses-frame : (i : ℕ) (t : Tree) → SameAt o p (used_inodes f o i t) → tree_uses f p yours i t ≡ tree_uses f o mine i t
     uses-frame i (File bytes) same = alike i (head same)
     uses-frame i (Dir es) same =
-        ap (λ x. yours i ++ entries_use f p yours (rows_in f x) es) (head same) ∙ (λ j. alike i (head same) j ++ uses_in-frame (rows_in f (o i)) es (tail same) j)
+        ap (λ x. yours i ++ entries_use f p yours (rows_in f x) es) (head same)
+        ∙ (λ j. alike i (head same) j ++ uses_in-frame (rows_in f (o i)) es (tail same) j)
 
     pub uses_in-frame : (rs : List DirRow) (es : Entries) → SameAt o p (inodes_in f o rs es) → entries_use f p yours rs es ≡ entries_use f o mine rs es
     uses_in-frame rs Nil same = refl

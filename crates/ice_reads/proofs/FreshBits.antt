@@ -30,7 +30,9 @@ module _ (z : List ℕ) (long : length z ≡ 1024) (zeros : (k : ℕ) → slice_
   set = slice_set (slice_set (slice_set z 0 255) 1 1) 32 x
 
   byte-0 : slice_index set 0 ≡ 255
-  byte-0 = set-other (slice_set (slice_set z 0 255) 1 1) 32 x 0 (omega arith) ∙ set-other (slice_set z 0 255) 1 1 0 (omega arith) ∙ set-here z 0 255 (omega (arith, long))
+  byte-0 =
+      set-other (slice_set (slice_set z 0 255) 1 1) 32 x 0 (omega arith) ∙ set-other (slice_set z 0 255) 1 1 0 (omega arith)
+      ∙ set-here z 0 255 (omega (arith, long))
 
   byte-1 : slice_index set 1 ≡ 1
   byte-1 = set-other (slice_set (slice_set z 0 255) 1 1) 32 x 1 (omega arith) ∙ set-here (slice_set z 0 255) 1 1 (omega (arith, long, length-set z 0 255))
@@ -95,7 +97,8 @@ module _ (first : Bool) where
       elim (p / 8 == 0) as (λ b. (p / 8 == 0) ≡ b → bit_of (fresh_bitmap first) p ≡ true) [
         | true ↦ λ t.
             let q : p / 8 ≡ 0 = grind (arith, nat_tests) in
-            bit-in (fresh_bitmap first) p 255 (ap (slice_index (fresh_bitmap first)) q ∙ byte-0 zero_block zero-long zero_at root) ∙ ones (p % 8) (mod_below p 8 (omega arith))
+            bit-in (fresh_bitmap first) p 255 (ap (slice_index (fresh_bitmap first)) q ∙ byte-0 zero_block zero-long zero_at root)
+            ∙ ones (p % 8) (mod_below p 8 (omega arith))
         | false ↦ λ t.
             let ne : p / 8 ≢ 0 = grind (arith, nat_tests) in
             let d = div-add-mod' p 8 in
@@ -124,7 +127,8 @@ module _ (first : Bool) where
       let r = mod_below (256 + i) 8 (omega arith) in
       let q : (256 + i) / 8 ≡ 32 = omega arith in
       let z : (256 + i) % 8 ≡ i = omega arith in
-      bit-in (fresh_bitmap first) (256 + i) root (ap (slice_index (fresh_bitmap first)) q ∙ byte-32 zero_block zero-long zero_at root) ∙ ap (λ k. bit_at root k == 1) z
+      bit-in (fresh_bitmap first) (256 + i) root (ap (slice_index (fresh_bitmap first)) q ∙ byte-32 zero_block zero-long zero_at root)
+      ∙ ap (λ k. bit_at root k == 1) z
 
   inode-later : (i : ℕ) → 8 ≤ i → i < 64 → bit_of (fresh_bitmap first) (256 + i) ≡ false
   inode-later i l h =

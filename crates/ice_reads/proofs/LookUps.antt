@@ -31,7 +31,8 @@ use Rattle.ice_reads.proofs.Focus.{entry_reads, same_Some, None≢Some}
 
 -- ---- the two look-ups are one
 
-first_of : (b : Bool) (e : DirRow) (r : Option DirRow) → option_map (λ (row : DirRow). row.1) (cond b (Some e) r) ≡ cond b (Some e.1) (option_map (λ (row : DirRow). row.1) r)
+first_of : (b : Bool) (e : DirRow) (r : Option DirRow)
+    → option_map (λ (row : DirRow). row.1) (cond b (Some e) r) ≡ cond b (Some e.1) (option_map (λ (row : DirRow). row.1) r)
 first_of true e r = refl
 first_of false e r = refl
 
@@ -53,11 +54,13 @@ module _ (f : Form) (lot : LotView) (o : Table) (i h : ℕ) (c : List ℕ) (es :
   rs = rows_in f (o i)
 
   -- where a row has the name, the directory has an entry of it, and the row's inode stands for its tree
-  pub child-found : (j : ℕ) → Reads f lot o i h (Dir es) → look_up c rs ≡ Some j → (s : Tree) × (child c (Dir es) ≡ Found s) × Reads f lot o j (h + 1) s × (inode_named c rs ≡ j)
+  pub child-found : (j : ℕ) → Reads f lot o i h (Dir es) → look_up c rs ≡ Some j
+      → (s : Tree) × (child c (Dir es) ≡ Found s) × Reads f lot o j (h + 1) s × (inode_named c rs ≡ j)
   child-found j r is =
       let row : find by_bytes c rs ≡ Some j = sym (look_up-find c rs) ∙ is in
       let here : inode_named c rs ≡ j = ap (λ x. unwrap_or x 0) row in
-      elim (find by_bytes c (rows es)) as (λ x. find by_bytes c (rows es) ≡ x → (s : Tree) × (found_or_not x ≡ Found s) × Reads f lot o j (h + 1) s × (inode_named c rs ≡ j)) [
+      elim (find by_bytes c (rows es)) as (λ x. find by_bytes c (rows es) ≡ x
+      → (s : Tree) × (found_or_not x ≡ Found s) × Reads f lot o j (h + 1) s × (inode_named c rs ≡ j)) [
         | None ↦ λ e. absurd (subst T (sym (sym (ap is_some e) ∙ r.1.maps c ∙ ap is_some row)) tt)
         | Some s ↦ λ e. (s, refl, subst (λ x. Reads f lot o x (h + 1) s) here (entry_reads f lot o rs (h + 1) c es s e r.2), here)
       ] refl
@@ -98,7 +101,8 @@ same_options None (Some w) a b = b w refl
 same_options (Some v) y a b = sym (a v refl)
 
 distinct-moved : (rs ss : List DirRow) → IsPermutation rs ss → IsDistinct (eq_by_cmp by_bytes) (names_of rs) → IsDistinct (eq_by_cmp by_bytes) (names_of ss)
-distinct-moved rs ss p d = IsDistinct-IsPermutation (eq_by_cmp by_bytes) is_same_name-sym (names_of rs) (names_of ss) (IsPermutation-map (λ (row : DirRow). row.0) rs ss p) d
+distinct-moved rs ss p d =
+    IsDistinct-IsPermutation (eq_by_cmp by_bytes) is_same_name-sym (names_of rs) (names_of ss) (IsPermutation-map (λ (row : DirRow). row.0) rs ss p) d
 
 find-moved : (rs ss : List DirRow) (q : List ℕ) → IsPermutation rs ss → IsDistinct (eq_by_cmp by_bytes) (names_of rs) → find by_bytes q ss ≡ find by_bytes q rs
 find-moved rs ss q p d =
@@ -125,16 +129,19 @@ not_some (Some x) e = absurd (subst T e tt)
 
 -- past the row of a name no row has it
 find-past : (e : DirRow) (ss : List DirRow) → IsDistinct (eq_by_cmp by_bytes) (names_of (e ∷ ss)) → find by_bytes e.0 ss ≡ None
-find-past e ss d = not_some (find by_bytes e.0 ss) (is_some-find by_bytes e.0 ss ∙ none_tied e.0 (names_of ss) (IsDistinct-head (eq_by_cmp by_bytes) e.0 (names_of ss) d))
+find-past e ss d =
+    not_some (find by_bytes e.0 ss) (is_some-find by_bytes e.0 ss ∙ none_tied e.0 (names_of ss) (IsDistinct-head (eq_by_cmp by_bytes) e.0 (names_of ss) d))
 
-find-rest : (e : DirRow) (ss : List DirRow) (q : List ℕ) → IsDistinct (eq_by_cmp by_bytes) (names_of (e ∷ ss)) → find by_bytes q ss ≡ cond (is_same_name e.0 q) None (find by_bytes q (e ∷ ss))
+find-rest : (e : DirRow) (ss : List DirRow) (q : List ℕ) → IsDistinct (eq_by_cmp by_bytes) (names_of (e ∷ ss))
+    → find by_bytes q ss ≡ cond (is_same_name e.0 q) None (find by_bytes q (e ∷ ss))
 find-rest e ss q d =
     elim (is_same_name e.0 q) as (λ b. is_same_name e.0 q ≡ b → find by_bytes q ss ≡ cond b None (find by_bytes q (e ∷ ss))) [
       | true ↦ λ t. ap (λ x. find by_bytes x ss) (sym (same_name e.0 q t)) ∙ find-past e ss d
       | false ↦ λ t. ap (λ b. cond b (Some e.1) (find by_bytes q ss)) (sym (is_same_name-sym q e.0 ∙ t))
     ] refl
 
-row-gone : (f : Form) (rs ss : List DirRow) (e : DirRow) → IsPermutation rs (e ∷ ss) → IsDistinct (eq_by_cmp by_bytes) (names_of rs) → All (λ (row : DirRow). IsNameOf f row.0) rs → RowGone f e.0 rs ss
+row-gone : (f : Form) (rs ss : List DirRow) (e : DirRow) → IsPermutation rs (e ∷ ss) → IsDistinct (eq_by_cmp by_bytes) (names_of rs)
+    → All (λ (row : DirRow). IsNameOf f row.0) rs → RowGone f e.0 rs ss
 row-gone f rs ss e p d fit =
     let all = distinct-moved rs (e ∷ ss) p d in
     record {
@@ -156,7 +163,8 @@ module _ (c : List ℕ) (j : ℕ) (rs : List DirRow) (is : look_up c rs ≡ Some
   inside =
       let low = prefix_len-le-length (λ (row : DirRow). not (named c row)) rs in
       let none : length rs ≤ at → None ≡ Some j =
-      (λ past. ap (option_map (λ (row : DirRow). row.1)) (sym (slice_get_past rs at past)) ∙ ap (option_map (λ (row : DirRow). row.1)) (sym (find_at (named c) rs)) ∙ is) in
+      (λ past. ap (option_map (λ (row : DirRow). row.1)) (sym (slice_get_past rs at past))
+      ∙ ap (option_map (λ (row : DirRow). row.1)) (sym (find_at (named c) rs)) ∙ is) in
       omega (arith, low, (λ (past : length rs ≤ at). None≢Some j (none past)))
 
   gone-named : gone.0 ≡ c
@@ -168,10 +176,12 @@ module _ (c : List ℕ) (j : ℕ) (rs : List DirRow) (is : look_up c rs ≡ Some
       subst (λ (x : DirRow). IsPermutation rs (gone ∷ take (length rs - 1) (slice_set rs at x))) last
       (IsPermutation-swap_remove rs at gone inside (get_or_default rs at ([], 0) gone inside))
 
-pub dir_without : (f : Form) (c : List ℕ) (j : ℕ) (rs ss : List DirRow) → ss ≡ rows_without c rs → look_up c rs ≡ Some j → IsDistinct (eq_by_cmp by_bytes) (map (λ (row : DirRow). row.0) rs) → All (λ (row : DirRow). IsNameOf f row.0) rs → RowGone f c rs ss
+pub dir_without : (f : Form) (c : List ℕ) (j : ℕ) (rs ss : List DirRow) → ss ≡ rows_without c rs → look_up c rs ≡ Some j
+    → IsDistinct (eq_by_cmp by_bytes) (map (λ (row : DirRow). row.0) rs) → All (λ (row : DirRow). IsNameOf f row.0) rs → RowGone f c rs ss
 dir_without f c j rs ss e is d fit =
     subst (λ xs. RowGone f c rs xs) (sym e)
-    (subst (λ x. RowGone f x rs (rows_without c rs)) (gone-named c j rs is) (row-gone f rs (rows_without c rs) (gone c j rs is) (without-moved c j rs is) d fit))
+    (subst (λ x. RowGone f x rs (rows_without c rs)) (gone-named c j rs is)
+    (row-gone f rs (rows_without c rs) (gone c j rs is) (without-moved c j rs is) d fit))
 
 -- ---- the rows with one more
 
@@ -186,11 +196,14 @@ names-append : (rs ss : List DirRow) → names_of (rs ++ ss) ≡ names_of rs ++ 
 names-append [] ss = refl
 names-append (e ∷ rs) ss = ap (λ xs. e.0 ∷ xs) (names-append rs ss)
 
-pub dir_with : (f : Form) (c : List ℕ) (j : ℕ) (rs ss : List DirRow) → ss ≡ rs ++ (c, j) ∷ [] → look_up c rs ≡ None → IsNameOf f c → IsDistinct (eq_by_cmp by_bytes) (map (λ (row : DirRow). row.0) rs) → All (λ (row : DirRow). IsNameOf f row.0) rs → RowCame f c j rs ss
+pub dir_with : (f : Form) (c : List ℕ) (j : ℕ) (rs ss : List DirRow) → ss ≡ rs ++ (c, j) ∷ [] → look_up c rs ≡ None → IsNameOf f c
+    → IsDistinct (eq_by_cmp by_bytes) (map (λ (row : DirRow). row.0) rs) → All (λ (row : DirRow). IsNameOf f row.0) rs → RowCame f c j rs ss
 dir_with f c j rs ss e is name d fit =
     let none : find by_bytes c rs ≡ None = sym (look_up-find c rs) ∙ is in
     subst (λ xs. RowCame f c j rs xs) (sym e) (record {
-      fit = All-append (λ (row : DirRow). IsNameOf f row.0) rs ((c, j) ∷ []) fit (All-cons (λ (row : DirRow). IsNameOf f row.0) (c, j) [] name (All-nil (λ (row : DirRow). IsNameOf f row.0)));
+      fit =
+          All-append (λ (row : DirRow). IsNameOf f row.0) rs ((c, j) ∷ []) fit
+          (All-cons (λ (row : DirRow). IsNameOf f row.0) (c, j) [] name (All-nil (λ (row : DirRow). IsNameOf f row.0)));
       differ = subst (IsDistinct (eq_by_cmp by_bytes)) (sym (names-append rs ((c, j) ∷ [])))
           (IsDistinct-push (eq_by_cmp_equiv nat_list_cmp_total) (names_of rs) c d (sym (is_some-find by_bytes c rs) ∙ ap is_some none));
       others = λ q. find-append by_bytes nat_list_cmp_total rs c j q none;

@@ -63,19 +63,26 @@ module _ (f : Form) (lot : LotView) (x y : Own) (i h : ℕ) (c : List ℕ) (es :
     within = a.within;
     fit = a.fit;
     differ = a.differ;
-    sorted = subst (λ rs. T (is_sorted by_bytes rs)) (sym (rows-from_rows (filter (λ e. not (eq_by_cmp by_bytes c e.0)) (rows es)))) (is_sorted-where_key by_bytes (λ x. not (eq_by_cmp by_bytes c x)) (rows es) d.sorted);
-    maps = λ q. ap is_some (find-without c q es) ∙ alike_some (eq_by_cmp by_bytes c q) (find by_bytes q (rows es)) (find by_bytes q (rows_in f x)) (d.maps q) ∙ ap is_some (sym (a.others q));
+    sorted =
+        subst (λ rs. T (is_sorted by_bytes rs)) (sym (rows-from_rows (filter (λ e. not (eq_by_cmp by_bytes c e.0)) (rows es))))
+        (is_sorted-where_key by_bytes (λ x. not (eq_by_cmp by_bytes c x)) (rows es) d.sorted);
+    maps =
+        λ q. ap is_some (find-without c q es) ∙ alike_some (eq_by_cmp by_bytes c q) (find by_bytes q (rows es))
+        (find by_bytes q (rows_in f x)) (d.maps q) ∙ ap is_some (sym (a.others q));
     count = count_is (length (rows (without c es))) (length (rows es)) (length-without c v es d.sorted is) d.count a.less;
   }
 
   same_rows : LosesRow f lot x y i h c → SameRowsAt (rows_in f x) (rows_in f y) (without c es)
   same_rows a = λ q some. ap (λ r. unwrap_or r 0) (a.others q) ∙ by_tie q (subst (λ r. is_some r ≡ true) (find-without c q es) some)
     where
-      by_tie : (q : List ℕ) → is_some (cond (eq_by_cmp by_bytes c q) None (find by_bytes q (rows es))) ≡ true → unwrap_or (cond (eq_by_cmp by_bytes c q) None (find by_bytes q (rows_in f x))) 0 ≡ unwrap_or (find by_bytes q (rows_in f x)) 0
-      by_tie q = elim (eq_by_cmp by_bytes c q) as (λ b. is_some (cond b None (find by_bytes q (rows es))) ≡ true → unwrap_or (cond b None (find by_bytes q (rows_in f x))) 0 ≡ unwrap_or (find by_bytes q (rows_in f x)) 0) [
-        | true ↦ λ e. absurd (subst T (sym e) tt)
-        | false ↦ λ e. refl
-      ]
+      by_tie : (q : List ℕ) → is_some (cond (eq_by_cmp by_bytes c q) None (find by_bytes q (rows es))) ≡ true
+          → unwrap_or (cond (eq_by_cmp by_bytes c q) None (find by_bytes q (rows_in f x))) 0 ≡ unwrap_or (find by_bytes q (rows_in f x)) 0
+      by_tie q =
+          elim (eq_by_cmp by_bytes c q) as (λ b. is_some (cond b None (find by_bytes q (rows es))) ≡ true
+          → unwrap_or (cond b None (find by_bytes q (rows_in f x))) 0 ≡ unwrap_or (find by_bytes q (rows_in f x)) 0) [
+            | true ↦ λ e. absurd (subst T (sym e) tt)
+            | false ↦ λ e. refl
+          ]
 
 first : (a b : Bool) → T (a && b) → T a
 first true b h = tt
@@ -85,8 +92,10 @@ second : (a b : Bool) → T (a && b) → T b
 second true b h = h
 second false b h = absurd h
 
-module _ (f : Form) (o : Table) (mine : ℕ → List ℕ) (rs : List DirRow) (measure : List ℕ → ℕ) (adds : (xs ys : List ℕ) → measure (xs ++ ys) ≡ measure xs + measure ys) where
-  pub uses_in-without : (c : List ℕ) (v : Tree) (es : Entries) → T (is_sorted by_bytes (rows es)) → find by_bytes c (rows es) ≡ Some v → measure (entries_use f o mine rs (without c es)) + measure (tree_uses f o mine (inode_named c rs) v) ≡ measure (entries_use f o mine rs es)
+module _ (f : Form) (o : Table) (mine : ℕ → List ℕ) (rs : List DirRow) (measure : List ℕ → ℕ)
+    (adds : (xs ys : List ℕ) → measure (xs ++ ys) ≡ measure xs + measure ys) where
+  pub uses_in-without : (c : List ℕ) (v : Tree) (es : Entries) → T (is_sorted by_bytes (rows es)) → find by_bytes c (rows es) ≡ Some v
+      → measure (entries_use f o mine rs (without c es)) + measure (tree_uses f o mine (inode_named c rs) v) ≡ measure (entries_use f o mine rs es)
   uses_in-without c v Nil sorted is = absurd (None≢Some v is)
   uses_in-without c v (Entry d t es) sorted is =
       elim (eq_by_cmp by_bytes c d) as (λ b. eq_by_cmp by_bytes c d ≡ b → cond b (Some t) (find by_bytes c (rows es)) ≡ Some v
@@ -100,20 +109,25 @@ module _ (f : Form) (o : Table) (mine : ℕ → List ℕ) (rs : List DirRow) (me
               ap (λ x. measure (tree_uses f o mine (inode_named d rs) x)) (same_Some _ _ is),
               ap (λ x. measure (tree_uses f o mine (inode_named x rs) v)) k,
             )
-        | false ↦ λ e is. omega (arith, adds (tree_uses f o mine (inode_named d rs) t) (entries_use f o mine rs es), adds (tree_uses f o mine (inode_named d rs) t) (entries_use f o mine rs (without c es)), uses_in-without c v es (second _ _ sorted) is)
+        | false ↦ λ e is.
+            omega (arith, adds (tree_uses f o mine (inode_named d rs) t) (entries_use f o mine rs es), adds (tree_uses f o mine (inode_named d rs) t) (entries_use f o mine rs (without c es)), uses_in-without c v es (second _ _ sorted) is)
       ] refl is
 
 module _ (f : Form) (lot : LotView) (o p : Table) (i h : ℕ) (c : List ℕ) (v : Tree) (es : Entries) where
-  pub Reads-loses : Reads f lot o i h (Dir es) → find by_bytes c (rows es) ≡ Some v → LosesRow f lot (o i) (p i) i h c → SameAt o p (inodes_in f o (rows_in f (o i)) (without c es)) → Reads f lot p i h (without_entry c (Dir es))
+  pub Reads-loses : Reads f lot o i h (Dir es) → find by_bytes c (rows es) ≡ Some v → LosesRow f lot (o i) (p i) i h c
+      → SameAt o p (inodes_in f o (rows_in f (o i)) (without c es)) → Reads f lot p i h (without_entry c (Dir es))
   Reads-loses r is a same = (
     a.common r.0,
     IsDirInode-without f lot (o i) (p i) i h c es v is a r.1,
     ReadsEach-rows (rows_in f (o i)) (rows_in f (p i)) f lot p (h + 1) (without c es) (same_rows f lot (o i) (p i) i h c es a)
-        (ReadsEach-frame f lot o p (rows_in f (o i)) (h + 1) (without c es) same (ReadsEach-filter f lot o (rows_in f (o i)) (h + 1) (λ e. not (eq_by_cmp by_bytes c e.0)) es r.2)),
+        (ReadsEach-frame f lot o p (rows_in f (o i)) (h + 1) (without c es) same
+        (ReadsEach-filter f lot o (rows_in f (o i)) (h + 1) (λ e. not (eq_by_cmp by_bytes c e.0)) es r.2)),
   )
 
-  pub uses-loses : (mine yours : ℕ → List ℕ) → ((k : ℕ) → p k ≡ o k → yours k ≡ mine k) → (measure : List ℕ → ℕ) → ((xs ys : List ℕ) → measure (xs ++ ys) ≡ measure xs + measure ys)
-      → T (is_sorted by_bytes (rows es)) → find by_bytes c (rows es) ≡ Some v → LosesRow f lot (o i) (p i) i h c → SameAt o p (inodes_in f o (rows_in f (o i)) (without c es))
+  pub uses-loses : (mine yours : ℕ → List ℕ) → ((k : ℕ) → p k ≡ o k → yours k ≡ mine k) → (measure : List ℕ → ℕ)
+      → ((xs ys : List ℕ) → measure (xs ++ ys) ≡ measure xs + measure ys)
+      → T (is_sorted by_bytes (rows es)) → find by_bytes c (rows es) ≡ Some v → LosesRow f lot (o i) (p i) i h c
+      → SameAt o p (inodes_in f o (rows_in f (o i)) (without c es))
       → measure (tree_uses f p yours i (without_entry c (Dir es))) + measure (tree_uses f o mine (inode_named c (rows_in f (o i))) v) + measure (mine i) ≡ measure (tree_uses f o mine i (Dir es)) + measure (yours i)
   uses-loses mine yours like measure adds sorted is a same =
       omega (
@@ -132,7 +146,8 @@ pub length-rows_in : (f : Form) (x : Own) → length (rows_in f x) ≡ x.inode.s
 unfolding dir_rows
 length-rows_in f x = length-map-range_with_len _ 0 x.inode.size
 
-module _ (f : Form) (lot : LotView) (x y : Own) (i h : ℕ) (common : IsInode f lot x i h → IsInode f lot y i h) (is_dir : y.inode.kind ≡ 2) (within : y.inode.size < 64 * length lot.groups) (c : List ℕ) (j : ℕ) where
+module _ (f : Form) (lot : LotView) (x y : Own) (i h : ℕ) (common : IsInode f lot x i h → IsInode f lot y i h) (is_dir : y.inode.kind ≡ 2)
+    (within : y.inode.size < 64 * length lot.groups) (c : List ℕ) (j : ℕ) where
   -- what a new row makes of a directory
   pub adds_row : rows_in f y ≡ rows_in f x ++ (c, j) ∷ [] → AddsRow f lot x y i h c j
   adds_row added = record {
@@ -144,7 +159,8 @@ module _ (f : Form) (lot : LotView) (x y : Own) (i h : ℕ) (common : IsInode f 
   }
 
   -- what a row that was taken makes of it
-  pub loses_row : (es : Entries) → IsDirInode f lot x es → look_up c (rows_in f x) ≡ Some j → rows_in f y ≡ dir.rows_without c (rows_in f x) → LosesRow f lot x y i h c
+  pub loses_row : (es : Entries) → IsDirInode f lot x es → look_up c (rows_in f x) ≡ Some j
+      → rows_in f y ≡ dir.rows_without c (rows_in f x) → LosesRow f lot x y i h c
   loses_row es d is taken =
       let gone : RowGone f c (rows_in f x) (rows_in f y) = dir_without f c j (rows_in f x) (rows_in f y) taken is d.differ d.fit in
       record {

@@ -34,7 +34,8 @@ module _ (f : Form) (lot : LotView) (o p : Table) (q : List (List ℕ)) (c : Lis
   dir_reads = subst (λ x. Reads f lot o here x (Dir es)) level (Reads-part f lot o q 0 0 t (Dir es) found r)
 
   kept_same : SameAt o p (inodes_in f o (rows_in f (o here)) (without c es))
-  kept_same = record { at = λ k h. (in_dir f o p q 0 t es found once same).at k (omega (arith, uses_in-without f o one (rows_in f (o here)) (λ xs. times xs k) (λ xs ys. times-append xs ys k) c v es dir_reads.1.sorted is)) }
+  kept_same =
+      record { at = λ k h. (in_dir f o p q 0 t es found once same).at k (omega (arith, uses_in-without f o one (rows_in f (o here)) (λ xs. times xs k) (λ xs ys. times-append xs ys k) c v es dir_reads.1.sorted is)) }
 
   -- the root stands for the tree without the entry
   pub Reads-without_entry : Reads f lot p 0 0 (at q (without_entry c) t)
@@ -43,7 +44,8 @@ module _ (f : Form) (lot : LotView) (o p : Table) (q : List (List ℕ)) (c : Lis
       (outside_dir f o p q 0 t es found once same)
 
   -- the tree uses less by what the entry's tree used, and more or less by what the directory's own inode does
-  pub uses-without_entry : (mine yours : ℕ → List ℕ) → ((k : ℕ) → p k ≡ o k → yours k ≡ mine k) → (measure : List ℕ → ℕ) → ((xs ys : List ℕ) → measure (xs ++ ys) ≡ measure xs + measure ys)
+  pub uses-without_entry : (mine yours : ℕ → List ℕ) → ((k : ℕ) → p k ≡ o k → yours k ≡ mine k) → (measure : List ℕ → ℕ)
+      → ((xs ys : List ℕ) → measure (xs ++ ys) ≡ measure xs + measure ys)
       → measure (tree_uses f p yours 0 (at q (without_entry c) t)) + measure (tree_uses f o mine gone v) + measure (mine here) ≡ measure (tree_uses f o mine 0 t) + measure (yours here)
   uses-without_entry mine yours like measure adds =
       omega (
@@ -66,17 +68,20 @@ module _ (f : Form) (lot : LotView) (o p : Table) (q : List (List ℕ)) (c : Lis
 
   -- no inode is used both by what is left and by what went
   pub apart : (k : ℕ) → times (used_inodes f p 0 (at q (without_entry c) t)) k + times (used_inodes f p gone v) k ≤ 1
-  apart k = omega (arith, once k, uses-without_entry one one (λ k e. refl) (λ xs. times xs k) (λ xs ys. times-append xs ys k), ap (λ xs. times xs k) (uses-gone one one (λ k e. refl)))
+  apart k =
+      omega (arith, once k, uses-without_entry one one (λ k e. refl) (λ xs. times xs k) (λ xs ys. times-append xs ys k), ap (λ xs. times xs k) (uses-gone one one (λ k e. refl)))
 
   -- ---- and joins a directory of what is left
-  module _ (z : Table) (to : List (List ℕ)) (d : List ℕ) (fs : Entries) (there : walk to (at q (without_entry c) t) ≡ Found (Dir fs)) (free : find by_bytes d (rows fs) ≡ None) (name : IsNameOf f d)
+  module _ (z : Table) (to : List (List ℕ)) (d : List ℕ) (fs : Entries) (there : walk to (at q (without_entry c) t) ≡ Found (Dir fs))
+      (free : find by_bytes d (rows fs) ≡ None) (name : IsNameOf f d)
       (second : SameBut p z (inode_on f p 0 to) (used_inodes f p 0 (at q (without_entry c) t) ++ used_inodes f p gone v))
       (adds : AddsRow f lot (p (inode_on f p 0 to)) (z (inode_on f p 0 to)) (inode_on f p 0 to) (length to) d gone) (fits : length to + 1 + height v ≤ deepest) where
     left_once : IsOnce (used_inodes f p 0 (at q (without_entry c) t))
     left_once k = omega (arith, apart k)
 
     left_second : SameBut p z (inode_on f p 0 to) (used_inodes f p 0 (at q (without_entry c) t))
-    left_second = record { at = λ k ne h. second.at k ne (omega (arith, times-append (used_inodes f p 0 (at q (without_entry c) t)) (used_inodes f p gone v) k)) }
+    left_second =
+        record { at = λ k ne h. second.at k ne (omega (arith, times-append (used_inodes f p 0 (at q (without_entry c) t)) (used_inodes f p gone v) k)) }
 
     not_to : (k : ℕ) → 0 < times (used_inodes f p gone v) k → k ≢ inode_on f p 0 to
     not_to k h e = absurd (omega (
@@ -88,7 +93,8 @@ module _ (f : Form) (lot : LotView) (o p : Table) (q : List (List ℕ)) (c : Lis
     ))
 
     moved_same : SameAt p z (used_inodes f p gone v)
-    moved_same = record { at = λ k h. second.at k (not_to k h) (omega (arith, times-append (used_inodes f p 0 (at q (without_entry c) t)) (used_inodes f p gone v) k)) }
+    moved_same =
+        record { at = λ k h. second.at k (not_to k h) (omega (arith, times-append (used_inodes f p 0 (at q (without_entry c) t)) (used_inodes f p gone v) k)) }
 
     pub Reads-moved : Reads f lot z 0 0 (at to (with_entry d v) (at q (without_entry c) t))
     Reads-moved = Reads-with_entry f lot p z to d gone v (at q (without_entry c) t) fs Reads-without_entry there free name left_once left_second adds

@@ -30,7 +30,8 @@ module _ (f : Form) (o : Table) (mine : ℕ → List ℕ) where
     pub uses_in-flat : (rs : List DirRow) (es : Entries) → entries_use f o mine rs es ≡ flat_map mine (inodes_in f o rs es)
     uses_in-flat rs Nil = refl
     uses_in-flat rs (Entry c t es) =
-        (λ x. uses-flat (inode_named c rs) t x ++ uses_in-flat rs es x) ∙ sym (flat_map-append mine (used_inodes f o (inode_named c rs) t) (inodes_in f o rs es))
+        (λ x. uses-flat (inode_named c rs) t x ++ uses_in-flat rs es x)
+        ∙ sym (flat_map-append mine (used_inodes f o (inode_named c rs) t) (inodes_in f o rs es))
 
 -- what an inode of a list uses, the inodes of the list use
 pub one_of : (mine : ℕ → List ℕ) (a i : ℕ) (is : List ℕ) → 0 < times is i → times (mine i) a ≤ times (flat_map mine is) a
@@ -42,7 +43,8 @@ one_of mine a i (x ∷ is) h =
     ] refl
 
 -- what two different inodes of a list use adds up
-pub apart : (mine : ℕ → List ℕ) (a i k : ℕ) (is : List ℕ) → i ≢ k → 0 < times is i → 0 < times is k → times (mine i) a + times (mine k) a ≤ times (flat_map mine is) a
+pub apart : (mine : ℕ → List ℕ) (a i k : ℕ) (is : List ℕ) → i ≢ k → 0 < times is i → 0 < times is k
+    → times (mine i) a + times (mine k) a ≤ times (flat_map mine is) a
 apart mine a i k [] ne h g = absurd (omega arith)
 apart mine a i k (x ∷ is) ne h g =
     elim (x == i) as (λ b. (x == i) ≡ b → times (mine i) a + times (mine k) a ≤ times (mine x ++ flat_map mine is) a) [
@@ -69,7 +71,8 @@ module _ (f : Form) (o : Table) (mine : ℕ → List ℕ) (a i k n : ℕ) (t : T
   used-one h = omega (arith, one_of mine a i (used_inodes f o n t) h, ap (λ xs. times xs a) (uses-flat f o mine n t))
 
   -- a tree uses a number at least as often as any two of its inodes do together
-  pub used-apart : i ≢ k → 0 < times (used_inodes f o n t) i → 0 < times (used_inodes f o n t) k → times (mine i) a + times (mine k) a ≤ times (tree_uses f o mine n t) a
+  pub used-apart : i ≢ k → 0 < times (used_inodes f o n t) i → 0 < times (used_inodes f o n t) k
+      → times (mine i) a + times (mine k) a ≤ times (tree_uses f o mine n t) a
   used-apart ne h g = omega (arith, apart mine a i k (used_inodes f o n t) ne h g, ap (λ xs. times xs a) (uses-flat f o mine n t))
 
 -- ---- what holds of each inode of a tree holds of all that it uses
@@ -81,21 +84,26 @@ either (suc a) b h = inl (omega arith)
 split : (xs ys : List ℕ) (k : ℕ) → 0 < times (xs ++ ys) k → (0 < times xs k) ⊎ (0 < times ys k)
 split xs ys k h = either (times xs k) (times ys k) (subst (λ x. 0 < x) (times-append xs ys k) h)
 
-module _ (f : Form) (lot : LotView) (o : Table) (mine : ℕ → List ℕ) (k : ℕ) (P : Type 0) (each : (i h : ℕ) → IsInode f lot (o i) i h → 0 < times (mine i) k → P) where
+module _ (f : Form) (lot : LotView) (o : Table) (mine : ℕ → List ℕ) (k : ℕ) (P : Type 0)
+    (each : (i h : ℕ) → IsInode f lot (o i) i h → 0 < times (mine i) k → P) where
   mutual
     used-all : (i h : ℕ) (t : Tree) → Reads f lot o i h t → 0 < times (tree_uses f o mine i t) k → P
     used-all i h (File bytes) r c = each i h r.0 c
-    used-all i h (Dir es) r c = ⊎_elim (λ q. each i h r.0 q) (λ q. entries-all (rows_in f (o i)) (h + 1) es r.2 q) (split (mine i) (entries_use f o mine (rows_in f (o i)) es) k c)
+    used-all i h (Dir es) r c =
+        ⊎_elim (λ q. each i h r.0 q) (λ q. entries-all (rows_in f (o i)) (h + 1) es r.2 q) (split (mine i) (entries_use f o mine (rows_in f (o i)) es) k c)
 
     entries-all : (rs : List DirRow) (h : ℕ) (es : Entries) → ReadsEach f lot o rs h es → 0 < times (entries_use f o mine rs es) k → P
     entries-all rs h Nil r c = absurd (omega arith)
     entries-all rs h (Entry d t es) r c =
-        ⊎_elim (λ q. used-all (inode_named d rs) h t r.0 q) (λ q. entries-all rs h es r.1 q) (split (tree_uses f o mine (inode_named d rs) t) (entries_use f o mine rs es) k c)
+        ⊎_elim (λ q. used-all (inode_named d rs) h t r.0 q) (λ q. entries-all rs h es r.1 q)
+        (split (tree_uses f o mine (inode_named d rs) t) (entries_use f o mine rs es) k c)
 
 module _ (f : Form) (lot : LotView) (o : Table) where
   -- every used inode can be one of the lot, at some depth
   pub Reads-inode : (k i h : ℕ) (t : Tree) → Reads f lot o i h t → 0 < times (used_inodes f o i t) k → (d : ℕ) × IsInode f lot (o k) k d
-  Reads-inode k i h t r c = used-all f lot o (λ i. i ∷ []) k ((d : ℕ) × IsInode f lot (o k) k d) (λ j d own q. (d, subst (λ x. IsInode f lot (o x) x d) (sym (alone j k q)) own)) i h t r c
+  Reads-inode k i h t r c =
+      used-all f lot o (λ i. i ∷ []) k ((d : ℕ) × IsInode f lot (o k) k d)
+      (λ j d own q. (d, subst (λ x. IsInode f lot (o x) x d) (sym (alone j k q)) own)) i h t r c
     where
       alone : (j k : ℕ) → 0 < times (j ∷ []) k → k ≡ j
       alone j k q =
@@ -110,7 +118,8 @@ module _ (f : Form) (lot : LotView) (o : Table) where
 
   -- each block that a tree uses is a data place
   pub Reads-data : (b i h : ℕ) (t : Tree) → Reads f lot o i h t → 0 < times (used_blocks f o i t) b → is_data lot b ≡ true
-  Reads-data b i h t r c = used-all f lot o (λ i. (o i).uses) b (is_data lot b ≡ true) (λ j d own q. own.places b (times-has (o j).uses b (omega (arith, q)))) i h t r c
+  Reads-data b i h t r c =
+      used-all f lot o (λ i. (o i).uses) b (is_data lot b ≡ true) (λ j d own q. own.places b (times-has (o j).uses b (omega (arith, q)))) i h t r c
 
   mutual
     -- the depth of an inode that stands for a tree leaves room for the tree's height

@@ -30,12 +30,14 @@ use Rattle.ice_reads.proofs.Unique.{Reads-unique}
 -- ---- one tree, one count, one mode
 
 -- a map of a lot's blocks recovers one tree at most, with one count and one mode
-pub recovers_one : (f : Form) (mode other : ℕ) (lot : LotView) (m : Map) (t u : Tree) (j k : ℕ) → MapRecovers f mode lot m t j → MapRecovers f other lot m u k → (t ≡ u) × (j ≡ k) × (mode ≡ other)
+pub recovers_one : (f : Form) (mode other : ℕ) (lot : LotView) (m : Map) (t u : Tree) (j k : ℕ) → MapRecovers f mode lot m t j
+    → MapRecovers f other lot m u k → (t ≡ u) × (j ≡ k) × (mode ≡ other)
 recovers_one f mode other lot m t u j k a b =
     (Reads-unique f lot (own f m) t 0 0 0 u a.holds.reads b.holds.reads, sym a.sub.done ∙ b.sub.done, sym a.sub.mode ∙ b.sub.mode)
 
 -- no rule is broken, so the last test passes too
-last_passes : (a b c d e : Bool) (v w x y z : Rule) → (if not a then Some v else if not b then Some w else if not c then Some x else if not d then Some y else if not e then Some z else None) ≡ None → e ≡ true
+last_passes : (a b c d e : Bool) (v w x y z : Rule)
+    → (if not a then Some v else if not b then Some w else if not c then Some x else if not d then Some y else if not e then Some z else None) ≡ None → e ≡ true
 last_passes true true true true true v w x y z h = refl
 last_passes true true true true false v w x y z h = absurd cc
 last_passes true true true false e v w x y z h = absurd cc
@@ -48,7 +50,8 @@ pub sub_small : (slot : ℕ) (bytes : List ℕ) → sub_rule slot bytes ≡ None
 unfolding sub_rule
 sub_small slot bytes h =
     let t : nat_lt (long_at bytes 16) (2 ^ 63) ≡ true =
-    last_passes (word_at bytes 0 == sub_magic) (word_at bytes 4 == 1) (slice_index bytes 8 == slot) (slice_index bytes 9 == 0) (nat_lt (long_at bytes 16) (2 ^ 63)) Magic Version Slot Mode Done h in
+    last_passes (word_at bytes 0 == sub_magic) (word_at bytes 4 == 1) (slice_index bytes 8 == slot) (slice_index bytes 9 == 0)
+    (nat_lt (long_at bytes 16) (2 ^ 63)) Magic Version Slot Mode Done h in
     grind (arith, nat_tests)
 
 -- the count with which a map recovers a tree is below 2 ^ 63
@@ -90,7 +93,8 @@ module _ (f : Form) (lot : LotView) (m n : Map) (t : Tree)
   used-rests : (inodes : Bool) (i : ℕ) → i < bits_of inodes * length lot.groups → used inodes n i ≡ used inodes m i
   used-rests inodes i h =
       used-bit inodes n i
-      ∙ ap (λ (block : List ℕ). bit_of block (bit_place inodes i)) (fixed (bitmap_of inodes i) (bitmap-inside inodes i (length lot.groups) h) (bitmap-place (i / bits_of inodes)))
+      ∙ ap (λ (block : List ℕ). bit_of block (bit_place inodes i))
+      (fixed (bitmap_of inodes i) (bitmap-inside inodes i (length lot.groups) h) (bitmap-place (i / bits_of inodes)))
       ∙ sym (used-bit inodes m i)
 
   counted-rests : (inodes : Bool) → counted inodes n ≡ counted inodes m
@@ -122,7 +126,8 @@ module _ (f : Form) (lot : LotView) (m n : Map) (t : Tree)
       inode_count = counted-rests true ∙ h.inode_count ∙ ap length (sym inodes-rest);
     }
 
--- the tree and the count are recovered from every map that says the same in the sub-super block, in the bitmaps and inodes, and in the blocks that the tree uses
+-- the tree and the count are recovered from every map that says the same in the sub-super block, in the bitmaps and inodes,
+-- and in the blocks that the tree uses
 pub recovers_rests : (f : Form) (mode : ℕ) (lot : LotView) (m n : Map) (t : Tree) (k : ℕ)
     → n sub_address ≡ m sub_address
     → ((a : ℕ) → a < 256 * length lot.groups → a % 256 < 9 → n a ≡ m a)

@@ -63,7 +63,8 @@ module _ (m n : Map) (x : Inode) (c : ℕ) where
     double-rests : nat_lt longest c ≡ true → n x.double ≡ m x.double
     double-rests t = in-doubles t x.double (has-head x.double (pointers m))
 
-    pointer-rests : nat_lt longest c ≡ true → (j : ℕ) → j < c → longest ≤ j → n (word_at (m x.double) (4 * ((j - longest) / 256))) ≡ m (word_at (m x.double) (4 * ((j - longest) / 256)))
+    pointer-rests : nat_lt longest c ≡ true → (j : ℕ) → j < c → longest ≤ j
+        → n (word_at (m x.double) (4 * ((j - longest) / 256))) ≡ m (word_at (m x.double) (4 * ((j - longest) / 256)))
     pointer-rests t j h past =
         let q = div-add-mod' (j - longest) 256 in
         let r = mod_below (j - longest) 256 (omega arith) in
@@ -75,9 +76,11 @@ module _ (m n : Map) (x : Inode) (c : ℕ) where
 
     block-rests : (j : ℕ) → j < c → nth_long n x j ≡ nth_long m x j
     block-rests j h =
-        elim (nat_lt j longest) as (λ b. nat_lt j longest ≡ b → (if b then nth_block n x j else word_at (n (word_at (n x.double) (4 * ((j - longest) / 256)))) (4 * ((j - longest) % 256)))
+        elim (nat_lt j longest) as (λ b. nat_lt j longest ≡ b
+        → (if b then nth_block n x j else word_at (n (word_at (n x.double) (4 * ((j - longest) / 256)))) (4 * ((j - longest) % 256)))
         ≡ (if b then nth_block m x j else word_at (m (word_at (m x.double) (4 * ((j - longest) / 256)))) (4 * ((j - longest) % 256)))) [
-          | true ↦ λ t. nth-moves m n x j (λ past. in-indirects x.single (has-left (indirect_of x c) (doubles m (nat_lt longest c)) x.single (single-used (omega arith))))
+          | true ↦ λ t.
+              nth-moves m n x j (λ past. in-indirects x.single (has-left (indirect_of x c) (doubles m (nat_lt longest c)) x.single (single-used (omega arith))))
           | false ↦ λ t.
               let past : longest ≤ j = grind (arith, nat_tests) in
               let long : nat_lt longest c ≡ true = grind (arith, nat_tests) in
@@ -100,14 +103,16 @@ module _ (m n : Map) (x : Inode) (c : ℕ) where
         each a zero e = refl
         each a (suc k) e =
             let here : n (nth_long n x a) ≡ m (nth_long m x a) =
-            ap n (block-rests a (omega arith)) ∙ keep (nth_long m x a) (has-right (indirects_long m x c) (long_blocks m) (nth_long m x a) (has-range (nth_long m x) 0 c a (omega arith) (omega arith))) in
+            ap n (block-rests a (omega arith)) ∙ keep (nth_long m x a)
+            (has-right (indirects_long m x c) (long_blocks m) (nth_long m x a) (has-range (nth_long m x) 0 c a (omega arith) (omega arith))) in
             λ i. here i ∷ each (a + 1) k (omega arith) i
 
         contents : map (λ j. n (nth_long n x j)) (range_with_len 0 c) ≡ map (λ j. m (nth_long m x j)) (range_with_len 0 c)
         contents = each 0 c (omega arith)
 
 -- what an inode of a cube of either form says
-pub own-rests : (f : Form) (m n : Map) (number : ℕ) → n (inode_address number) ≡ m (inode_address number) → Keep m n (own f m number).uses → own f n number ≡ own f m number
+pub own-rests : (f : Form) (m n : Map) (number : ℕ) → n (inode_address number) ≡ m (inode_address number) → Keep m n (own f m number).uses
+    → own f n number ≡ own f m number
 own-rests f m n number bytes keep =
     let same : inode_of n number ≡ inode_of m number = ap (λ (block : List ℕ). inode_at block (inode_index number)) bytes in
     elim (nat_eq f.version 2) as (λ b. Keep m n (said b m (inode_of m number)).uses → said b n (inode_of n number) ≡ said b m (inode_of m number)) [

@@ -50,12 +50,15 @@ module _ (rs ss : List DirRow) where
 
 module _ (f : Form) (lot : LotView) (o : Table) (rs : List DirRow) (h : ℕ) where
   -- rows that stand for entries, and for a tree at a name, stand for the entries with that tree put at the name
-  pub ReadsEach-put : (c : List ℕ) (v : Tree) (es : Entries) → ReadsEach f lot o rs h es → Reads f lot o (inode_named c rs) h v → ReadsEach f lot o rs h (from_rows (put by_bytes c v (rows es)))
+  pub ReadsEach-put : (c : List ℕ) (v : Tree) (es : Entries) → ReadsEach f lot o rs h es → Reads f lot o (inode_named c rs) h v
+      → ReadsEach f lot o rs h (from_rows (put by_bytes c v (rows es)))
   ReadsEach-put c v Nil r new = (new, tt)
   ReadsEach-put c v (Entry d t es) r new =
-      elim (by_bytes c d) as (λ x. by_bytes c d ≡ x → ReadsEach f lot o rs h (from_rows (by_order x ((c, v) ∷ (d, t) ∷ rows es) ((d, v) ∷ rows es) ((d, t) ∷ put by_bytes c v (rows es))))) [
+      elim (by_bytes c d) as (λ x. by_bytes c d ≡ x
+      → ReadsEach f lot o rs h (from_rows (by_order x ((c, v) ∷ (d, t) ∷ rows es) ((d, v) ∷ rows es) ((d, t) ∷ put by_bytes c v (rows es))))) [
         | Less ↦ λ e. (new, (r.0, subst (λ x. ReadsEach f lot o rs h x) (sym (from_rows-rows es)) r.1))
-        | Equal ↦ λ e. (subst (λ x. Reads f lot o (inode_named x rs) h v) (same_name c d (ap is_eq e)) new, subst (λ x. ReadsEach f lot o rs h x) (sym (from_rows-rows es)) r.1)
+        | Equal ↦ λ e.
+            (subst (λ x. Reads f lot o (inode_named x rs) h v) (same_name c d (ap is_eq e)) new, subst (λ x. ReadsEach f lot o rs h x) (sym (from_rows-rows es)) r.1)
         | Greater ↦ λ e. (r.0, ReadsEach-put c v es r.1 new)
       ] refl
 
@@ -67,16 +70,21 @@ module _ (f : Form) (lot : LotView) (o : Table) (rs : List DirRow) (h : ℕ) whe
         | false ↦ ReadsEach-filter keep es r.1
       ]
 
-module _ (f : Form) (o : Table) (mine : ℕ → List ℕ) (rs : List DirRow) (measure : List ℕ → ℕ) (adds : (xs ys : List ℕ) → measure (xs ++ ys) ≡ measure xs + measure ys) where
+module _ (f : Form) (o : Table) (mine : ℕ → List ℕ) (rs : List DirRow) (measure : List ℕ → ℕ)
+    (adds : (xs ys : List ℕ) → measure (xs ++ ys) ≡ measure xs + measure ys) where
   -- entries to which a new name was put use what they used, and what the tree of the name uses
-  pub uses_in-put : (c : List ℕ) (v : Tree) (es : Entries) → find by_bytes c (rows es) ≡ None → measure (entries_use f o mine rs (from_rows (put by_bytes c v (rows es)))) ≡ measure (tree_uses f o mine (inode_named c rs) v) + measure (entries_use f o mine rs es)
+  pub uses_in-put : (c : List ℕ) (v : Tree) (es : Entries) → find by_bytes c (rows es) ≡ None
+      → measure (entries_use f o mine rs (from_rows (put by_bytes c v (rows es)))) ≡ measure (tree_uses f o mine (inode_named c rs) v) + measure (entries_use f o mine rs es)
   uses_in-put c v Nil none = adds (tree_uses f o mine (inode_named c rs) v) []
   uses_in-put c v (Entry d t es) none =
-      elim (by_bytes c d) as (λ x. cond (is_eq x) (Some t) (find by_bytes c (rows es)) ≡ None → measure (entries_use f o mine rs (from_rows (by_order x ((c, v) ∷ (d, t) ∷ rows es) ((d, v) ∷ rows es) ((d, t) ∷ put by_bytes c v (rows es))))) ≡ measure (tree_uses f o mine (inode_named c rs) v) + measure (tree_uses f o mine (inode_named d rs) t ++ entries_use f o mine rs es)) [
+      elim (by_bytes c d) as (λ x. cond (is_eq x) (Some t) (find by_bytes c (rows es)) ≡ None
+      → measure (entries_use f o mine rs (from_rows (by_order x ((c, v) ∷ (d, t) ∷ rows es) ((d, v) ∷ rows es) ((d, t) ∷ put by_bytes c v (rows es))))) ≡ measure (tree_uses f o mine (inode_named c rs) v) + measure (tree_uses f o mine (inode_named d rs) t ++ entries_use f o mine rs es)) [
         | Less ↦ λ e. adds (tree_uses f o mine (inode_named c rs) v) (tree_uses f o mine (inode_named d rs) t ++ entries_use f o mine rs (from_rows (rows es)))
-            ∙ ap (λ x. measure (tree_uses f o mine (inode_named c rs) v) + measure (tree_uses f o mine (inode_named d rs) t ++ entries_use f o mine rs x)) (from_rows-rows es)
+            ∙ ap (λ x. measure (tree_uses f o mine (inode_named c rs) v) + measure
+            (tree_uses f o mine (inode_named d rs) t ++ entries_use f o mine rs x)) (from_rows-rows es)
         | Equal ↦ λ e. absurd (subst T (ap is_some e) tt)
-        | Greater ↦ λ e. omega (arith, adds (tree_uses f o mine (inode_named d rs) t) (entries_use f o mine rs (from_rows (put by_bytes c v (rows es)))), adds (tree_uses f o mine (inode_named d rs) t) (entries_use f o mine rs es), uses_in-put c v es e)
+        | Greater ↦ λ e.
+            omega (arith, adds (tree_uses f o mine (inode_named d rs) t) (entries_use f o mine rs (from_rows (put by_bytes c v (rows es)))), adds (tree_uses f o mine (inode_named d rs) t) (entries_use f o mine rs es), uses_in-put c v es e)
       ] none
 
 -- what the directory layer says of one more row
@@ -97,7 +105,8 @@ module _ (f : Form) (lot : LotView) (x y : Own) (i h : ℕ) (c : List ℕ) (j : 
   no_row : IsDirInode f lot x es → find by_bytes c (rows es) ≡ None → find by_bytes c (rows_in f x) ≡ None
   no_row d none = not_some (find by_bytes c (rows_in f x)) (sym (d.maps c) ∙ ap is_some none)
 
-  find_added : IsDirInode f lot x es → find by_bytes c (rows es) ≡ None → AddsRow f lot x y i h c j → (q : List ℕ) → find by_bytes q (rows_in f y) ≡ cond (eq_by_cmp by_bytes q c) (Some j) (find by_bytes q (rows_in f x))
+  find_added : IsDirInode f lot x es → find by_bytes c (rows es) ≡ None → AddsRow f lot x y i h c j → (q : List ℕ)
+      → find by_bytes q (rows_in f y) ≡ cond (eq_by_cmp by_bytes q c) (Some j) (find by_bytes q (rows_in f x))
   find_added d none a q = ap (find by_bytes q) a.added ∙ find-append by_bytes nat_list_cmp_total (rows_in f x) c j q (no_row d none)
 
   alike_some : (b : Bool) (r : Option Tree) (s : Option ℕ) → is_some r ≡ is_some s → is_some (cond b (Some v) r) ≡ is_some (cond b (Some j) s)
@@ -108,15 +117,22 @@ module _ (f : Form) (lot : LotView) (x y : Own) (i h : ℕ) (c : List ℕ) (j : 
   map_names [] = refl
   map_names (e ∷ rs) = ap (λ xs. e.0 ∷ xs) (map_names rs)
 
-  IsDirInode-put : IsNameOf f c → find by_bytes c (rows es) ≡ None → AddsRow f lot x y i h c j → IsDirInode f lot x es → IsDirInode f lot y (from_rows (put by_bytes c v (rows es)))
+  IsDirInode-put : IsNameOf f c → find by_bytes c (rows es) ≡ None → AddsRow f lot x y i h c j → IsDirInode f lot x es
+      → IsDirInode f lot y (from_rows (put by_bytes c v (rows es)))
   IsDirInode-put name none a d = record {
     is_dir = a.is_dir;
     within = a.within;
-    fit = subst (λ rs. All (λ (e : DirRow). IsNameOf f e.0) rs) (sym a.added) (All-append (λ (e : DirRow). IsNameOf f e.0) (rows_in f x) ((c, j) ∷ []) d.fit (All-cons (λ (e : DirRow). IsNameOf f e.0) (c, j) [] name (All-nil (λ (e : DirRow). IsNameOf f e.0))));
+    fit =
+        subst (λ rs. All (λ (e : DirRow). IsNameOf f e.0) rs) (sym a.added)
+        (All-append (λ (e : DirRow). IsNameOf f e.0) (rows_in f x) ((c, j) ∷ []) d.fit
+        (All-cons (λ (e : DirRow). IsNameOf f e.0) (c, j) [] name (All-nil (λ (e : DirRow). IsNameOf f e.0))));
     differ = subst (λ rs. IsDistinct (eq_by_cmp by_bytes) (map (λ e. e.0) rs)) (sym a.added)
         (subst (IsDistinct (eq_by_cmp by_bytes)) (sym (map_names (rows_in f x)))
-        (IsDistinct-push (eq_by_cmp_equiv nat_list_cmp_total) (map (λ e. e.0) (rows_in f x)) c d.differ (sym (is_some-find by_bytes c (rows_in f x)) ∙ ap is_some (no_row d none))));
-    sorted = subst (λ rs. T (is_sorted by_bytes rs)) (sym (rows-from_rows (put by_bytes c v (rows es)))) (is_sorted-put by_bytes nat_list_cmp_total c v (rows es) d.sorted);
+        (IsDistinct-push (eq_by_cmp_equiv nat_list_cmp_total) (map (λ e. e.0) (rows_in f x)) c d.differ
+        (sym (is_some-find by_bytes c (rows_in f x)) ∙ ap is_some (no_row d none))));
+    sorted =
+        subst (λ rs. T (is_sorted by_bytes rs)) (sym (rows-from_rows (put by_bytes c v (rows es))))
+        (is_sorted-put by_bytes nat_list_cmp_total c v (rows es) d.sorted);
     maps = λ q. ap (λ rs. is_some (find by_bytes q rs)) (rows-from_rows (put by_bytes c v (rows es)))
         ∙ ap is_some (find-put by_bytes nat_list_cmp_total q c v (rows es))
         ∙ alike_some (eq_by_cmp by_bytes q c) (find by_bytes q (rows es)) (find by_bytes q (rows_in f x)) (d.maps q)
@@ -124,7 +140,8 @@ module _ (f : Form) (lot : LotView) (x y : Own) (i h : ℕ) (c : List ℕ) (j : 
     count = length-with_new c v es none ∙ ap (λ k. k + 1) d.count ∙ sym a.more;
   }
 
-by_tie : (d c : List ℕ) (j : ℕ) (r : Option ℕ) (es : Entries) → find by_bytes c (rows es) ≡ None → is_some (find by_bytes d (rows es)) ≡ true → unwrap_or (cond (eq_by_cmp by_bytes d c) (Some j) r) 0 ≡ unwrap_or r 0
+by_tie : (d c : List ℕ) (j : ℕ) (r : Option ℕ) (es : Entries) → find by_bytes c (rows es) ≡ None
+    → is_some (find by_bytes d (rows es)) ≡ true → unwrap_or (cond (eq_by_cmp by_bytes d c) (Some j) r) 0 ≡ unwrap_or r 0
 by_tie d c j r es none some =
     elim (eq_by_cmp by_bytes d c) as (λ b. eq_by_cmp by_bytes d c ≡ b → unwrap_or (cond b (Some j) r) 0 ≡ unwrap_or r 0) [
       | true ↦ λ e. absurd (subst T (sym some ∙ ap (λ x. is_some (find by_bytes x (rows es))) (same_name d c e) ∙ ap is_some none) tt)
@@ -132,14 +149,20 @@ by_tie d c j r es none some =
     ] refl
 
 module _ (f : Form) (lot : LotView) (o p : Table) (i h : ℕ) (c : List ℕ) (j : ℕ) (v : Tree) (es : Entries) where
-  old_rows : IsDirInode f lot (o i) es → find by_bytes c (rows es) ≡ None → AddsRow f lot (o i) (p i) i h c j → SameRowsAt (rows_in f (o i)) (rows_in f (p i)) es
-  old_rows d none a = λ q some. ap (λ r. unwrap_or r 0) (find_added f lot (o i) (p i) i h c j v es d none a q) ∙ by_tie q c j (find by_bytes q (rows_in f (o i))) es none some
+  old_rows : IsDirInode f lot (o i) es → find by_bytes c (rows es) ≡ None → AddsRow f lot (o i) (p i) i h c j
+      → SameRowsAt (rows_in f (o i)) (rows_in f (p i)) es
+  old_rows d none a =
+      λ q some. ap (λ r. unwrap_or r 0) (find_added f lot (o i) (p i) i h c j v es d none a q) ∙ by_tie q c j (find by_bytes q (rows_in f (o i))) es none some
 
   new_row : IsDirInode f lot (o i) es → find by_bytes c (rows es) ≡ None → AddsRow f lot (o i) (p i) i h c j → inode_named c (rows_in f (p i)) ≡ j
-  new_row d none a = ap (λ r. unwrap_or r 0) (find_added f lot (o i) (p i) i h c j v es d none a c ∙ ap (λ r. cond (is_eq r) (Some j) (find by_bytes c (rows_in f (o i)))) (tied_itself nat_list_cmp_total c))
+  new_row d none a =
+      ap (λ r. unwrap_or r 0)
+      (find_added f lot (o i) (p i) i h c j v es d none a c
+      ∙ ap (λ r. cond (is_eq r) (Some j) (find by_bytes c (rows_in f (o i)))) (tied_itself nat_list_cmp_total c))
 
   -- a directory that gains a row for a tree stands for itself with that entry
-  pub Reads-gains : Reads f lot o i h (Dir es) → find by_bytes c (rows es) ≡ None → IsNameOf f c → AddsRow f lot (o i) (p i) i h c j → SameAt o p (inodes_in f o (rows_in f (o i)) es) → Reads f lot p j (h + 1) v
+  pub Reads-gains : Reads f lot o i h (Dir es) → find by_bytes c (rows es) ≡ None → IsNameOf f c → AddsRow f lot (o i) (p i) i h c j
+      → SameAt o p (inodes_in f o (rows_in f (o i)) es) → Reads f lot p j (h + 1) v
       → Reads f lot p i h (with_entry c v (Dir es))
   Reads-gains r none name a same new =
       let d : IsDirInode f lot (o i) es = r.1 in
@@ -147,11 +170,13 @@ module _ (f : Form) (lot : LotView) (o p : Table) (i h : ℕ) (c : List ℕ) (j 
         a.common r.0,
         IsDirInode-put f lot (o i) (p i) i h c j v es name none a d,
         ReadsEach-put f lot p (rows_in f (p i)) (h + 1) c v es
-            (ReadsEach-rows (rows_in f (o i)) (rows_in f (p i)) f lot p (h + 1) es (old_rows d none a) (ReadsEach-frame f lot o p (rows_in f (o i)) (h + 1) es same r.2))
+            (ReadsEach-rows (rows_in f (o i)) (rows_in f (p i)) f lot p (h + 1) es (old_rows d none a)
+            (ReadsEach-frame f lot o p (rows_in f (o i)) (h + 1) es same r.2))
             (subst (λ x. Reads f lot p x (h + 1) v) (sym here) new),
       )
 
-  pub uses-gains : (mine yours : ℕ → List ℕ) → ((k : ℕ) → p k ≡ o k → yours k ≡ mine k) → (measure : List ℕ → ℕ) → ((xs ys : List ℕ) → measure (xs ++ ys) ≡ measure xs + measure ys)
+  pub uses-gains : (mine yours : ℕ → List ℕ) → ((k : ℕ) → p k ≡ o k → yours k ≡ mine k) → (measure : List ℕ → ℕ)
+      → ((xs ys : List ℕ) → measure (xs ++ ys) ≡ measure xs + measure ys)
       → IsDirInode f lot (o i) es → find by_bytes c (rows es) ≡ None → AddsRow f lot (o i) (p i) i h c j → SameAt o p (inodes_in f o (rows_in f (o i)) es)
       → measure (tree_uses f p yours i (with_entry c v (Dir es))) + measure (mine i) ≡ measure (tree_uses f o mine i (Dir es)) + (measure (yours i) + measure (tree_uses f p yours j v))
   uses-gains mine yours like measure adds d none a same =
@@ -173,7 +198,8 @@ IsOnce is = (k : ℕ) → times is k ≤ 1
 pub record SameBut (o p : Table) (i : ℕ) (is : List ℕ) : Type 0 where
   pub at : (k : ℕ) → k ≢ i → 0 < times is k → p k ≡ o k
 
-module _ (f : Form) (o p : Table) (q : List (List ℕ)) (i : ℕ) (t : Tree) (es : Entries) (found : walk q t ≡ Found (Dir es)) (once : IsOnce (used_inodes f o i t)) (same : SameBut o p (inode_on f o i q) (used_inodes f o i t)) where
+module _ (f : Form) (o p : Table) (q : List (List ℕ)) (i : ℕ) (t : Tree) (es : Entries) (found : walk q t ≡ Found (Dir es))
+    (once : IsOnce (used_inodes f o i t)) (same : SameBut o p (inode_on f o i q) (used_inodes f o i t)) where
   abbrev here : ℕ
   here = inode_on f o i q
 
@@ -186,7 +212,8 @@ module _ (f : Form) (o p : Table) (q : List (List ℕ)) (i : ℕ) (t : Tree) (es
   pub in_dir : SameAt o p (inodes_in f o (rows_in f (o here)) es)
   in_dir = record {
     at = λ k h. same.at k
-        (λ e. absurd (omega (arith, once here, uses-part f o (λ i. i ∷ []) here q i t (Dir es) found, times-here here (inodes_in f o (rows_in f (o here)) es), ap (λ x. times (inodes_in f o (rows_in f (o here)) es) x) e)))
+        (λ e. absurd
+        (omega (arith, once here, uses-part f o (λ i. i ∷ []) here q i t (Dir es) found, times-here here (inodes_in f o (rows_in f (o here)) es), ap (λ x. times (inodes_in f o (rows_in f (o here)) es) x) e)))
         (omega (arith, uses-part f o (λ i. i ∷ []) k q i t (Dir es) found, times-there k here (inodes_in f o (rows_in f (o here)) es)));
   }
 
@@ -194,16 +221,21 @@ module _ (f : Form) (o p : Table) (q : List (List ℕ)) (i : ℕ) (t : Tree) (es
 module _ (f : Form) (lot : LotView) (o p : Table) (q : List (List ℕ)) (c : List ℕ) (j : ℕ) (v t : Tree) (es : Entries) where
   -- the root stands for the tree with the new entry
   pub Reads-with_entry : Reads f lot o 0 0 t → walk q t ≡ Found (Dir es) → find by_bytes c (rows es) ≡ None → IsNameOf f c → IsOnce (used_inodes f o 0 t)
-      → SameBut o p (inode_on f o 0 q) (used_inodes f o 0 t) → AddsRow f lot (o (inode_on f o 0 q)) (p (inode_on f o 0 q)) (inode_on f o 0 q) (length q) c j → Reads f lot p j (length q + 1) v
+      → SameBut o p (inode_on f o 0 q) (used_inodes f o 0 t)
+      → AddsRow f lot (o (inode_on f o 0 q)) (p (inode_on f o 0 q)) (inode_on f o 0 q) (length q) c j → Reads f lot p j (length q + 1) v
       → Reads f lot p 0 0 (at q (with_entry c v) t)
   Reads-with_entry r found none name once same a new =
       let level : 0 + length q ≡ length q = omega arith in
       Reads-at f lot o p q 0 0 (with_entry c v) t (Dir es) found r
-      (subst (λ x. Reads f lot p (inode_on f o 0 q) x (with_entry c v (Dir es))) (sym level) (Reads-gains f lot o p (inode_on f o 0 q) (length q) c j v es (subst (λ x. Reads f lot o (inode_on f o 0 q) x (Dir es)) level (Reads-part f lot o q 0 0 t (Dir es) found r)) none name a (in_dir f o p q 0 t es found once same) new))
+      (subst (λ x. Reads f lot p (inode_on f o 0 q) x (with_entry c v (Dir es))) (sym level)
+      (Reads-gains f lot o p (inode_on f o 0 q) (length q) c j v es
+      (subst (λ x. Reads f lot o (inode_on f o 0 q) x (Dir es)) level (Reads-part f lot o q 0 0 t (Dir es) found r)) none name a
+      (in_dir f o p q 0 t es found once same) new))
       (outside_dir f o p q 0 t es found once same)
 
   -- the tree uses more by what the new entry's tree uses, and more or less by what the directory's inode does
-  pub uses-with_entry : (mine yours : ℕ → List ℕ) → ((k : ℕ) → p k ≡ o k → yours k ≡ mine k) → (measure : List ℕ → ℕ) → ((xs ys : List ℕ) → measure (xs ++ ys) ≡ measure xs + measure ys)
+  pub uses-with_entry : (mine yours : ℕ → List ℕ) → ((k : ℕ) → p k ≡ o k → yours k ≡ mine k) → (measure : List ℕ → ℕ)
+      → ((xs ys : List ℕ) → measure (xs ++ ys) ≡ measure xs + measure ys)
       → Reads f lot o 0 0 t → walk q t ≡ Found (Dir es) → find by_bytes c (rows es) ≡ None → IsOnce (used_inodes f o 0 t)
       → SameBut o p (inode_on f o 0 q) (used_inodes f o 0 t) → AddsRow f lot (o (inode_on f o 0 q)) (p (inode_on f o 0 q)) (inode_on f o 0 q) (length q) c j
       → measure (tree_uses f p yours 0 (at q (with_entry c v) t)) + measure (mine (inode_on f o 0 q)) ≡ measure (tree_uses f o mine 0 t) + (measure (yours (inode_on f o 0 q)) + measure (tree_uses f p yours j v))
@@ -211,5 +243,6 @@ module _ (f : Form) (lot : LotView) (o p : Table) (q : List (List ℕ)) (c : Lis
       omega (
         arith,
         uses-at f o p mine yours like measure adds q 0 (with_entry c v) t (Dir es) found (outside_dir f o p q 0 t es found once same),
-        uses-gains f lot o p (inode_on f o 0 q) (length q) c j v es mine yours like measure adds (Reads-part f lot o q 0 0 t (Dir es) found r).1 none a (in_dir f o p q 0 t es found once same),
+        uses-gains f lot o p (inode_on f o 0 q) (length q) c j v es mine yours like measure adds
+            (Reads-part f lot o q 0 0 t (Dir es) found r).1 none a (in_dir f o p q 0 t es found once same),
       )

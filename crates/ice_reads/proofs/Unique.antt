@@ -32,10 +32,12 @@ module _ (f : Form) (lot : LotView) (o : Table) where
         same_option (find by_bytes q (rows es)) (find by_bytes q (rows fs)) (r.1.maps q ∙ sym (s.1.maps q))
         (λ v w a b. ReadsEach-unique es (rows_in f (o i)) (h + 1) (k + 1) q v w r.2 a (entry_reads f lot o (rows_in f (o i)) (k + 1) q fs w b s.2))))
 
-    ReadsEach-unique : (es : Entries) (rs : List DirRow) (h k : ℕ) (q : List ℕ) (v w : Tree) → ReadsEach f lot o rs h es → find by_bytes q (rows es) ≡ Some v → Reads f lot o (inode_named q rs) k w → v ≡ w
+    ReadsEach-unique : (es : Entries) (rs : List DirRow) (h k : ℕ) (q : List ℕ) (v w : Tree) → ReadsEach f lot o rs h es
+        → find by_bytes q (rows es) ≡ Some v → Reads f lot o (inode_named q rs) k w → v ≡ w
     ReadsEach-unique Nil rs h k q v w r is s = absurd (None≢Some v is)
     ReadsEach-unique (Entry c t es) rs h k q v w r is s =
         elim (eq_by_cmp by_bytes q c) as (λ b. eq_by_cmp by_bytes q c ≡ b → cond b (Some t) (find by_bytes q (rows es)) ≡ Some v → v ≡ w) [
-          | true ↦ λ e is. sym (same_Some _ _ is) ∙ Reads-unique t (inode_named c rs) h k w r.0 (subst (λ x. Reads f lot o (inode_named x rs) k w) (same_name q c e) s)
+          | true ↦ λ e is.
+              sym (same_Some _ _ is) ∙ Reads-unique t (inode_named c rs) h k w r.0 (subst (λ x. Reads f lot o (inode_named x rs) k w) (same_name q c e) s)
           | false ↦ λ e is. ReadsEach-unique es rs h k q v w r.1 is s
         ] refl is

@@ -34,7 +34,8 @@ length-double : (m : Map) (x : Inode) (c : ℕ)
     → length (if nat_lt longest c then x.double ∷ map (λ j. word_at (m x.double) (4 * j)) (range_with_len 0 (rounded_up (c - longest) 256)) else []) ≡ cond (nat_lt longest c) (1 + rounded_up (c - longest) 256) 0
 length-double m x c = by (nat_lt longest c)
   where
-    by : (b : Bool) → length (if b then x.double ∷ map (λ j. word_at (m x.double) (4 * j)) (range_with_len 0 (rounded_up (c - longest) 256)) else []) ≡ cond b (1 + rounded_up (c - longest) 256) 0
+    by : (b : Bool)
+        → length (if b then x.double ∷ map (λ j. word_at (m x.double) (4 * j)) (range_with_len 0 (rounded_up (c - longest) 256)) else []) ≡ cond b (1 + rounded_up (c - longest) 256) 0
     by true = omega (arith, length-map-range_with_len (λ j. word_at (m x.double) (4 * j)) 0 (rounded_up (c - longest) 256))
     by false = refl
 
@@ -46,7 +47,8 @@ length-long : (m : Map) (x : Inode) (c : ℕ) → length (own_long_of m x c).use
 length-long m x c =
     let a = length-append (indirects_long m x c) (map (nth_long m x) (range_with_len 0 c)) in
     let b = length-map-range_with_len (nth_long m x) 0 c in
-    let d = length-append (indirect_of x c) (if nat_lt longest c then x.double ∷ map (λ j. word_at (m x.double) (4 * j)) (range_with_len 0 (rounded_up (c - longest) 256)) else []) in
+    let d = length-append (indirect_of x c)
+    (if nat_lt longest c then x.double ∷ map (λ j. word_at (m x.double) (4 * j)) (range_with_len 0 (rounded_up (c - longest) 256)) else []) in
     let e = length-indirect x c in
     let f = length-double m x c in
     let g = cost-cases c (rounded_up (c - longest) 256) in
@@ -84,14 +86,17 @@ eight n =
 -- ---- trees
 
 -- where each file and each directory by itself uses what it costs, so does each tree
-module _ (f : Form) (lot : LotView) (o : Table) (file : (i : ℕ) (bytes : List ℕ) → IsFileInode f (o i) bytes → length (o i).uses ≡ map_cost (file_blocks (length bytes)))
+module _ (f : Form) (lot : LotView) (o : Table)
+    (file : (i : ℕ) (bytes : List ℕ) → IsFileInode f (o i) bytes → length (o i).uses ≡ map_cost (file_blocks (length bytes)))
     (dir : (i : ℕ) (es : Entries) → IsDirInode f lot (o i) es → length (o i).uses ≡ map_cost (dir_blocks f (length (rows es)))) where
   mutual
     used-tree : (i h : ℕ) (t : Tree) → Reads f lot o i h t → length (used_blocks f o i t) ≡ blocks f t
     used-tree i h (File bytes) r = file i bytes r.1
-    used-tree i h (Dir es) r = omega (arith, dir i es r.1, length-append (o i).uses (entries_use f o (λ i. (o i).uses) (rows_in f (o i)) es), used-each (rows_in f (o i)) (h + 1) es r.2)
+    used-tree i h (Dir es) r =
+        omega (arith, dir i es r.1, length-append (o i).uses (entries_use f o (λ i. (o i).uses) (rows_in f (o i)) es), used-each (rows_in f (o i)) (h + 1) es r.2)
 
-    used-each : (rs : List DirRow) (h : ℕ) (es : Entries) → ReadsEach f lot o rs h es → length (entries_use f o (λ i. (o i).uses) rs es) ≡ total_in (λ bytes. map_cost (file_blocks (length bytes))) (λ entries. map_cost (dir_blocks f entries)) es
+    used-each : (rs : List DirRow) (h : ℕ) (es : Entries) → ReadsEach f lot o rs h es
+        → length (entries_use f o (λ i. (o i).uses) rs es) ≡ total_in (λ bytes. map_cost (file_blocks (length bytes))) (λ entries. map_cost (dir_blocks f entries)) es
     used-each rs h Nil r = refl
     used-each rs h (Entry c t es) r =
         omega (arith, length-append (used_blocks f o (inode_named c rs) t) (entries_use f o (λ i. (o i).uses) rs es), used-tree (inode_named c rs) h t r.0, used-each rs h es r.1)
@@ -101,28 +106,36 @@ module _ (lot : LotView) (m : Map) where
   file-one i bytes r =
       let size = sym (length-bytes (own form_one m i)) ∙ ap length r.bytes_are in
       let long = map-file form_one (inode_of m i) r.is_file in
-      let short : map_length form_one (inode_of m i) ≤ 268 = let d = div-add-mod' ((inode_of m i).size + 1024 - 1) 1024 in let w : (inode_of m i).size ≤ 274432 = r.within in omega arith in
-      length-uses m (inode_of m i) (map_length form_one (inode_of m i)) ∙ cost-short (map_length form_one (inode_of m i)) short ∙ ap map_cost (long ∙ ap file_blocks size)
+      let short : map_length form_one (inode_of m i) ≤ 268 = let d = div-add-mod' ((inode_of m i).size + 1024 - 1) 1024 in
+      let w : (inode_of m i).size ≤ 274432 = r.within in omega arith in
+      length-uses m (inode_of m i) (map_length form_one (inode_of m i)) ∙ cost-short (map_length form_one (inode_of m i)) short
+      ∙ ap map_cost (long ∙ ap file_blocks size)
 
-  dir-one : length lot.groups ≤ 64 → (i : ℕ) (es : Entries) → IsDirInode form_one lot (own form_one m i) es → length (own form_one m i).uses ≡ map_cost (dir_blocks form_one (length (rows es)))
+  dir-one : length lot.groups ≤ 64 → (i : ℕ) (es : Entries) → IsDirInode form_one lot (own form_one m i) es
+      → length (own form_one m i).uses ≡ map_cost (dir_blocks form_one (length (rows es)))
   dir-one few i es r =
       let long : map_length form_one (inode_of m i) ≡ blocks_for (64 * (inode_of m i).size) = map-dir form_one (inode_of m i) r.is_dir in
-      let short : map_length form_one (inode_of m i) ≤ 268 = let d = div-add-mod' (64 * (inode_of m i).size + 1023) 1024 in let w : (inode_of m i).size < 64 * length lot.groups = r.within in omega arith in
-      length-uses m (inode_of m i) (map_length form_one (inode_of m i)) ∙ cost-short (map_length form_one (inode_of m i)) short ∙ ap map_cost (long ∙ sixteen (inode_of m i).size ∙ ap (dir_blocks form_one) (sym r.count))
+      let short : map_length form_one (inode_of m i) ≤ 268 = let d = div-add-mod' (64 * (inode_of m i).size + 1023) 1024 in
+      let w : (inode_of m i).size < 64 * length lot.groups = r.within in omega arith in
+      length-uses m (inode_of m i) (map_length form_one (inode_of m i)) ∙ cost-short (map_length form_one (inode_of m i)) short
+      ∙ ap map_cost (long ∙ sixteen (inode_of m i).size ∙ ap (dir_blocks form_one) (sym r.count))
 
   file-two : (i : ℕ) (bytes : List ℕ) → IsFileInode form_two (own form_two m i) bytes → length (own form_two m i).uses ≡ map_cost (file_blocks (length bytes))
   file-two i bytes r =
       length-long m (inode_of m i) (map_length form_two (inode_of m i))
       ∙ ap map_cost (map-file form_two (inode_of m i) r.is_file ∙ ap file_blocks (sym (length-bytes (own form_two m i)) ∙ ap length r.bytes_are))
 
-  dir-two : (i : ℕ) (es : Entries) → IsDirInode form_two lot (own form_two m i) es → length (own form_two m i).uses ≡ map_cost (dir_blocks form_two (length (rows es)))
+  dir-two : (i : ℕ) (es : Entries) → IsDirInode form_two lot (own form_two m i) es
+      → length (own form_two m i).uses ≡ map_cost (dir_blocks form_two (length (rows es)))
   dir-two i es r =
       length-long m (inode_of m i) (map_length form_two (inode_of m i))
       ∙ ap map_cost (map-dir form_two (inode_of m i) r.is_dir ∙ eight (inode_of m i).size ∙ ap (dir_blocks form_two) (sym r.count))
 
 -- in the form of a version a tree uses as many blocks as it costs
-pub cost_is_used : (f : Form) (lot : LotView) (m : Map) (i h : ℕ) (t : Tree) → f ≡ form_of f.version → length lot.groups ≤ 64 → Reads f lot (own f m) i h t → length (used_blocks f (own f m) i t) ≡ blocks f t
-cost_is_used f lot m i h t is few = subst (λ g. Reads g lot (own g m) i h t → length (used_blocks g (own g m) i t) ≡ blocks g t) (sym is) (by (nat_eq f.version 2))
+pub cost_is_used : (f : Form) (lot : LotView) (m : Map) (i h : ℕ) (t : Tree) → f ≡ form_of f.version → length lot.groups ≤ 64
+    → Reads f lot (own f m) i h t → length (used_blocks f (own f m) i t) ≡ blocks f t
+cost_is_used f lot m i h t is few =
+    subst (λ g. Reads g lot (own g m) i h t → length (used_blocks g (own g m) i t) ≡ blocks g t) (sym is) (by (nat_eq f.version 2))
   where
     by : (b : Bool) → Reads (if b then form_two else form_one) lot (own (if b then form_two else form_one) m) i h t
         → length (used_blocks (if b then form_two else form_one) (own (if b then form_two else form_one) m) i t) ≡ blocks (if b then form_two else form_one) t

@@ -17,14 +17,16 @@ use Rattle.ice_recover.specs.Reads.{ReadsAs}
 
 pub rest_kept : (lot : LotView) (map : ℕ → List ℕ) (s t : DiskState) → Kept (extent lot) s t → Sure (RestsLot lot) (LotAtRest lot map) s
     → Sure (RestsLot lot) (LotAtRest lot map) t
-rest_kept lot map s t kept sure = sure_kept (RestsLot lot) (LotAtRest lot map) s t (rest_rests lot map) (kept_fewer (extent lot) (RestsLot lot) s t (rests_lot lot) kept) sure
+rest_kept lot map s t kept sure =
+    sure_kept (RestsLot lot) (LotAtRest lot map) s t (rest_rests lot map) (kept_fewer (extent lot) (RestsLot lot) s t (rests_lot lot) kept) sure
 
 -- what the journal reads as rests on its gate and its header
 reads_rests : (lot : LotView) (view : List ℕ) → RestsOn (extent lot) (ReadsAs lot view)
 unfolding targets_now
 reads_rests lot view i j same reads =
     let gate : is_open (block j (gate_place lot)) ≡ is_open (block i (gate_place lot)) = ap is_open (same (gate_place lot) (gate_in lot)) in
-    let header : slot_targets lot (block j (header_place lot)) ≡ slot_targets lot (block i (header_place lot)) = ap (slot_targets lot) (same (header_place lot) (header_in lot)) in
+    let header : slot_targets lot (block j (header_place lot)) ≡ slot_targets lot (block i (header_place lot)) = ap (slot_targets lot)
+    (same (header_place lot) (header_in lot)) in
     rw (gate, header) reads
 
 pub reads_kept : (lot : LotView) (view : List ℕ) (s t : DiskState) → Kept (extent lot) s t → Sure (extent lot) (ReadsAs lot view) s
@@ -33,12 +35,14 @@ reads_kept lot view s t kept sure = sure_kept (extent lot) (ReadsAs lot view) s 
 
 journal_kept : (lot : LotView) (P : Image → Type 0) (s t : DiskState) → Kept (extent lot) s t → Every (JournalExtent (lot_places lot) 240) s P
     → Every (JournalExtent (lot_places lot) 240) t P
-journal_kept lot P s t kept every = every_kept (JournalExtent (lot_places lot) 240) P s t (kept_fewer (extent lot) (JournalExtent (lot_places lot) 240) s t (lot_extent lot) kept) every
+journal_kept lot P s t kept every =
+    every_kept (JournalExtent (lot_places lot) 240) P s t (kept_fewer (extent lot) (JournalExtent (lot_places lot) 240) s t (lot_extent lot) kept) every
 
 pub either_kept : (lot : LotView) (entries : List Entry) (map : ℕ → List ℕ) (s t : DiskState) → Kept (extent lot) s t
     → Every (JournalExtent (lot_places lot) 240) s (BlocksEither lot entries map) → Every (JournalExtent (lot_places lot) 240) t (BlocksEither lot entries map)
 either_kept lot entries map s t kept every = journal_kept lot (BlocksEither lot entries map) s t kept every
 
 pub blocks_kept : (lot : LotView) (map : ℕ → List ℕ) (s t : DiskState) → Kept (extent lot) s t
-    → Every (JournalExtent (lot_places lot) 240) s (λ i. effective_of lot i ≡ Some map) → Every (JournalExtent (lot_places lot) 240) t (λ i. effective_of lot i ≡ Some map)
+    → Every (JournalExtent (lot_places lot) 240) s (λ i. effective_of lot i ≡ Some map)
+    → Every (JournalExtent (lot_places lot) 240) t (λ i. effective_of lot i ≡ Some map)
 blocks_kept lot map s t kept every = journal_kept lot (λ i. effective_of lot i ≡ Some map) s t kept every

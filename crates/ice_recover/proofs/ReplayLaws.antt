@@ -24,7 +24,8 @@ stands-blocks : (lot : LotView) (map : ℕ → List ℕ) (i : Image) → inside 
     → effective_of lot i ≡ Some map
 stands-blocks lot map i is stands = lot_effective lot map i stands ∙ ap (λ (m : ℕ → List ℕ). Some m) is
 
-module _ {D : Type 0} (state : D → DiskState) (left : D → ℕ → Image → List ℕ → Type 0) (lot : LotView) (ts : List ℕ) (some : are_some ts ≡ true) (a b : D) (sure : Sure (extent lot) (ReadsAs lot ts) (state a)) where
+module _ {D : Type 0} (state : D → DiskState) (left : D → ℕ → Image → List ℕ → Type 0) (lot : LotView) (ts : List ℕ)
+    (some : are_some ts ≡ true) (a b : D) (sure : Sure (extent lot) (ReadsAs lot ts) (state a)) where
   pub was_pending : IsPending (slot_targets lot) (lot_places lot) ts (state a).now
   was_pending = some_pending lot ts (state a).now sure.now some
 
@@ -42,11 +43,14 @@ module _ {D : Type 0} (state : D → DiskState) (left : D → ℕ → Image → 
   was_standing = effective_stands lot (shown ts lot (state a).now) (state a).now was_blocks
 
   same-blocks : (i : Image) → StandsFor (slot_targets lot) (lot_places lot) (shown ts lot (state a).now) i → effective_of lot i ≡ effective_of lot (state a).now
-  same-blocks i stands = stands-blocks lot (shown ts lot (state a).now) i (effective_inside lot (shown ts lot (state a).now) (state a).now was_blocks) stands ∙ sym was_blocks
+  same-blocks i stands =
+      stands-blocks lot (shown ts lot (state a).now) i (effective_inside lot (shown ts lot (state a).now) (state a).now was_blocks) stands ∙ sym was_blocks
 
   pub blocks_stay : CrashStep state left (JournalExtent (lot_places lot) 240) (StandsFor (slot_targets lot) (lot_places lot) (shown ts lot (state a).now)) a b
       → CrashStep state left (JournalExtent (lot_places lot) 240) (λ i. effective_of lot i ≡ effective_of lot (state a).now) a b
-  blocks_stay step = step_more state left (JournalExtent (lot_places lot) 240) (StandsFor (slot_targets lot) (lot_places lot) (shown ts lot (state a).now)) (λ i. effective_of lot i ≡ effective_of lot (state a).now) a b
+  blocks_stay step =
+      step_more state left (JournalExtent (lot_places lot) 240)
+      (StandsFor (slot_targets lot) (lot_places lot) (shown ts lot (state a).now)) (λ i. effective_of lot i ≡ effective_of lot (state a).now) a b
       same-blocks step
 
   -- at rest with them

@@ -57,7 +57,8 @@ fresh = blocks (sub 0 1) (bits 1 1) (node 2 0 0) []
 
 -- the root with the entries of block 9, which lead to these inodes
 abbrev rooted : ℕ → ℕ → ℕ → ℕ → List ℕ → List ℕ → Map
-rooted used nodes marks size inodes rows = blocks (sub used nodes) (bits marks (if nodes == 1 then 1 else if nodes == 2 then 3 else 7)) (node 2 size 9 ++ inodes) rows
+rooted used nodes marks size inodes rows =
+    blocks (sub used nodes) (bits marks (if nodes == 1 then 1 else if nodes == 2 then 3 else 7)) (node 2 size 9 ++ inodes) rows
 
 -- ---- lots that hold a tree
 
@@ -182,8 +183,11 @@ marks levels = map (λ i. if nat_lt (8 * i + 7) levels then 255 else if nat_lt l
 abbrev nested : ℕ → Map
 nested levels a =
     if a == sub_address then sub levels (levels + 1)
-    else if a == 0 then 255 ∷ map (λ i. if nat_lt (8 * i + 7) (levels + 1) then 255 else if nat_lt (levels + 1) (8 * i) then 0 else 2 ^ (levels + 1 - 8 * i) - 1) (range_with_len 0 31) ++ marks levels
-    else if nat_lt a 9 then flat_map (λ i. if i == levels then node 2 0 0 else if nat_lt i levels then node 2 1 (9 + i) else []) (range_with_len (8 * (a - 1)) 8)
+    else if a == 0 then 255 ∷ map
+    (λ i. if nat_lt (8 * i + 7) (levels + 1) then 255 else if nat_lt (levels + 1) (8 * i) then 0 else 2 ^ (levels + 1 - 8 * i) - 1)
+    (range_with_len 0 31) ++ marks levels
+    else if nat_lt a 9 then flat_map (λ i. if i == levels then node 2 0 0 else if nat_lt i levels then node 2 1 (9 + i) else [])
+    (range_with_len (8 * (a - 1)) 8)
     else entry (a - 8) 97
 
 names_24_deep : named lot (nested 24) ≡ []

@@ -54,7 +54,8 @@ groups_some token n h = by (number_of token) refl h
 cube_path_short : (token : List ℕ) (path : List (List ℕ)) → cube_path_in token ≡ Some path → length (text_of path) ≤ 199
 cube_path_short token path h = by (path_in token) h
   where
-    other : (b : Bool) (p : List (List ℕ)) → nat_lt longest_cube_path (length (text_of p)) ≡ b → (if b then None else Some p) ≡ Some path → length (text_of path) ≤ 199
+    other : (b : Bool) (p : List (List ℕ)) → nat_lt longest_cube_path (length (text_of p)) ≡ b → (if b then None else Some p) ≡ Some path
+        → length (text_of path) ≤ 199
     other true p e i = cc
     other false p e i =
         let same : p ≡ path = cc in
@@ -112,7 +113,8 @@ abbrev AllFree : Option (List (List ℕ) → Request) → Type 0
 AllFree None = ⊤
 AllFree (Some request) = Free request
 
-if_free : (b : Bool) (request : List (List ℕ) → Request) (other : Option (List (List ℕ) → Request)) → Free request → AllFree other → AllFree (if b then Some request else other)
+if_free : (b : Bool) (request : List (List ℕ) → Request) (other : Option (List (List ℕ) → Request)) → Free request → AllFree other
+    → AllFree (if b then Some request else other)
 if_free true request other p q = p
 if_free false request other p q = q
 

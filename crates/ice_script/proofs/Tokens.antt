@@ -33,7 +33,8 @@ le_trans a b = omega arith
 pub tokens_none : (text : List ℕ) → position is_blank text ≡ None → tokens text ≡ text ∷ []
 unfolding tokens
 tokens_none text h = slice_split_none is_blank text
-    (λ k d lt. unnot (is_blank (get_or text k d)) (prefix_len_passes (λ b. not (is_blank b)) text k d (le_trans lt (nowhere (position_or_len is_blank text) (length text) h))))
+    (λ k d lt. unnot (is_blank (get_or text k d))
+    (prefix_len_passes (λ b. not (is_blank b)) text k d (le_trans lt (nowhere (position_or_len is_blank text) (length text) h))))
 
 -- the first blank ends the first token
 pub tokens_at : (text : List ℕ) (i : ℕ) → position is_blank text ≡ Some i → tokens text ≡ take i text ∷ tokens (drop (i + 1) text)

@@ -71,7 +71,8 @@ pub(crate) fn all_tokens<'a>(rest: Option<&'a [u8]>) -> Option<(&'a [u8], &'a [u
     }
 }
 
-/// The value of a number token: `0`, or one to ten decimal digits with a first digit other than 0. None exactly where it is none, or its value is above 4,294,967,295.
+/// The value of a number token: `0`, or one to ten decimal digits with a first digit other than 0.
+/// None exactly where it is none, or its value is above 4,294,967,295.
 pub fn read_number(token: &[u8]) -> Option<u32>
     ensures { result ≡ number_of token.now }
 {

@@ -28,7 +28,8 @@ use Rattle.ice_steps.proofs.Stays.{stays_walk}
 use Rattle.ice_steps.proofs.Takes.{took_inode, gave_inode, took_stays}
 
 -- a new inode was taken and put, and a row for it added
-module _ (mode : ℕ) (lot : LotView) (m0 m1 m2 m3 : Map) (t : Tree) (k : ℕ) (q : List (List ℕ)) (c : List ℕ) (j : ℕ) (es : Entries) (inode : Inode) (few : length lot.groups ≤ 64)
+module _ (mode : ℕ) (lot : LotView) (m0 m1 m2 m3 : Map) (t : Tree) (k : ℕ) (q : List (List ℕ)) (c : List ℕ) (j : ℕ) (es : Entries)
+    (inode : Inode) (few : length lot.groups ≤ 64)
     (r : MapRecovers form_one mode lot m0 t k) (took : TookInode m0 m1 j) (small : j < 64 * length lot.groups) (taken : OnlyAt (sub_address ∷ bitmap_of true j ∷ []) m0 m1)
     (put : InodeSet m1 m2 j inode) (there : OnlyAt (inode_address j ∷ []) m1 m2) (found : walk q t ≡ Found (Dir es)) (free : find by_bytes c (rows es) ≡ None) (name : IsNameOf form_one c) (deep : length q + 1 ≤ deepest)
     (set : DirSet lot form_one m2 m3 (inode_on form_one (own form_one m0) 0 q) (dir_rows_of form_one m2 (inode_on form_one (own form_one m0) 0 q) ++ (c, j) ∷ [])) where
@@ -51,14 +52,16 @@ module _ (mode : ℕ) (lot : LotView) (m0 m1 m2 m3 : Map) (t : Tree) (k : ℕ) (
   dir_made fresh =
       let f : IsFresh 2 (inode_of m2 j) = subst (IsFresh 2) (sym put.value) fresh in
       beside_recovers form_one mode lot m3 (at q (with_entry c (Dir Nil)) t) k
-      (gains_row mode lot m2 m3 t k q c j (Dir Nil) es (dir_beside mode lot m2 t k j b2 f) found free name (fresh_dir lot m2 j (length q + 1) deep small f) here-set)
+      (gains_row mode lot m2 m3 t k q c j (Dir Nil) es (dir_beside mode lot m2 t k j b2 f) found free name
+      (fresh_dir lot m2 j (length q + 1) deep small f) here-set)
 
   -- where the inode is a fresh file's, the map recovers the tree with an empty file at the name
   pub file_made : IsFresh 1 inode → MapRecovers form_one mode lot m3 (at q (with_entry c (File [])) t) k
   file_made fresh =
       let f : IsFresh 1 (inode_of m2 j) = subst (IsFresh 1) (sym put.value) fresh in
       beside_recovers form_one mode lot m3 (at q (with_entry c (File [])) t) k
-      (gains_row mode lot m2 m3 t k q c j (File []) es (file_beside mode lot m2 t k j b2 f) found free name (fresh_file lot m2 j (length q + 1) deep small f) here-set)
+      (gains_row mode lot m2 m3 t k q c j (File []) es (file_beside mode lot m2 t k j b2 f) found free name
+      (fresh_file lot m2 j (length q + 1) deep small f) here-set)
 
 -- a row was taken away
 module _ (mode : ℕ) (lot : LotView) (m0 m1 : Map) (t : Tree) (k : ℕ) (q : List (List ℕ)) (c : List ℕ) (v : Tree) (es : Entries) (few : length lot.groups ≤ 64)
@@ -68,8 +71,10 @@ module _ (mode : ℕ) (lot : LotView) (m0 m1 : Map) (t : Tree) (k : ℕ) (q : Li
   gone = inode_named c (dir_rows_of form_one m0 (inode_on form_one (own form_one m0) 0 q))
 
   -- and added to a directory of what is left
-  pub row_moved : (m2 : Map) (to : List (List ℕ)) (d : List ℕ) (fs : Entries) → walk to (at q (without_entry c) t) ≡ Found (Dir fs) → find by_bytes d (rows fs) ≡ None → IsNameOf form_one d → length to + 1 + height v ≤ deepest
-      → DirSet lot form_one m1 m2 (inode_on form_one (own form_one m0) 0 to) (dir_rows_of form_one m1 (inode_on form_one (own form_one m0) 0 to) ++ (d, gone) ∷ []) → MapRecovers form_one mode lot m2 (at to (with_entry d v) (at q (without_entry c) t)) k
+  pub row_moved : (m2 : Map) (to : List (List ℕ)) (d : List ℕ) (fs : Entries) → walk to (at q (without_entry c) t) ≡ Found (Dir fs)
+      → find by_bytes d (rows fs) ≡ None → IsNameOf form_one d → length to + 1 + height v ≤ deepest
+      → DirSet lot form_one m1 m2 (inode_on form_one (own form_one m0) 0 to) (dir_rows_of form_one m1 (inode_on form_one (own form_one m0) 0 to) ++ (d, gone) ∷ [])
+      → MapRecovers form_one mode lot m2 (at to (with_entry d v) (at q (without_entry c) t)) k
   row_moved m2 to d fs there free name fits put =
       let l = loses_row mode lot m0 m1 t k q c v es r found is set in
       let place = walk_left mode lot m0 m1 t k q c v es r found is set to (Dir fs) there in
@@ -80,20 +85,26 @@ module _ (mode : ℕ) (lot : LotView) (m0 m1 : Map) (t : Tree) (k : ℕ) (q : Li
 
   -- what it named stands loose
   abbrev Gone : Tree → Type 0
-  Gone u = Beside form_one mode lot m1 (at q (without_entry c) t) k (used_blocks form_one (own form_one m1) gone u) (used_inodes form_one (own form_one m1) gone u) × Reads form_one lot (own form_one m1) gone (length q + 1) u
+  Gone u =
+      Beside form_one mode lot m1 (at q (without_entry c) t) k (used_blocks form_one (own form_one m1) gone u)
+      (used_inodes form_one (own form_one m1) gone u) × Reads form_one lot (own form_one m1) gone (length q + 1) u
 
   left : (u : Tree) → v ≡ u → Gone u
   left u e = subst Gone e (loses_row mode lot m0 m1 t k q c v es r found is set)
 
   -- and is given back: an empty directory, or a file that was cut to nothing
-  pub dir_removed : (m2 : Map) → v ≡ Dir Nil → GaveInode m1 m2 gone → OnlyAt (sub_address ∷ bitmap_of true gone ∷ []) m1 m2 → MapRecovers form_one mode lot m2 (at q (without_entry c) t) k
+  pub dir_removed : (m2 : Map) → v ≡ Dir Nil → GaveInode m1 m2 gone → OnlyAt (sub_address ∷ bitmap_of true gone ∷ []) m1 m2
+      → MapRecovers form_one mode lot m2 (at q (without_entry c) t) k
   dir_removed m2 e gave given =
       let l = left (Dir Nil) e in
       beside_recovers form_one mode lot m2 (at q (without_entry c) t) k
-      (gave_inode mode lot m1 m2 (at q (without_entry c) t) k gone few (loose_empty mode lot m1 (at q (without_entry c) t) k gone (length q + 1) (gone ∷ []) l.0 l.1) gave given)
+      (gave_inode mode lot m1 m2 (at q (without_entry c) t) k gone few
+      (loose_empty mode lot m1 (at q (without_entry c) t) k gone (length q + 1) (gone ∷ []) l.0 l.1) gave given)
 
-  pub file_removed : (m2 m3 : Map) (bytes : List ℕ) → v ≡ File bytes → FileSet lot form_one m1 m2 gone [] → GaveInode m2 m3 gone → OnlyAt (sub_address ∷ bitmap_of true gone ∷ []) m2 m3 → MapRecovers form_one mode lot m3 (at q (without_entry c) t) k
+  pub file_removed : (m2 m3 : Map) (bytes : List ℕ) → v ≡ File bytes → FileSet lot form_one m1 m2 gone [] → GaveInode m2 m3 gone
+      → OnlyAt (sub_address ∷ bitmap_of true gone ∷ []) m2 m3 → MapRecovers form_one mode lot m3 (at q (without_entry c) t) k
   file_removed m2 m3 bytes e cut gave given =
       let l = left (File bytes) e in
       beside_recovers form_one mode lot m3 (at q (without_entry c) t) k
-      (gave_inode mode lot m2 m3 (at q (without_entry c) t) k gone few (loose_cut mode lot m1 m2 (at q (without_entry c) t) k gone (length q + 1) bytes l.0 l.1 cut) gave given)
+      (gave_inode mode lot m2 m3 (at q (without_entry c) t) k gone few
+      (loose_cut mode lot m1 m2 (at q (without_entry c) t) k gone (length q + 1) bytes l.0 l.1 cut) gave given)

@@ -38,13 +38,15 @@ dir-few n h = let e = dir-sixteenth form_one n refl in let d = div-add-mod' (n +
 
 -- the blocks of a map are what the tree's map costs
 pub file_cost : (n : ℕ) → n ≤ 274432 → uses_of (blocks_for n) ≡ map_cost (file_blocks n)
-file_cost n h = uses-cost (blocks_for n) (file-few n h) ∙ ap map_cost (let e : (n + 1023) / 1024 ≡ (n + 1024 - 1) / 1024 = ap (λ x. x / 1024) (omega arith) in e)
+file_cost n h =
+    uses-cost (blocks_for n) (file-few n h) ∙ ap map_cost (let e : (n + 1023) / 1024 ≡ (n + 1024 - 1) / 1024 = ap (λ x. x / 1024) (omega arith) in e)
 
 -- the map of a directory of at most 4,096 entries uses as many blocks as the tree's costs say
 pub dir_cost : (n : ℕ) → n ≤ 4096 → uses_of (entry_blocks form_one n) ≡ map_cost (tree.dir_blocks form_one n)
 dir_cost n h =
     let f = dir-few n h in
-    uses-cost (entry_blocks form_one n) (omega arith) ∙ ap map_cost (dir-sixteenth form_one n refl ∙ (let e : (n + 15) / 16 ≡ (n + 16 - 1) / 16 = ap (λ x. x / 16) (omega arith) in e))
+    uses-cost (entry_blocks form_one n) (omega arith)
+    ∙ ap map_cost (dir-sixteenth form_one n refl ∙ (let e : (n + 15) / 16 ≡ (n + 16 - 1) / 16 = ap (λ x. x / 16) (omega arith) in e))
 
 module _ (mode : ℕ) (lot : LotView) (m : Map) (t : Tree) (k : ℕ) (few : length lot.groups ≤ 64) where
   module _ (xs is : List ℕ) (b : Beside form_one mode lot m t k xs is) where
@@ -90,7 +92,8 @@ module _ (mode : ℕ) (lot : LotView) (m : Map) (t : Tree) (k : ℕ) (few : leng
             omega arith
 
         -- with a write that ends at byte 274,432 at most the count of used blocks stays below 2 ^ 32
-        pub write_counts : (end : ℕ) → end ≤ 274432 → ¬ (2 ^ 32 + uses_of (blocks_for (inode_of m here).size) ≤ counted false m + uses_of (blocks_with (inode_of m here).size end))
+        pub write_counts : (end : ℕ) → end ≤ 274432
+            → ¬ (2 ^ 32 + uses_of (blocks_for (inode_of m here).size) ≤ counted false m + uses_of (blocks_with (inode_of m here).size end))
         write_counts end l h =
             let c = (beside_counts mode lot m t k xs is b).0 in
             let s = (beside_file mode lot m t k xs is b q bytes found).within in
@@ -99,14 +102,16 @@ module _ (mode : ℕ) (lot : LotView) (m : Map) (t : Tree) (k : ℕ) (few : leng
             omega arith
 
         -- there is room for them where the next tree meets the quota
-        pub write_fits : (now : List ℕ) (end : ℕ) → length now ≡ max (length bytes) end → end ≤ 274432 → blocks form_one (at q (λ s. File now) t) + length xs ≤ block_quota (length lot.groups)
+        pub write_fits : (now : List ℕ) (end : ℕ) → length now ≡ max (length bytes) end → end ≤ 274432
+            → blocks form_one (at q (λ s. File now) t) + length xs ≤ block_quota (length lot.groups)
             → ¬ (free_count false lot m + uses_of (blocks_for (inode_of m here).size) < uses_of (blocks_with (inode_of m here).size end))
         write_fits now end long l fits h =
             let d = beside_file mode lot m t k xs is b q bytes found in
             let s = d.size in
             let w = d.within in
             let free = beside_free_blocks mode lot m t k xs is b few in
-            let moved = total-at (λ bytes. map_cost (file_blocks (length bytes))) (λ entries. map_cost (tree.dir_blocks form_one entries)) q (λ s. File now) t (File bytes) found in
+            let moved = total-at (λ bytes. map_cost (file_blocks (length bytes)))
+            (λ entries. map_cost (tree.dir_blocks form_one entries)) q (λ s. File now) t (File bytes) found in
             let old = file_cost (inode_of m here).size w in
             let new = file_cost (max (inode_of m here).size end) (omega arith) in
             let x = ap (λ n. map_cost (file_blocks n)) s in
@@ -115,7 +120,8 @@ module _ (mode : ℕ) (lot : LotView) (m : Map) (t : Tree) (k : ℕ) (few : leng
             omega arith
 
   -- a loose file can be given back
-  module _ (j h : ℕ) (v : Tree) (is : List ℕ) (b : Beside form_one mode lot m t k (used_blocks form_one (own form_one m) j v) is) (r : Reads form_one lot (own form_one m) j h v) where
+  module _ (j h : ℕ) (v : Tree) (is : List ℕ) (b : Beside form_one mode lot m t k (used_blocks form_one (own form_one m) j v) is)
+      (r : Reads form_one lot (own form_one m) j h v) where
     -- the count of used blocks is not below what the loose file gives back
     pub loose_counts : (inode_of m j).kind ≡ 1 → ¬ (counted false m < uses_of (blocks_for (inode_of m j).size))
     loose_counts kind l =
@@ -124,7 +130,8 @@ module _ (mode : ℕ) (lot : LotView) (m : Map) (t : Tree) (k : ℕ) (few : leng
         omega arith
 
     -- there is room for a row that names the loose tree where the next tree meets the quota
-    pub add_fits : (q : List (List ℕ)) (c : List ℕ) (es : Entries) → walk q t ≡ Found (Dir es) → find by_bytes c (rows es) ≡ None → blocks form_one (at q (with_entry c v) t) ≤ block_quota (length lot.groups)
+    pub add_fits : (q : List (List ℕ)) (c : List ℕ) (es : Entries) → walk q t ≡ Found (Dir es) → find by_bytes c (rows es) ≡ None
+        → blocks form_one (at q (with_entry c v) t) ≤ block_quota (length lot.groups)
         → ¬ (free_count false lot m + uses_of (entry_blocks form_one (inode_of m (inode_on form_one (own form_one m) 0 q)).size) < uses_of (entry_blocks form_one ((inode_of m (inode_on form_one (own form_one m) 0 q)).size + 1)))
     add_fits q c es found none fits l =
         let d = beside_dir mode lot m t k (used_blocks form_one (own form_one m) j v) is b q es found in
@@ -132,7 +139,8 @@ module _ (mode : ℕ) (lot : LotView) (m : Map) (t : Tree) (k : ℕ) (few : leng
         let w = d.is.few in
         let free = beside_free_blocks mode lot m t k (used_blocks form_one (own form_one m) j v) is b few in
         let long = length-blocks lot few m j h v r in
-        let moved = total-with_at (λ bytes. map_cost (file_blocks (length bytes))) (λ entries. map_cost (tree.dir_blocks form_one entries)) q c v t es found none in
+        let moved = total-with_at (λ bytes. map_cost (file_blocks (length bytes)))
+        (λ entries. map_cost (tree.dir_blocks form_one entries)) q c v t es found none in
         let old = dir_cost (inode_of m (inode_on form_one (own form_one m) 0 q)).size (omega arith) in
         let new = dir_cost ((inode_of m (inode_on form_one (own form_one m) 0 q)).size + 1) (omega arith) in
         let x = ap (λ n. map_cost (tree.dir_blocks form_one n)) s in

@@ -57,7 +57,8 @@ rest-marks p x xs a h =
     ] refl
 
 -- the marked numbers below a bound are as many as the list is long
-pub count-times : (p : ℕ → Bool) (n : ℕ) (xs : List ℕ) → ((a : ℕ) → has xs a ≡ true → a < n) → ((a : ℕ) → a < n → times xs a ≡ mark (p a)) → count_below p n ≡ length xs
+pub count-times : (p : ℕ → Bool) (n : ℕ) (xs : List ℕ) → ((a : ℕ) → has xs a ≡ true → a < n) → ((a : ℕ) → a < n → times xs a ≡ mark (p a))
+    → count_below p n ≡ length xs
 count-times p n [] small marks = count_none p n (λ a h. mark-clear (p a) (sym (marks a h)))
 count-times p n (x ∷ xs) small marks =
     let low : x < n = small x (has-head x xs) in
@@ -73,7 +74,8 @@ count-all p n all =
     omega arith
 
 -- one group: nine reserved places, and the others
-count-group : (p q : ℕ → Bool) → ((j : ℕ) → j < 9 → p j ≡ true) → ((j : ℕ) → j < 9 → q j ≡ false) → ((j : ℕ) → 9 ≤ j → j < 256 → p j ≡ q j) → count_below p 256 ≡ count_below q 256 + 9
+count-group : (p q : ℕ → Bool) → ((j : ℕ) → j < 9 → p j ≡ true) → ((j : ℕ) → j < 9 → q j ≡ false) → ((j : ℕ) → 9 ≤ j → j < 256 → p j ≡ q j)
+    → count_below p 256 ≡ count_below q 256 + 9
 count-group p q set clear same =
     let a : count_below p 256 ≡ count_below p 9 + count_below (λ k. p (9 + k)) 247 = count_below-more p 9 247 in
     let b : count_below q 256 ≡ count_below q 9 + count_below (λ k. q (9 + k)) 247 = count_below-more q 9 247 in
@@ -91,5 +93,6 @@ count-groups p q (suc n) set clear same =
     let e : 256 * suc n ≡ 256 * n + 256 = omega arith in
     let a = ap (count_below p) e ∙ count_below-more p (256 * n) 256 in
     let b = ap (count_below q) e ∙ count_below-more q (256 * n) 256 in
-    let g = count-group (λ j. p (256 * n + j)) (λ j. q (256 * n + j)) (λ j l. set n j (omega arith) l) (λ j l. clear n j (omega arith) l) (λ j l k. same n j (omega arith) l k) in
+    let g = count-group (λ j. p (256 * n + j)) (λ j. q (256 * n + j)) (λ j l. set n j (omega arith) l) (λ j l. clear n j (omega arith) l)
+    (λ j l k. same n j (omega arith) l k) in
     omega arith

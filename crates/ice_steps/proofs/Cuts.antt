@@ -19,7 +19,8 @@ use Rattle.ice_steps.proofs.Fresh.{fresh-uses, no-map}
 use Rattle.ice_steps.proofs.Others.{Loose, loose-tree, all, all-apart, beside_but}
 use Rattle.ice_steps.proofs.Sets.{beside-set}
 
-module _ (mode : ℕ) (lot : LotView) (m m' : Map) (t : Tree) (k j h : ℕ) (bytes : List ℕ) (b : Beside form_one mode lot m t k (used_blocks form_one (own form_one m) j (File bytes)) (j ∷ []))
+module _ (mode : ℕ) (lot : LotView) (m m' : Map) (t : Tree) (k j h : ℕ) (bytes : List ℕ)
+    (b : Beside form_one mode lot m t k (used_blocks form_one (own form_one m) j (File bytes)) (j ∷ []))
     (r : Reads form_one lot (own form_one m) j h (File bytes)) (set : FileSet lot form_one m m' j []) where
   abbrev blocks : List ℕ
   blocks = used_blocks form_one (own form_one m) j (File bytes)
@@ -33,7 +34,8 @@ module _ (mode : ℕ) (lot : LotView) (m m' : Map) (t : Tree) (k j h : ℕ) (byt
   pub cut_stays : SameAt (own form_one m) (own form_one m') (used_inodes form_one (own form_one m) 0 t)
   cut_stays = record {
     at = λ x l. (beside_but mode lot m t k blocks (j ∷ []) b loose m' j set.set in-all).at x
-        (λ e. let o = all-apart mode lot m t k blocks (j ∷ []) b x in let n = ap (λ y. times (y ∷ []) x) (sym e) in let s = times-same x x [] refl in absurd (omega arith))
+        (λ e. let o = all-apart mode lot m t k blocks (j ∷ []) b x in let n = ap (λ y. times (y ∷ []) x) (sym e) in
+        let s = times-same x x [] refl in absurd (omega arith))
         (let e = times-append (used_inodes form_one (own form_one m) 0 t) (j ∷ []) x in omega arith);
   }
 
@@ -46,7 +48,9 @@ module _ (mode : ℕ) (lot : LotView) (m m' : Map) (t : Tree) (k j h : ℕ) (byt
   loose_cut = beside-set mode lot m m' t t k blocks [] (j ∷ []) (j ∷ []) j b loose in-all set.set
       b.dir (Reads-frame form_one lot (own form_one m) (own form_one m') 0 0 t cut_stays b.reads)
       (λ measure sums.
-      let e = ap measure (uses-frame form_one (own form_one m) (own form_one m') (λ i. (own form_one m i).uses) (λ i. (own form_one m' i).uses) (λ x e. ap (λ o. o.uses) e) 0 t cut_stays) in
+      let e = ap measure
+      (uses-frame form_one (own form_one m) (own form_one m') (λ i. (own form_one m i).uses) (λ i. (own form_one m' i).uses)
+      (λ x e. ap (λ o. o.uses) e) 0 t cut_stays) in
       let c = sums (used_blocks form_one (own form_one m') 0 t) [] in
       let d = sums (used_blocks form_one (own form_one m) 0 t) blocks in
       let n = ap measure none in
@@ -60,9 +64,12 @@ module _ (mode : ℕ) (lot : LotView) (m m' : Map) (t : Tree) (k j h : ℕ) (byt
       b.others_small
 
 -- an empty directory that stands loose uses no block
-pub empty_uses : (lot : LotView) (m : Map) (j h : ℕ) → Reads form_one lot (own form_one m) j h (Dir Nil) → used_blocks form_one (own form_one m) j (Dir Nil) ≡ []
+pub empty_uses : (lot : LotView) (m : Map) (j h : ℕ) → Reads form_one lot (own form_one m) j h (Dir Nil)
+    → used_blocks form_one (own form_one m) j (Dir Nil) ≡ []
 empty_uses lot m j h r = ap (λ us. us ++ []) (fresh-uses m j (no-map (inode_of m j) (sym r.1.count)))
 
 -- so an empty directory that stands loose has no block beside the tree
-pub loose_empty : (mode : ℕ) (lot : LotView) (m : Map) (t : Tree) (k j h : ℕ) (is : List ℕ) → Beside form_one mode lot m t k (used_blocks form_one (own form_one m) j (Dir Nil)) is → Reads form_one lot (own form_one m) j h (Dir Nil) → Beside form_one mode lot m t k [] is
+pub loose_empty : (mode : ℕ) (lot : LotView) (m : Map) (t : Tree) (k j h : ℕ) (is : List ℕ)
+    → Beside form_one mode lot m t k (used_blocks form_one (own form_one m) j (Dir Nil)) is
+    → Reads form_one lot (own form_one m) j h (Dir Nil) → Beside form_one mode lot m t k [] is
 loose_empty mode lot m t k j h is b r = subst (λ us. Beside form_one mode lot m t k us is) (empty_uses lot m j h r) b

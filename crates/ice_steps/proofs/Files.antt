@@ -27,10 +27,12 @@ set-size lot m m' p now set =
     let l = length-map-range_with_len (byte_of m' (inode_of m' p)) 0 (inode_of m' p).size in
     sym l ∙ ap (λ (xs : List ℕ). length xs) (sym (all_bytes form_one refl m' p set.kind) ∙ set.bytes)
 
-set-file : (lot : LotView) (m m' : Map) (p : ℕ) (now : List ℕ) → FileSet lot form_one m m' p now → length now ≤ 274432 → IsFileInode form_one (own form_one m' p) now
+set-file : (lot : LotView) (m m' : Map) (p : ℕ) (now : List ℕ) → FileSet lot form_one m m' p now → length now ≤ 274432
+    → IsFileInode form_one (own form_one m' p) now
 set-file lot m m' p now set short = record { is_file = set.kind; within = (let e = set-size lot m m' p now set in omega arith); bytes_are = set.bytes }
 
-module _ (mode : ℕ) (lot : LotView) (m m' : Map) (t : Tree) (k : ℕ) (q : List (List ℕ)) (bytes now : List ℕ) (b : Beside form_one mode lot m t k [] []) (found : walk q t ≡ Found (File bytes))
+module _ (mode : ℕ) (lot : LotView) (m m' : Map) (t : Tree) (k : ℕ) (q : List (List ℕ)) (bytes now : List ℕ)
+    (b : Beside form_one mode lot m t k [] []) (found : walk q t ≡ Found (File bytes))
     (set : FileSet lot form_one m m' (inode_on form_one (own form_one m) 0 q) now) (short : length now ≤ 274432) where
   abbrev here : ℕ
   here = inode_on form_one (own form_one m) 0 q
@@ -85,7 +87,9 @@ module _ (mode : ℕ) (lot : LotView) (m m' : Map) (t : Tree) (k : ℕ) (q : Lis
       b.more_data b.others_small
 
 -- a file of the tree was set
-pub file_set : (mode : ℕ) (lot : LotView) (m m' : Map) (t : Tree) (k : ℕ) (q : List (List ℕ)) (bytes now : List ℕ) → MapRecovers form_one mode lot m t k → walk q t ≡ Found (File bytes)
+pub file_set : (mode : ℕ) (lot : LotView) (m m' : Map) (t : Tree) (k : ℕ) (q : List (List ℕ)) (bytes now : List ℕ)
+    → MapRecovers form_one mode lot m t k → walk q t ≡ Found (File bytes)
     → FileSet lot form_one m m' (inode_on form_one (own form_one m) 0 q) now → length now ≤ 274432 → MapRecovers form_one mode lot m' (at q (λ s. File now) t) k
 file_set mode lot m m' t k q bytes now r found set short =
-    beside_recovers form_one mode lot m' (at q (λ s. File now) t) k (file-beside mode lot m m' t k q bytes now (recovers_beside form_one mode lot m t k r) found set short)
+    beside_recovers form_one mode lot m' (at q (λ s. File now) t) k
+    (file-beside mode lot m m' t k q bytes now (recovers_beside form_one mode lot m t k r) found set short)

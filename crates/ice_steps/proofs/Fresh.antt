@@ -64,7 +64,8 @@ no-map x e = ap blocks_for (none (x.kind == 2) x.size e)
 pub fresh-uses : (m : Map) (j : ℕ) → map_length form_one (inode_of m j) ≡ 0 → (own form_one m j).uses ≡ []
 fresh-uses m j e = ap (uses m (inode_of m j)) e
 
-fresh-inode : (lot : LotView) (m : Map) (j h kind : ℕ) → h ≤ deepest → j < 64 * length lot.groups → IsFresh kind (inode_of m j) → IsInode form_one lot (own form_one m j) j h
+fresh-inode : (lot : LotView) (m : Map) (j h kind : ℕ) → h ≤ deepest → j < 64 * length lot.groups → IsFresh kind (inode_of m j)
+    → IsInode form_one lot (own form_one m j) j h
 fresh-inode lot m j h kind deep small f =
     let z = no-map (inode_of m j) f.none in
     record {
@@ -86,7 +87,8 @@ module _ (lot : LotView) (m : Map) (j h : ℕ) (deep : h ≤ deepest) (small : j
   -- a fresh inode of a directory stands for the empty directory
   pub fresh_dir : IsFresh 2 (inode_of m j) → Reads form_one lot (own form_one m) j h (Dir Nil)
   fresh_dir f =
-      let none : rows_in form_one (own form_one m j) ≡ [] = empty (rows_in form_one (own form_one m j)) (length-rows_in form_one (own form_one m j) ∙ f.none) in (
+      let none : rows_in form_one (own form_one m j) ≡ [] = empty (rows_in form_one (own form_one m j))
+      (length-rows_in form_one (own form_one m j) ∙ f.none) in (
         fresh-inode lot m j h 2 deep small f,
         record {
           is_dir = f.is;
@@ -134,15 +136,20 @@ fresh_made lot m j kind f =
     }
 
 -- an inode that stands loose is put: those of the tree say what they said
-pub put_stays : (mode : ℕ) (lot : LotView) (m m' : Map) (t : Tree) (k : ℕ) (xs : List ℕ) (j : ℕ) (inode : Inode) → Beside form_one mode lot m t k xs (j ∷ []) → InodeSet m m' j inode → OnlyAt (inode_address j ∷ []) m m' → SameAt (own form_one m) (own form_one m') (used_inodes form_one (own form_one m) 0 t)
+pub put_stays : (mode : ℕ) (lot : LotView) (m m' : Map) (t : Tree) (k : ℕ) (xs : List ℕ) (j : ℕ) (inode : Inode)
+    → Beside form_one mode lot m t k xs (j ∷ []) → InodeSet m m' j inode → OnlyAt (inode_address j ∷ []) m m'
+    → SameAt (own form_one m) (own form_one m') (used_inodes form_one (own form_one m) 0 t)
 put_stays mode lot m m' t k xs j inode b set at = record {
   at = λ x h. put-own lot m m' j x (only-one (inode_address j) m m' at)
-      (set.others x (λ e. let o = all-apart mode lot m t k xs (j ∷ []) b x in let n = ap (λ y. times (y ∷ []) x) (sym e) in let s = times-same x x [] refl in absurd (omega arith)))
+      (set.others x
+      (λ e. let o = all-apart mode lot m t k xs (j ∷ []) b x in let n = ap (λ y. times (y ∷ []) x) (sym e) in
+      let s = times-same x x [] refl in absurd (omega arith)))
       (used-places lot m 0 0 t b.reads x h);
 }
 
 -- an inode that stands loose and is put stands loose afterwards
-pub put_loose : (mode : ℕ) (lot : LotView) (m m' : Map) (t : Tree) (k j : ℕ) (inode : Inode) → Beside form_one mode lot m t k [] (j ∷ []) → InodeSet m m' j inode → OnlyAt (inode_address j ∷ []) m m' → Beside form_one mode lot m' t k [] (j ∷ [])
+pub put_loose : (mode : ℕ) (lot : LotView) (m m' : Map) (t : Tree) (k j : ℕ) (inode : Inode) → Beside form_one mode lot m t k [] (j ∷ [])
+    → InodeSet m m' j inode → OnlyAt (inode_address j ∷ []) m m' → Beside form_one mode lot m' t k [] (j ∷ [])
 put_loose mode lot m m' t k j inode b set at =
     let only = only-one (inode_address j) m m' at in
     let sub : m' sub_address ≡ m sub_address = only sub_address (λ e. inode_not_sub j (sym e)) in
@@ -161,9 +168,13 @@ put_loose mode lot m m' t k j inode b set at =
     })
 
 -- what stands beside the tree is then a tree of its own
-pub dir_beside : (mode : ℕ) (lot : LotView) (m : Map) (t : Tree) (k j : ℕ) → Beside form_one mode lot m t k [] (j ∷ []) → IsFresh 2 (inode_of m j) → Beside form_one mode lot m t k (used_blocks form_one (own form_one m) j (Dir Nil)) (used_inodes form_one (own form_one m) j (Dir Nil))
+pub dir_beside : (mode : ℕ) (lot : LotView) (m : Map) (t : Tree) (k j : ℕ) → Beside form_one mode lot m t k [] (j ∷ [])
+    → IsFresh 2 (inode_of m j)
+    → Beside form_one mode lot m t k (used_blocks form_one (own form_one m) j (Dir Nil)) (used_inodes form_one (own form_one m) j (Dir Nil))
 dir_beside mode lot m t k j b f = subst (λ us. Beside form_one mode lot m t k us (j ∷ [])) (sym (fresh_dir_blocks m j f)) b
 
 -- a loose inode that is a fresh file's stands beside the tree as the empty file
-pub file_beside : (mode : ℕ) (lot : LotView) (m : Map) (t : Tree) (k j : ℕ) → Beside form_one mode lot m t k [] (j ∷ []) → IsFresh 1 (inode_of m j) → Beside form_one mode lot m t k (used_blocks form_one (own form_one m) j (File [])) (used_inodes form_one (own form_one m) j (File []))
+pub file_beside : (mode : ℕ) (lot : LotView) (m : Map) (t : Tree) (k j : ℕ) → Beside form_one mode lot m t k [] (j ∷ [])
+    → IsFresh 1 (inode_of m j)
+    → Beside form_one mode lot m t k (used_blocks form_one (own form_one m) j (File [])) (used_inodes form_one (own form_one m) j (File []))
 file_beside mode lot m t k j b f = subst (λ us. Beside form_one mode lot m t k us (j ∷ [])) (sym (fresh_file_blocks m j f)) b

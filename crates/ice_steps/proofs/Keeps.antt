@@ -17,7 +17,8 @@ use Rattle.tree_spec.specs.Costs.{form_one}
 use Rattle.ice_steps.specs.Beside.{OnlyAt}
 
 -- an inode that is as it was, and whose blocks are
-pub own-kept : (m m' : Map) (x : ℕ) → inode_of m' x ≡ inode_of m x → ((b : ℕ) → has (own form_one m x).uses b ≡ true → m' b ≡ m b) → own form_one m' x ≡ own form_one m x
+pub own-kept : (m m' : Map) (x : ℕ) → inode_of m' x ≡ inode_of m x → ((b : ℕ) → has (own form_one m x).uses b ≡ true → m' b ≡ m b)
+    → own form_one m' x ≡ own form_one m x
 own-kept m m' x e same = ap (λ (z : Inode). own_of m' z (map_length form_one z)) e ∙ own-stays m m' (inode_of m x) (map_length form_one (inode_of m x)) same
 
 -- an address that is none of two
@@ -60,5 +61,6 @@ module _ (lot : LotView) (few : length lot.groups ≤ 64) (m m' : Map) (only : (
       (λ b h. only b (λ e. data_not_sub lot b few (places b h) (sym e)))
 
 -- the block of an inode changed, but not this inode
-pub put-own : (lot : LotView) (m m' : Map) (j x : ℕ) → ((a : ℕ) → a ≢ inode_address j → m' a ≡ m a) → inode_of m' x ≡ inode_of m x → ((b : ℕ) → has (own form_one m x).uses b ≡ true → is_data lot b ≡ true) → own form_one m' x ≡ own form_one m x
+pub put-own : (lot : LotView) (m m' : Map) (j x : ℕ) → ((a : ℕ) → a ≢ inode_address j → m' a ≡ m a) → inode_of m' x ≡ inode_of m x
+    → ((b : ℕ) → has (own form_one m x).uses b ≡ true → is_data lot b ≡ true) → own form_one m' x ≡ own form_one m x
 put-own lot m m' j x only e places = own-kept m m' x e (λ b h. only b (λ q. inode_not_data lot j b (places b h) (sym q)))

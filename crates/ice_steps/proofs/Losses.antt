@@ -34,34 +34,40 @@ some_value None e = absurd (subst T (sym e) tt)
 some_value (Some j) e = refl
 
 -- a walk of what is left comes to the inode to which it came
-module _ (f : Form) (lot : LotView) (o p : Table) (here : ℕ) (c : List ℕ) (others : (d : List ℕ) → find by_bytes d (rows_in f (p here)) ≡ cond (eq_by_cmp by_bytes c d) None (find by_bytes d (rows_in f (o here)))) where
+module _ (f : Form) (lot : LotView) (o p : Table) (here : ℕ) (c : List ℕ)
+    (others : (d : List ℕ) → find by_bytes d (rows_in f (p here)) ≡ cond (eq_by_cmp by_bytes c d) None (find by_bytes d (rows_in f (o here)))) where
   not_gone : (b : Bool) (x : Option ℕ) → is_some (cond b None x) ≡ true → cond b None x ≡ x
   not_gone true x e = absurd (subst T (sym e) tt)
   not_gone false x e = refl
 
-  same_next : (i : ℕ) (d : List ℕ) (es : Entries) (w : Tree) → (i ≢ here → p i ≡ o i) → find by_bytes d (rows es) ≡ Some w → IsDirInode f lot (p i) es → inode_named d (rows_in f (p i)) ≡ inode_named d (rows_in f (o i))
+  same_next : (i : ℕ) (d : List ℕ) (es : Entries) (w : Tree) → (i ≢ here → p i ≡ o i) → find by_bytes d (rows es) ≡ Some w
+      → IsDirInode f lot (p i) es → inode_named d (rows_in f (p i)) ≡ inode_named d (rows_in f (o i))
   same_next i d es w same e r =
       elim (i == here) as (λ t. (i == here) ≡ t → inode_named d (rows_in f (p i)) ≡ inode_named d (rows_in f (o i))) [
         | true ↦ λ t.
             let at : i ≡ here = grind (arith, nat_tests) in
-            let some : is_some (find by_bytes d (rows_in f (p here))) ≡ true = ap (λ x. is_some (find by_bytes d (rows_in f (p x)))) (sym at) ∙ sym (r.maps d) ∙ ap is_some e in
+            let some : is_some (find by_bytes d (rows_in f (p here))) ≡ true = ap (λ x. is_some (find by_bytes d (rows_in f (p x))))
+            (sym at) ∙ sym (r.maps d) ∙ ap is_some e in
             ap (λ x. inode_named d (rows_in f (p x))) at
             ∙ ap (λ x. unwrap_or x 0) (others d ∙ not_gone (eq_by_cmp by_bytes c d) (find by_bytes d (rows_in f (o here))) (ap is_some (sym (others d)) ∙ some))
             ∙ ap (λ x. inode_named d (rows_in f (o x))) (sym at)
         | false ↦ λ t. ap (λ x. inode_named d (rows_in f x)) (same (grind (arith, nat_tests)))
       ] refl
 
-  same_walk : (to : List (List ℕ)) (i h : ℕ) (s u : Tree) → walk to s ≡ Found u → Reads f lot p i h s → ((x : ℕ) → x ≢ here → 0 < times (used_inodes f p i s) x → p x ≡ o x) → inode_on f p i to ≡ inode_on f o i to
+  same_walk : (to : List (List ℕ)) (i h : ℕ) (s u : Tree) → walk to s ≡ Found u → Reads f lot p i h s
+      → ((x : ℕ) → x ≢ here → 0 < times (used_inodes f p i s) x → p x ≡ o x) → inode_on f p i to ≡ inode_on f o i to
   same_walk [] i h s u e r same = refl
   same_walk (d ∷ to) i h (File bytes) u e r same = absurd (Found≢NotDir _ (sym e))
   same_walk (d ∷ to) i h (Dir es) u e r same =
-      elim (find by_bytes d (rows es)) as (λ x. find by_bytes d (rows es) ≡ x → and_on (found_or_not x) (λ w. walk to w) ≡ Found u → inode_on f p i (d ∷ to) ≡ inode_on f o i (d ∷ to)) [
+      elim (find by_bytes d (rows es)) as (λ x. find by_bytes d (rows es) ≡ x → and_on (found_or_not x) (λ w. walk to w) ≡ Found u
+      → inode_on f p i (d ∷ to) ≡ inode_on f o i (d ∷ to)) [
         | None ↦ λ a is. absurd (Found≢NotFound _ (sym is))
         | Some w ↦ λ a is.
             let next = same_next i d es w (λ ne. same i ne (inode-first f p i (Dir es))) a r.1 in
             let below = entry_reads f lot p (rows_in f (p i)) (h + 1) d es w a r.2 in
             same_walk to (inode_named d (rows_in f (p i))) (h + 1) w u is below (λ x ne l. same x ne
-            (let g = uses-entry f p (λ i. i ∷ []) x (rows_in f (p i)) d es w a in let n = times-there x i (entries_use f p (λ i. i ∷ []) (rows_in f (p i)) es) in omega arith))
+            (let g = uses-entry f p (λ i. i ∷ []) x (rows_in f (p i)) d es w a in
+            let n = times-there x i (entries_use f p (λ i. i ∷ []) (rows_in f (p i)) es) in omega arith))
             ∙ ap (λ x. inode_on f o x to) next
       ] refl e
 
@@ -99,7 +105,9 @@ module _ (mode : ℕ) (lot : LotView) (m m' : Map) (t : Tree) (k : ℕ) (q : Lis
   named = look_up-find c (dir_rows_of form_one m here) ∙ some_value (find by_bytes c (dir_rows_of form_one m here)) (sym (is-dir.maps c) ∙ ap is_some is)
 
   loses : LosesRow form_one lot (own form_one m here) (own form_one m' here) here (length q) c
-  loses = law.loses_row form_one lot (own form_one m here) (own form_one m' here) here (length q) (set-inode lot m m' here (length q) set.set) set.is.kind set.is.few c gone es is-dir named set.rows
+  loses =
+      law.loses_row form_one lot (own form_one m here) (own form_one m' here) here (length q)
+      (set-inode lot m m' here (length q) set.set) set.is.kind set.is.few c gone es is-dir named set.rows
 
   once : (x : ℕ) → times (used_inodes form_one (own form_one m) 0 t) x ≤ 1
   once = tree-once mode lot m t k [] [] b
@@ -110,7 +118,8 @@ module _ (mode : ℕ) (lot : LotView) (m m' : Map) (t : Tree) (k : ℕ) (q : Lis
   moves : (mine yours : ℕ → List ℕ) → ((x : ℕ) → own form_one m' x ≡ own form_one m x → yours x ≡ mine x) → (measure : List ℕ → ℕ) → Adds measure
       → measure (tree_uses form_one (own form_one m') yours 0 (at q (without_entry c) t) ++ tree_uses form_one (own form_one m') yours gone v) + measure (mine here) ≡ measure (tree_uses form_one (own form_one m) mine 0 t ++ []) + measure (yours here)
   moves mine yours alike measure sums =
-      let e = uses-without_entry form_one lot (own form_one m) (own form_one m') q c v t es r.holds.reads found is once but loses mine yours alike measure sums in
+      let e = uses-without_entry form_one lot (own form_one m)
+      (own form_one m') q c v t es r.holds.reads found is once but loses mine yours alike measure sums in
       let f = ap measure (uses-gone form_one lot (own form_one m) (own form_one m') q c v t es r.holds.reads found is once but loses mine yours alike) in
       let g = sums (tree_uses form_one (own form_one m') yours 0 (at q (without_entry c) t)) (tree_uses form_one (own form_one m') yours gone v) in
       let h = sums (tree_uses form_one (own form_one m) mine 0 t) [] in
@@ -118,7 +127,9 @@ module _ (mode : ℕ) (lot : LotView) (m m' : Map) (t : Tree) (k : ℕ) (q : Lis
       omega arith
 
   after : Beside form_one mode lot m' (at q (without_entry c) t) k (used_blocks form_one (own form_one m') gone v) (used_inodes form_one (own form_one m') gone v)
-  after = beside-set mode lot m m' t (at q (without_entry c) t) k [] (used_blocks form_one (own form_one m') gone v) [] (used_inodes form_one (own form_one m') gone v) here b (loose-none lot m) in-all set.set
+  after =
+      beside-set mode lot m m' t (at q (without_entry c) t) k [] (used_blocks form_one (own form_one m') gone v) []
+      (used_inodes form_one (own form_one m') gone v) here b (loose-none lot m) in-all set.set
       (dir-after q (without_entry c) t (Dir es) found b.dir (λ e. refl))
       (Reads-without_entry form_one lot (own form_one m) (own form_one m') q c v t es r.holds.reads found is once but loses)
       (λ measure sums. moves (λ i. (own form_one m i).uses) (λ i. (own form_one m' i).uses) (λ x e. ap (λ o. o.uses) e) measure sums)
@@ -131,7 +142,8 @@ module _ (mode : ℕ) (lot : LotView) (m m' : Map) (t : Tree) (k : ℕ) (q : Lis
   loses_row = (after, gone_reads)
 
   -- and a walk of the tree that is left comes to the inode to which it came before
-  pub walk_left : (to : List (List ℕ)) (u : Tree) → walk to (at q (without_entry c) t) ≡ Found u → inode_on form_one (own form_one m') 0 to ≡ inode_on form_one (own form_one m) 0 to
+  pub walk_left : (to : List (List ℕ)) (u : Tree) → walk to (at q (without_entry c) t) ≡ Found u
+      → inode_on form_one (own form_one m') 0 to ≡ inode_on form_one (own form_one m) 0 to
   walk_left to u there = same_walk form_one lot (own form_one m) (own form_one m') here c loses.others to 0 0 (at q (without_entry c) t) u there after.reads
       (λ x ne h. but.at x ne
       (let e = moves (λ i. i ∷ []) (λ i. i ∷ []) (λ x e. refl) (λ us. times us x) (λ us vs. times-append us vs x) in

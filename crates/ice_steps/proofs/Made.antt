@@ -28,10 +28,12 @@ inode-first f o i (Dir es) = omega (arith, times-here i (entries_use f o (λ i. 
 
 module _ (lot : LotView) (few : length lot.groups ≤ 64) (m : Map) where
   -- an inode that stands for a tree is well made where its blocks are marked, each once
-  pub made-reads : (i h : ℕ) (s : Tree) → Reads form_one lot (own form_one m) i h s → ((b : ℕ) → is_data lot b ≡ true → times (own form_one m i).uses b ≤ mark (used_block m b)) → WellMade lot form_one m i
+  pub made-reads : (i h : ℕ) (s : Tree) → Reads form_one lot (own form_one m) i h s
+      → ((b : ℕ) → is_data lot b ≡ true → times (own form_one m i).uses b ≤ mark (used_block m b)) → WellMade lot form_one m i
   made-reads i h s r marks =
       record {
-        holds = λ b u. (own_places i h s r b u, mark-set (used_block m b) (let n = has-times (own form_one m i).uses b u in let l = marks b (own_places i h s r b u) in omega arith));
+        holds =
+            λ b u. (own_places i h s r b u, mark-set (used_block m b) (let n = has-times (own form_one m i).uses b u in let l = marks b (own_places i h s r b u) in omega arith));
         once = λ b. elim (has (own form_one m i).uses b) as (λ t. has (own form_one m i).uses b ≡ t → times (own form_one m i).uses b ≤ 1) [
           | true ↦ λ t. let l = marks b (own_places i h s r b t) in let k = mark-small (used_block m b) in omega arith
           | false ↦ λ t. let n = times-none (own form_one m i).uses b t in omega arith
@@ -50,12 +52,15 @@ module _ (lot : LotView) (few : length lot.groups ≤ 64) (m : Map) where
 -- what a walk comes to
 module _ (mode : ℕ) (lot : LotView) (m : Map) (t : Tree) (k : ℕ) (xs is : List ℕ) (b : Beside form_one mode lot m t k xs is) where
   -- the inode to which a walk comes stands for what the walk found
-  pub beside_part : (q : List (List ℕ)) (s : Tree) → walk q t ≡ Found s → Reads form_one lot (own form_one m) (inode_on form_one (own form_one m) 0 q) (length q) s
+  pub beside_part : (q : List (List ℕ)) (s : Tree) → walk q t ≡ Found s
+      → Reads form_one lot (own form_one m) (inode_on form_one (own form_one m) 0 q) (length q) s
   beside_part q s found =
       let level : 0 + length q ≡ length q = omega arith in
-      subst (λ h. Reads form_one lot (own form_one m) (inode_on form_one (own form_one m) 0 q) h s) level (Reads-part form_one lot (own form_one m) q 0 0 t s found b.reads)
+      subst (λ h. Reads form_one lot (own form_one m) (inode_on form_one (own form_one m) 0 q) h s) level
+      (Reads-part form_one lot (own form_one m) q 0 0 t s found b.reads)
 
-  own-within : (q : List (List ℕ)) (s : Tree) → walk q t ≡ Found s → (a : ℕ) → is_data lot a ≡ true → times (own form_one m (inode_on form_one (own form_one m) 0 q)).uses a ≤ mark (used_block m a)
+  own-within : (q : List (List ℕ)) (s : Tree) → walk q t ≡ Found s → (a : ℕ) → is_data lot a ≡ true
+      → times (own form_one m (inode_on form_one (own form_one m) 0 q)).uses a ≤ mark (used_block m a)
   own-within q s found a h =
       let e = b.blocks a h in
       let c = times-append (used_blocks form_one (own form_one m) 0 t) xs a in
@@ -64,13 +69,15 @@ module _ (mode : ℕ) (lot : LotView) (m : Map) (t : Tree) (k : ℕ) (xs is : Li
       omega arith
 
   -- the inode to which a walk comes is well made, in a lot of at most 64 groups
-  pub beside_made : length lot.groups ≤ 64 → (q : List (List ℕ)) (s : Tree) → walk q t ≡ Found s → WellMade lot form_one m (inode_on form_one (own form_one m) 0 q)
+  pub beside_made : length lot.groups ≤ 64 → (q : List (List ℕ)) (s : Tree) → walk q t ≡ Found s
+      → WellMade lot form_one m (inode_on form_one (own form_one m) 0 q)
   beside_made few q s found = made-reads lot few m (inode_on form_one (own form_one m) 0 q) (length q) s (beside_part q s found) (own-within q s found)
 
   pub beside_number : (q : List (List ℕ)) (s : Tree) → walk q t ≡ Found s → inode_on form_one (own form_one m) 0 q < 64 * length lot.groups
   beside_number q s found = number s (beside_part q s found)
     where
-      number : (s : Tree) → Reads form_one lot (own form_one m) (inode_on form_one (own form_one m) 0 q) (length q) s → inode_on form_one (own form_one m) 0 q < 64 * length lot.groups
+      number : (s : Tree) → Reads form_one lot (own form_one m) (inode_on form_one (own form_one m) 0 q) (length q) s
+          → inode_on form_one (own form_one m) 0 q < 64 * length lot.groups
       number (File bytes) r = r.0.number
       number (Dir es) r = r.0.number
 

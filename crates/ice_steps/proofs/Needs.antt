@@ -45,7 +45,8 @@ pub loose_some : (m : Map) (j : ℕ) (v : Tree) → 1 ≤ length (used_inodes fo
 loose_some m j v = let e = length-inodes form_one (own form_one m) j v in let n = nodes-some v in omega arith
 
 -- where inodes stand loose, each directory has room for one entry more
-pub beside_room : (mode : ℕ) (lot : LotView) (m : Map) (t : Tree) (k : ℕ) (xs is : List ℕ) → Beside form_one mode lot m t k xs is → 1 ≤ length is → (q : List (List ℕ)) (es : Entries) → walk q t ≡ Found (Dir es) → HasEntryRoom lot (inode_of m (inode_on form_one (own form_one m) 0 q))
+pub beside_room : (mode : ℕ) (lot : LotView) (m : Map) (t : Tree) (k : ℕ) (xs is : List ℕ) → Beside form_one mode lot m t k xs is
+    → 1 ≤ length is → (q : List (List ℕ)) (es : Entries) → walk q t ≡ Found (Dir es) → HasEntryRoom lot (inode_of m (inode_on form_one (own form_one m) 0 q))
 beside_room mode lot m t k xs is b some q es found =
     let d = beside_dir mode lot m t k xs is b q es found in
     let n = beside_free_nodes mode lot m t k xs is b in
@@ -55,7 +56,8 @@ beside_room mode lot m t k xs is b some q es found =
     record { is = d.is; room = omega arith }
 
 -- no inode of the tree uses more blocks than are counted
-pub beside_counted : (mode : ℕ) (lot : LotView) (m : Map) (t : Tree) (k : ℕ) (xs is : List ℕ) → Beside form_one mode lot m t k xs is → (q : List (List ℕ)) (s : Tree) → walk q t ≡ Found s → length (own form_one m (inode_on form_one (own form_one m) 0 q)).uses ≤ counted false m
+pub beside_counted : (mode : ℕ) (lot : LotView) (m : Map) (t : Tree) (k : ℕ) (xs is : List ℕ) → Beside form_one mode lot m t k xs is
+    → (q : List (List ℕ)) (s : Tree) → walk q t ≡ Found s → length (own form_one m (inode_on form_one (own form_one m) 0 q)).uses ≤ counted false m
 beside_counted mode lot m t k xs is b q s found =
     let p = uses-part form_one (own form_one m) (λ i. i ∷ []) (inode_on form_one (own form_one m) 0 q) q 0 t s found in
     let f = inode-first form_one (own form_one m) (inode_on form_one (own form_one m) 0 q) s in
@@ -66,7 +68,8 @@ beside_counted mode lot m t k xs is b q s found =
     omega arith
 
 -- nor does the inode at the top of a loose tree
-pub loose_blocks_counted : (mode : ℕ) (lot : LotView) (m : Map) (t : Tree) (k j : ℕ) (v : Tree) (is : List ℕ) → Beside form_one mode lot m t k (used_blocks form_one (own form_one m) j v) is → length (own form_one m j).uses ≤ counted false m
+pub loose_blocks_counted : (mode : ℕ) (lot : LotView) (m : Map) (t : Tree) (k j : ℕ) (v : Tree) (is : List ℕ)
+    → Beside form_one mode lot m t k (used_blocks form_one (own form_one m) j v) is → length (own form_one m j).uses ≤ counted false m
 loose_blocks_counted mode lot m t k j v is b =
     let f = inode-first form_one (own form_one m) j v in
     let l = length-one_of (λ i. (own form_one m i).uses) j (used_inodes form_one (own form_one m) j v) (omega arith) in

@@ -39,7 +39,8 @@ pub record Loose (lot : LotView) (m : Map) (xs is : List ℕ) : Type 0 where
 pub loose-none : (lot : LotView) (m : Map) → Loose lot m [] []
 loose-none lot m = record { flat = refl; places = λ x h. absurd (omega arith) }
 
-pub loose-tree : (lot : LotView) (m : Map) (j h : ℕ) (v : Tree) → Reads form_one lot (own form_one m) j h v → Loose lot m (used_blocks form_one (own form_one m) j v) (used_inodes form_one (own form_one m) j v)
+pub loose-tree : (lot : LotView) (m : Map) (j h : ℕ) (v : Tree) → Reads form_one lot (own form_one m) j h v
+    → Loose lot m (used_blocks form_one (own form_one m) j v) (used_inodes form_one (own form_one m) j v)
 loose-tree lot m j h v r = record {
   flat = sym (uses-flat form_one (own form_one m) (λ i. (own form_one m i).uses) j v);
   places = used-places lot m j h v r;
@@ -111,5 +112,6 @@ module _ (mode : ℕ) (lot : LotView) (m : Map) (t : Tree) (k : ℕ) (xs is : Li
                 (let n = has-times (mine x) a u in let s = one_of mine a x all h in let e = all-marks a (all-places x h a u) in omega arith),
           ))
           (λ a u. times-zero (mine p) a
-          (let n = has-times (mine x) a u in let s = apart mine a x p all ne h here in let e = all-marks a (all-places x h a u) in let z = mark-small (used_block m a) in omega arith));
+          (let n = has-times (mine x) a u in let s = apart mine a x p all ne h here in let e = all-marks a (all-places x h a u) in
+          let z = mark-small (used_block m a) in omega arith));
     }

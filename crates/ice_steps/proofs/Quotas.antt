@@ -36,7 +36,8 @@ not-data lot o j h =
 
 module _ (lot : LotView) (m : Map) where
   -- nine places of each group are marked, and beside them the data places of a list
-  pub blocks-counted : (xs : List ℕ) → Reserved lot m → ((b : ℕ) → has xs b ≡ true → is_data lot b ≡ true) → ((b : ℕ) → is_data lot b ≡ true → times xs b ≡ mark (used_block m b))
+  pub blocks-counted : (xs : List ℕ) → Reserved lot m → ((b : ℕ) → has xs b ≡ true → is_data lot b ≡ true)
+      → ((b : ℕ) → is_data lot b ≡ true → times xs b ≡ mark (used_block m b))
       → free_count false lot m + length xs ≡ 247 * length lot.groups
   blocks-counted xs reserved places marks =
       let groups = count-groups (used_block m) (data_used lot m) (length lot.groups)
@@ -57,7 +58,8 @@ module _ (lot : LotView) (m : Map) where
             ] refl
           ] refl
 
-  pub inodes-counted : (is : List ℕ) → ((i : ℕ) → has is i ≡ true → i < 64 * length lot.groups) → ((i : ℕ) → i < 64 * length lot.groups → times is i ≡ mark (used_inode m i))
+  pub inodes-counted : (is : List ℕ) → ((i : ℕ) → has is i ≡ true → i < 64 * length lot.groups)
+      → ((i : ℕ) → i < 64 * length lot.groups → times is i ≡ mark (used_inode m i))
       → free_count true lot m + length is ≡ 64 * length lot.groups
   inodes-counted is small marks =
       let listed = count-times (used_inode m) (64 * length lot.groups) is small marks in

@@ -54,17 +54,21 @@ module _ (mode : ℕ) (lot : LotView) (m m' : Map) (t : Tree) (k : ℕ) (q : Lis
   loose-same : SameAt (own form_one m) (own form_one m') (used_inodes form_one (own form_one m) j v)
   loose-same = record {
     at = λ x h. but.at x
-        (λ e. let a = all-apart mode lot m t k blocks inodes b x in let i = in-tree in let n = ap (λ y. times (used_inodes form_one (own form_one m) 0 t) y) e in absurd (omega arith))
+        (λ e. let a = all-apart mode lot m t k blocks inodes b x in let i = in-tree in
+        let n = ap (λ y. times (used_inodes form_one (own form_one m) 0 t) y) e in absurd (omega arith))
         (let e = times-append (used_inodes form_one (own form_one m) 0 t) inodes x in omega arith);
   }
 
   adds : AddsRow form_one lot (own form_one m here) (own form_one m' here) here (length q) c j
-  adds = adds_row form_one lot (own form_one m here) (own form_one m' here) here (length q) (set-inode lot m m' here (length q) set.set) set.is.kind set.is.few c j set.rows
+  adds =
+      adds_row form_one lot (own form_one m here) (own form_one m' here) here (length q)
+      (set-inode lot m m' here (length q) set.set) set.is.kind set.is.few c j set.rows
 
   moves : (mine yours : ℕ → List ℕ) → ((x : ℕ) → own form_one m' x ≡ own form_one m x → yours x ≡ mine x) → (measure : List ℕ → ℕ) → Adds measure
       → measure (tree_uses form_one (own form_one m') yours 0 (at q (with_entry c v) t) ++ []) + measure (mine here) ≡ measure (tree_uses form_one (own form_one m) mine 0 t ++ tree_uses form_one (own form_one m) mine j v) + measure (yours here)
   moves mine yours alike measure sums =
-      let e = uses-with_entry form_one lot (own form_one m) (own form_one m') q c j v t es mine yours alike measure sums b.reads found free (tree-once mode lot m t k blocks inodes b) tree-but adds in
+      let e = uses-with_entry form_one lot (own form_one m) (own form_one m') q c j v t es mine yours alike measure sums b.reads found free
+      (tree-once mode lot m t k blocks inodes b) tree-but adds in
       let f = ap measure (uses-frame form_one (own form_one m) (own form_one m') mine yours alike j v loose-same) in
       let g = sums (tree_uses form_one (own form_one m') yours 0 (at q (with_entry c v) t)) [] in
       let h = sums (tree_uses form_one (own form_one m) mine 0 t) (tree_uses form_one (own form_one m) mine j v) in
@@ -74,7 +78,8 @@ module _ (mode : ℕ) (lot : LotView) (m m' : Map) (t : Tree) (k : ℕ) (q : Lis
   pub gains_row : Beside form_one mode lot m' (at q (with_entry c v) t) k [] []
   gains_row = beside-set mode lot m m' t (at q (with_entry c v) t) k blocks [] inodes [] here b loose in-all set.set
       (dir-after q (with_entry c v) t (Dir es) found b.dir (λ e. refl))
-      (Reads-with_entry form_one lot (own form_one m) (own form_one m') q c j v t es b.reads found free name (tree-once mode lot m t k blocks inodes b) tree-but adds
+      (Reads-with_entry form_one lot (own form_one m) (own form_one m') q c j v t es b.reads found free name
+      (tree-once mode lot m t k blocks inodes b) tree-but adds
       (Reads-frame form_one lot (own form_one m) (own form_one m') j (length q + 1) v loose-same r))
       (λ measure sums. moves (λ i. (own form_one m i).uses) (λ i. (own form_one m' i).uses) (λ x e. ap (λ o. o.uses) e) measure sums)
       (λ measure sums. let e = moves (λ i. i ∷ []) (λ i. i ∷ []) (λ x e. refl) measure sums in omega arith)

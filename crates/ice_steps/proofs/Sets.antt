@@ -24,7 +24,8 @@ abbrev pub Adds : (List ℕ → ℕ) → Type 0
 Adds measure = (xs ys : List ℕ) → measure (xs ++ ys) ≡ measure xs + measure ys
 
 -- an inode that was set can be one of the tree where it was one
-pub set-inode : (lot : LotView) (m m' : Map) (p h : ℕ) → OwnSet lot form_one m m' p → IsInode form_one lot (own form_one m p) p h → IsInode form_one lot (own form_one m' p) p h
+pub set-inode : (lot : LotView) (m m' : Map) (p h : ℕ) → OwnSet lot form_one m m' p → IsInode form_one lot (own form_one m p) p h
+    → IsInode form_one lot (own form_one m' p) p h
 set-inode lot m m' p h set r = record {
   depth = r.depth;
   number = r.number;
@@ -33,12 +34,14 @@ set-inode lot m m' p h set r = record {
 }
 
 -- a change below the root, or one of a directory to a directory, leaves the root a directory
-pub dir-after : (q : List (List ℕ)) (g : Tree → Tree) (t s : Tree) → walk q t ≡ Found s → is_dir t ≡ true → (is_dir s ≡ true → is_dir (g s) ≡ true) → is_dir (at q g t) ≡ true
+pub dir-after : (q : List (List ℕ)) (g : Tree → Tree) (t s : Tree) → walk q t ≡ Found s → is_dir t ≡ true
+    → (is_dir s ≡ true → is_dir (g s) ≡ true) → is_dir (at q g t) ≡ true
 dir-after [] g t s found d keep = ap (λ x. is_dir (g x)) (same_Found t s found) ∙ keep (ap is_dir (sym (same_Found t s found)) ∙ d)
 dir-after (c ∷ q) g (File bytes) s found d keep = d
 dir-after (c ∷ q) g (Dir es) s found d keep = refl
 
-module _ (mode : ℕ) (lot : LotView) (m m' : Map) (t t' : Tree) (k : ℕ) (xs ys is js : List ℕ) (p : ℕ) (b : Beside form_one mode lot m t k xs is) (l : Loose lot m xs is) (here : 0 < times (all mode lot m t k xs is b) p) (set : OwnSet lot form_one m m' p) where
+module _ (mode : ℕ) (lot : LotView) (m m' : Map) (t t' : Tree) (k : ℕ) (xs ys is js : List ℕ) (p : ℕ)
+    (b : Beside form_one mode lot m t k xs is) (l : Loose lot m xs is) (here : 0 < times (all mode lot m t k xs is b) p) (set : OwnSet lot form_one m m' p) where
   not-in : (us : List ℕ) (a : ℕ) → ((b : ℕ) → has us b ≡ true → is_data lot b ≡ true) → a % 256 < 9 → times us a ≡ 0
   not-in us a places low = times-none us a (elim (has us a) as (λ u. has us a ≡ u → u ≡ false) [
     | true ↦ λ u. let d = data_place lot a (places a u) in absurd (omega arith)

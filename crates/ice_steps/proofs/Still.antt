@@ -25,11 +25,14 @@ pub record BesideMoves (lot : LotView) (m m' : Map) (xs ys is js : List ℕ) : T
   pub others_small : (i : ℕ) → has js i ≡ true → i < 64 * length lot.groups
 
 module _ (mode : ℕ) (lot : LotView) (m m' : Map) (t : Tree) (k k' : ℕ) (xs ys is js : List ℕ) where
-  pub beside-still : Beside form_one mode lot m t k xs is → SubSays form_one mode lot.slot (m' sub_address) k' → SameAt (own form_one m) (own form_one m') (used_inodes form_one (own form_one m) 0 t)
-      → ((b : ℕ) → b < 256 * length lot.groups → b % 256 < 9 → used_block m' b ≡ used_block m b) → BesideMoves lot m m' xs ys is js → Beside form_one mode lot m' t k' ys js
+  pub beside-still : Beside form_one mode lot m t k xs is → SubSays form_one mode lot.slot (m' sub_address) k'
+      → SameAt (own form_one m) (own form_one m') (used_inodes form_one (own form_one m) 0 t)
+      → ((b : ℕ) → b < 256 * length lot.groups → b % 256 < 9 → used_block m' b ≡ used_block m b) → BesideMoves lot m m' xs ys is js
+      → Beside form_one mode lot m' t k' ys js
   beside-still b sub same reserved moves =
       let e : used_blocks form_one (own form_one m') 0 t ≡ used_blocks form_one (own form_one m) 0 t =
-      uses-frame form_one (own form_one m) (own form_one m') (λ i. (own form_one m i).uses) (λ i. (own form_one m' i).uses) (λ i e. ap (λ x. x.uses) e) 0 t same in
+      uses-frame form_one (own form_one m) (own form_one m') (λ i. (own form_one m i).uses) (λ i. (own form_one m' i).uses)
+      (λ i e. ap (λ x. x.uses) e) 0 t same in
       let g : used_inodes form_one (own form_one m') 0 t ≡ used_inodes form_one (own form_one m) 0 t =
       uses-frame form_one (own form_one m) (own form_one m') (λ i. i ∷ []) (λ i. i ∷ []) (λ i e. refl) 0 t same in
       record {
@@ -70,5 +73,6 @@ module _ (mode : ℕ) (lot : LotView) (m m' : Map) (t : Tree) (k k' : ℕ) (xs y
       }
 
 -- the blocks that an inode of a tree uses are data places
-pub used-places : (lot : LotView) (m : Map) (i h : ℕ) (t : Tree) → Reads form_one lot (own form_one m) i h t → (x : ℕ) → 0 < times (used_inodes form_one (own form_one m) i t) x → (b : ℕ) → has (own form_one m x).uses b ≡ true → is_data lot b ≡ true
+pub used-places : (lot : LotView) (m : Map) (i h : ℕ) (t : Tree) → Reads form_one lot (own form_one m) i h t → (x : ℕ)
+    → 0 < times (used_inodes form_one (own form_one m) i t) x → (b : ℕ) → has (own form_one m x).uses b ≡ true → is_data lot b ≡ true
 used-places lot m i h t r x c = (Reads-inode form_one lot (own form_one m) x i h t r c).1.places

@@ -22,7 +22,8 @@ word-same x y at same =
     omega arith
 
 -- the first 24 bytes stay
-pub says-same : (f : Form) (mode slot : ℕ) (x y : List ℕ) (k : ℕ) → ((j : ℕ) → j < 24 → slice_index y j ≡ slice_index x j) → SubSays f mode slot x k → SubSays f mode slot y k
+pub says-same : (f : Form) (mode slot : ℕ) (x y : List ℕ) (k : ℕ) → ((j : ℕ) → j < 24 → slice_index y j ≡ slice_index x j)
+    → SubSays f mode slot x k → SubSays f mode slot y k
 unfolding sub_rule
 says-same f mode slot x y k same s =
     let a : word_at y 0 ≡ word_at x 0 = word-same x y 0 (λ j l h. same j (omega arith)) in
@@ -34,11 +35,13 @@ says-same f mode slot x y k same s =
     record { sound = rw (a, b, c, d, p, q) s.sound; version = b ∙ s.version; mode = q ∙ s.mode; done = rw (c, d) s.done }
 
 -- one count was set
-pub says-counted : (f : Form) (mode : ℕ) (lot : LotView) (inodes : Bool) (m m' : Map) (x k : ℕ) → WordSet (m sub_address) (count_place inodes) x (m' sub_address) → SubSays f mode lot.slot (m sub_address) k → SubSays f mode lot.slot (m' sub_address) k
+pub says-counted : (f : Form) (mode : ℕ) (lot : LotView) (inodes : Bool) (m m' : Map) (x k : ℕ)
+    → WordSet (m sub_address) (count_place inodes) x (m' sub_address) → SubSays f mode lot.slot (m sub_address) k → SubSays f mode lot.slot (m' sub_address) k
 says-counted f mode lot true m m' x k w s = says-same f mode lot.slot (m sub_address) (m' sub_address) k (λ j h. w.others j (inl (omega arith))) s
 says-counted f mode lot false m m' x k w s = says-same f mode lot.slot (m sub_address) (m' sub_address) k (λ j h. w.others j (inl (omega arith))) s
 
-pub says-beside : (f : Form) (mode : ℕ) (lot : LotView) (m m' : Map) (k : ℕ) → SameBeside (count_place false) 4 (m sub_address) (m' sub_address) → SubSays f mode lot.slot (m sub_address) k → SubSays f mode lot.slot (m' sub_address) k
+pub says-beside : (f : Form) (mode : ℕ) (lot : LotView) (m m' : Map) (k : ℕ)
+    → SameBeside (count_place false) 4 (m sub_address) (m' sub_address) → SubSays f mode lot.slot (m sub_address) k → SubSays f mode lot.slot (m' sub_address) k
 says-beside f mode lot m m' k w s = says-same f mode lot.slot (m sub_address) (m' sub_address) k (λ j h. w j (inl (omega arith))) s
 
 -- and the other one stays
@@ -59,7 +62,8 @@ last-rule u v w x y true true true false e g t h = h
 last-rule u v w x y true true true true e g t h = rw t refl
 
 -- the number of accepted operations was set
-pub says-done : (f : Form) (mode slot : ℕ) (x y : List ℕ) (k done : ℕ) → LongSet x 16 done y → done < 2 ^ 63 → SubSays f mode slot x k → SubSays f mode slot y done
+pub says-done : (f : Form) (mode slot : ℕ) (x y : List ℕ) (k done : ℕ) → LongSet x 16 done y → done < 2 ^ 63 → SubSays f mode slot x k
+    → SubSays f mode slot y done
 unfolding sub_rule
 says-done f mode slot x y k done w small s =
     let a : word_at y 0 ≡ word_at x 0 = word-same x y 0 (λ j l h. w.others j (inl (omega arith))) in

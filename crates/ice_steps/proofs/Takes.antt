@@ -29,14 +29,20 @@ mark-absent : (j i : ℕ) → i ≢ j → times (j ∷ []) i ≡ 0
 mark-absent j i e = times-other j i [] (λ q. e (sym q))
 
 -- the inodes of the tree say what they said
-pub took_stays : (mode : ℕ) (lot : LotView) (m m' : Map) (t : Tree) (k : ℕ) (xs is : List ℕ) (j : ℕ) → length lot.groups ≤ 64 → Beside form_one mode lot m t k xs is → OnlyAt (sub_address ∷ bitmap_of true j ∷ []) m m' → SameAt (own form_one m) (own form_one m') (used_inodes form_one (own form_one m) 0 t)
-took_stays mode lot m m' t k xs is j few b only = record { at = λ x h. marks-own lot few m m' (j / 64) (only-two sub_address (bitmap_of true j) m m' only) x (used-places lot m 0 0 t b.reads x h) }
+pub took_stays : (mode : ℕ) (lot : LotView) (m m' : Map) (t : Tree) (k : ℕ) (xs is : List ℕ) (j : ℕ) → length lot.groups ≤ 64
+    → Beside form_one mode lot m t k xs is → OnlyAt (sub_address ∷ bitmap_of true j ∷ []) m m'
+    → SameAt (own form_one m) (own form_one m') (used_inodes form_one (own form_one m) 0 t)
+took_stays mode lot m m' t k xs is j few b only =
+    record { at = λ x h. marks-own lot few m m' (j / 64) (only-two sub_address (bitmap_of true j) m m' only) x (used-places lot m 0 0 t b.reads x h) }
 
-pub done_stays : (mode : ℕ) (lot : LotView) (m m' : Map) (t : Tree) (k done : ℕ) (xs is : List ℕ) → length lot.groups ≤ 64 → Beside form_one mode lot m t k xs is → DoneSet m m' done → SameAt (own form_one m) (own form_one m') (used_inodes form_one (own form_one m) 0 t)
-done_stays mode lot m m' t k done xs is few b set = record { at = λ x h. sub-own lot few m m' (only-one sub_address m m' set.others) x (used-places lot m 0 0 t b.reads x h) }
+pub done_stays : (mode : ℕ) (lot : LotView) (m m' : Map) (t : Tree) (k done : ℕ) (xs is : List ℕ) → length lot.groups ≤ 64
+    → Beside form_one mode lot m t k xs is → DoneSet m m' done → SameAt (own form_one m) (own form_one m') (used_inodes form_one (own form_one m) 0 t)
+done_stays mode lot m m' t k done xs is few b set =
+    record { at = λ x h. sub-own lot few m m' (only-one sub_address m m' set.others) x (used-places lot m 0 0 t b.reads x h) }
 
 -- where an inode was taken, it stands loose beside the tree
-pub took_inode : (mode : ℕ) (lot : LotView) (m m' : Map) (t : Tree) (k : ℕ) (xs : List ℕ) (j : ℕ) → length lot.groups ≤ 64 → Beside form_one mode lot m t k xs [] → TookInode m m' j → j < 64 * length lot.groups
+pub took_inode : (mode : ℕ) (lot : LotView) (m m' : Map) (t : Tree) (k : ℕ) (xs : List ℕ) (j : ℕ) → length lot.groups ≤ 64
+    → Beside form_one mode lot m t k xs [] → TookInode m m' j → j < 64 * length lot.groups
     → OnlyAt (sub_address ∷ bitmap_of true j ∷ []) m m' → Beside form_one mode lot m' t k xs (j ∷ [])
 took_inode mode lot m m' t k xs j few b took small only =
     beside-still mode lot m m' t k k xs xs [] (j ∷ []) b
@@ -67,7 +73,8 @@ took_inode mode lot m m' t k xs j few b took small only =
     })
 
 -- where a loose inode was given back, nothing stands beside the tree
-pub gave_inode : (mode : ℕ) (lot : LotView) (m m' : Map) (t : Tree) (k j : ℕ) → length lot.groups ≤ 64 → Beside form_one mode lot m t k [] (j ∷ []) → GaveInode m m' j
+pub gave_inode : (mode : ℕ) (lot : LotView) (m m' : Map) (t : Tree) (k j : ℕ) → length lot.groups ≤ 64
+    → Beside form_one mode lot m t k [] (j ∷ []) → GaveInode m m' j
     → OnlyAt (sub_address ∷ bitmap_of true j ∷ []) m m' → Beside form_one mode lot m' t k [] []
 gave_inode mode lot m m' t k j few b gave only =
     beside-still mode lot m m' t k k [] [] (j ∷ []) [] b
@@ -102,7 +109,8 @@ gave_inode mode lot m m' t k j few b gave only =
     })
 
 -- the number of accepted operations was set
-pub beside_done : (mode : ℕ) (lot : LotView) (m m' : Map) (t : Tree) (k done : ℕ) (xs is : List ℕ) → length lot.groups ≤ 64 → Beside form_one mode lot m t k xs is → DoneSet m m' done → Beside form_one mode lot m' t done xs is
+pub beside_done : (mode : ℕ) (lot : LotView) (m m' : Map) (t : Tree) (k done : ℕ) (xs is : List ℕ) → length lot.groups ≤ 64
+    → Beside form_one mode lot m t k xs is → DoneSet m m' done → Beside form_one mode lot m' t done xs is
 beside_done mode lot m m' t k done xs is few b set =
     let only = only-one sub_address m m' set.others in
     let bitmaps = λ (o : ℕ). only (256 * o) (λ e. omega arith) in
@@ -120,5 +128,7 @@ beside_done mode lot m m' t k done xs is few b set =
     })
 
 -- where the count of operations was set, the map recovers the same tree with the new count
-pub done_set : (mode : ℕ) (lot : LotView) (m m' : Map) (t : Tree) (k done : ℕ) → length lot.groups ≤ 64 → MapRecovers form_one mode lot m t k → DoneSet m m' done → MapRecovers form_one mode lot m' t done
-done_set mode lot m m' t k done few r set = beside_recovers form_one mode lot m' t done (beside_done mode lot m m' t k done [] [] few (recovers_beside form_one mode lot m t k r) set)
+pub done_set : (mode : ℕ) (lot : LotView) (m m' : Map) (t : Tree) (k done : ℕ) → length lot.groups ≤ 64
+    → MapRecovers form_one mode lot m t k → DoneSet m m' done → MapRecovers form_one mode lot m' t done
+done_set mode lot m m' t k done few r set =
+    beside_recovers form_one mode lot m' t done (beside_done mode lot m m' t k done [] [] few (recovers_beside form_one mode lot m t k r) set)

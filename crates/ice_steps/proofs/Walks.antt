@@ -75,7 +75,8 @@ module _ (mode : ℕ) (lot : LotView) (m : Map) (t : Tree) (k : ℕ) where
       walk_dir es found = beside_dir [] [] whole q es found
 
 -- a tree that stands loose beside the other
-module _ (mode : ℕ) (lot : LotView) (m : Map) (t : Tree) (k : ℕ) (is : List ℕ) (j h : ℕ) (v : Tree) (b : Beside form_one mode lot m t k (used_blocks form_one (own form_one m) j v) is) (r : Reads form_one lot (own form_one m) j h v) where
+module _ (mode : ℕ) (lot : LotView) (m : Map) (t : Tree) (k : ℕ) (is : List ℕ) (j h : ℕ) (v : Tree)
+    (b : Beside form_one mode lot m t k (used_blocks form_one (own form_one m) j v) is) (r : Reads form_one lot (own form_one m) j h v) where
   -- the inode of a tree that stands loose is well made, in a lot of at most 64 groups
   pub loose_made : length lot.groups ≤ 64 → WellMade lot form_one m j
   loose_made few = made-reads lot few m j h v r (λ a d.

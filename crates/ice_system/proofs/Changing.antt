@@ -50,7 +50,8 @@ module _ {D X : Type 0} (state : D → DiskState) (left : D → ℕ → Image �
     within = within;
     calm = calm;
     ready = on-ok r (λ (is : w ≡ with_parts names owners). (live, ap (λ (x : SystemView). x.failed) is)) done;
-    done = on-ok r (λ (is : w ≡ with_parts names owners). subst (λ (x : SystemView). SlotBecomes s row groups (tables_of v) (tables_of x)) (sym is) becomes) done;
+    done =
+        on-ok r (λ (is : w ≡ with_parts names owners). subst (λ (x : SystemView). SlotBecomes s row groups (tables_of v) (tables_of x)) (sym is) becomes) done;
     before = λ is. (before is, live, is-err r Before cause.failed is);
     after = λ is. (after is, inr (is-err r After cause.failed is));
     late = λ failed. absurd (cc (live, failed));

@@ -35,7 +35,8 @@ module _ {D X : Type 0} (state : D → DiskState) (left : D → ℕ → Image �
   -- nothing changes: the new tables are there already
   pub moves_none : (x : X) (d : D) → length entries ≡ 0 → Sure IsTable (AtRest t) (state d) → MovesTables state left t u (Ok x) d d
   moves_none x d empty sure =
-      let same : over entries (block (state d).now) ≡ block (state d).now = ap (λ es. over es (block (state d).now)) (none entries empty) ∙ over_none (block (state d).now) in
+      let same : over entries (block (state d).now) ≡ block (state d).now = ap (λ es. over es (block (state d).now)) (none entries empty)
+      ∙ over_none (block (state d).now) in
       record {
         crash = record {
           leaves = record { each = λ c i o l. inl l };
@@ -55,7 +56,8 @@ module _ {D X : Type 0} (state : D → DiskState) (left : D → ℕ → Image �
 
   module _ (old new : D) (sure : Sure IsTable (AtRest t) (state old)) (w : Within state left IsChange old new)
       (step : CrashStep state left (JournalExtent system_places 8) (BeforeOrAfter system_targets system_places entries (block (state old).now)) old new) where
-    pub moves_ok : (x : X) → Sure (RestsIdle system_places) (Idle system_places (over entries (block (state old).now))) (state new) → MovesTables state left t u (Ok x) old new
+    pub moves_ok : (x : X) → Sure (RestsIdle system_places) (Idle system_places (over entries (block (state old).now))) (state new)
+        → MovesTables state left t u (Ok x) old new
     moves_ok x idle = record {
       crash = commit_crash state left t u entries old new slots groups change sure w step;
       done = idle_done state left t u entries old new slots groups change sure w idle;
@@ -63,7 +65,8 @@ module _ {D X : Type 0} (state : D → DiskState) (left : D → ℕ → Image �
       after = λ is. absurd (cc is);
     }
 
-    pub moves_before : Sure (RestsIdle system_places) (Idle system_places (block (state old).now)) (state new) → MovesTables {X = X} state left t u (Err Before) old new
+    pub moves_before : Sure (RestsIdle system_places) (Idle system_places (block (state old).now)) (state new)
+        → MovesTables {X = X} state left t u (Err Before) old new
     moves_before idle = record {
       crash = commit_crash state left t u entries old new slots groups change sure w step;
       done = tt;

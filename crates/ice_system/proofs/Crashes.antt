@@ -76,7 +76,8 @@ next_says u sup m slots groups say = tables_same u (tables_in sup m) slots group
     (λ g. sym (subst (λ n. ordinal_in n m g ≡ u.ordinal g) groups (say.ordinals g)))
 
 -- an image whose blocks say the tables has them
-pub has_said : (t u : Tables) (i j : Image) (m : ℕ → List ℕ) → HasTables i t → block j 0 ≡ block i 0 → u.slots ≡ t.slots → u.groups ≡ t.groups → table_blocks j ≡ Some m → SayTables u m → HasTables j u
+pub has_said : (t u : Tables) (i j : Image) (m : ℕ → List ℕ) → HasTables i t → block j 0 ≡ block i 0 → u.slots ≡ t.slots
+    → u.groups ≡ t.groups → table_blocks j ≡ Some m → SayTables u m → HasTables j u
 has_said t u i j m h first slots groups is say =
     let sizes : (t.slots ≡ (super_of (block j 0)).slots) × (t.groups ≡ (super_of (block j 0)).groups) =
     subst (λ (bytes : List ℕ). (t.slots ≡ (super_of bytes).slots) × (t.groups ≡ (super_of bytes).groups)) (sym first)
@@ -99,7 +100,8 @@ now_has t u entries i j slots groups change rest first is =
     let here : SayTables t (in_tables (block i)) = said_tables t i (in_tables (block i)) (table_blocks_homes i rest.closed) rest.has in
     let few = few_of t i rest.has in
     has_said t u i j (in_tables (over entries (block i))) rest.has first slots groups is
-    (mixed_says (in_tables (block i)) change.old change.new (in_tables (over entries (block i))) mixed t u slots groups few.0 few.1 here change.before change.after)
+    (mixed_says (in_tables (block i)) change.old change.new
+    (in_tables (over entries (block i))) mixed t u slots groups few.0 few.1 here change.before change.after)
   where
     mixed : Mixed (in_tables (block i)) change.old change.new (in_tables (over entries (block i)))
     mixed k low high = ⊎_elim

@@ -61,7 +61,8 @@ module _ (old new old' new' : List (List ℕ)) (mid entries : List Entry) (rows 
       (owners.addresses a is)
 
   -- the entries change blocks that say the old tables to blocks that say the new ones
-  pub gathered : (t u : Tables) → SayTables t (joined (blocks_from 11 old) (blocks_from 15 old')) → SayTables u (joined (blocks_from 11 new) (blocks_from 15 new')) → HasChanges t u entries
+  pub gathered : (t u : Tables) → SayTables t (joined (blocks_from 11 old) (blocks_from 15 old'))
+      → SayTables u (joined (blocks_from 11 new) (blocks_from 15 new')) → HasChanges t u entries
   gathered t u before after = record {
     old = joined (blocks_from 11 old) (blocks_from 15 old');
     new = joined (blocks_from 11 new) (blocks_from 15 new');

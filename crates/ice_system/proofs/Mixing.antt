@@ -72,7 +72,8 @@ module _ (slots : ℕ) (m n : ℕ → List ℕ) (s : ℕ) (low : s < slots) (sam
   in_image = grind (arith, nat_tests)
 
   row_texts_same : row_of (mark_at n s) (text_at n s) ≡ row_of (mark_at m s) (text_at m s)
-  row_texts_same = subst (λ b. (if b then row_of (mark_at n s) (text_at n s) else None) ≡ (if b then row_of (mark_at m s) (text_at m s) else None)) in_image same
+  row_texts_same =
+      subst (λ b. (if b then row_of (mark_at n s) (text_at n s) else None) ≡ (if b then row_of (mark_at m s) (text_at m s) else None)) in_image same
 
   live_too : mark_at n s ≢ 0 → mark_at m s ≢ 0
   live_too live = row_live (mark_at m s) (text_at m s) (subst (λ (o : Option Row). IsSome o) row_texts_same (row_marked (mark_at n s) (text_at n s) live))
@@ -202,7 +203,8 @@ module _ (d p q e : ℕ → List ℕ) (mixed : Mixed d p q e) where
   }
 
   -- blocks that said t, with those that change as they are in blocks that say u, say u
-  pub mixed_says : (t u : Tables) → u.slots ≡ t.slots → u.groups ≡ t.groups → t.slots ≤ 16 → t.groups ≤ 1024 → SayTables t d → SayTables t p → SayTables u q → SayTables u e
+  pub mixed_says : (t u : Tables) → u.slots ≡ t.slots → u.groups ≡ t.groups → t.slots ≤ 16 → t.groups ≤ 1024 → SayTables t d
+      → SayTables t p → SayTables u q → SayTables u e
   mixed_says t u slots image few most disk before after =
       let rows_before : (s : ℕ) → row_in u.slots d s ≡ row_in u.slots p s = rw slots (λ s. disk.rows s ∙ sym (before.rows s)) in
       let holders_before : (g : ℕ) → holder_in u.groups d g ≡ holder_in u.groups p g = rw image (λ g. disk.holders g ∙ sym (before.holders g)) in

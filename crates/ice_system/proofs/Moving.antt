@@ -30,7 +30,8 @@ extent_some k here = ⊎_elim
     here
 
 -- what a commit of table blocks writes lies in the journal of the tables and in the tables
-pub commit_change : (entries : List Entry) → length entries ≤ 8 → ((a : ℕ) → holds entries a ≡ true → is_table a ≡ true) → (k : ℕ) → CommitBlocks system_places entries k → IsChange k
+pub commit_change : (entries : List Entry) → length entries ≤ 8 → ((a : ℕ) → holds entries a ≡ true → is_table a ≡ true) → (k : ℕ)
+    → CommitBlocks system_places entries k → IsChange k
 commit_change entries few homes k here = ⊎_elim
     (λ gate. (omega (arith, gate), omega (arith, gate)))
     (λ rest. ⊎_elim
@@ -76,12 +77,14 @@ module _ {D : Type 0} (state : D → DiskState) (left : D → ℕ → Image → 
 
   either : (i : Image) → block i 0 ≡ block (state old).now 0 → BeforeOrAfter system_targets system_places entries map i → EitherTables t u i
   either i first here = ⊎_elim
-      (λ before. inl (still_has t (state old).now i first (tables_effective map i before ∙ sym (table_blocks_homes (state old).now sure.now.closed)) sure.now.has))
+      (λ before. inl
+      (still_has t (state old).now i first (tables_effective map i before ∙ sym (table_blocks_homes (state old).now sure.now.closed)) sure.now.has))
       (λ after. inr (now_has t u entries (state old).now i slots groups change sure.now first (tables_effective (over entries map) i after)))
       here
 
   -- each crash leaves the old tables or the new ones
-  pub commit_crash : CrashStep state left (JournalExtent system_places 8) (BeforeOrAfter system_targets system_places entries map) old new → CrashStep state left (Below 19) (EitherTables t u) old new
+  pub commit_crash : CrashStep state left (JournalExtent system_places 8) (BeforeOrAfter system_targets system_places entries map) old new
+      → CrashStep state left (Below 19) (EitherTables t u) old new
   commit_crash step = record {
     leaves = record {
       each = λ c i o l. ⊎_elim (λ before. inl before)
@@ -109,7 +112,9 @@ module _ {D : Type 0} (state : D → DiskState) (left : D → ℕ → Image → 
     settled = record { told = idle.settled.told; settled = settled-table idle };
     now = record {
       closed = idle.now.gate;
-      has = now_has t u entries (state old).now (state new).now slots groups change sure.now first-now (tables_idle_blocks (over entries map) (state new).now idle.now);
+      has =
+          now_has t u entries (state old).now (state new).now slots groups change sure.now first-now
+          (tables_idle_blocks (over entries map) (state new).now idle.now);
     };
   }
 
@@ -119,6 +124,8 @@ module _ {D : Type 0} (state : D → DiskState) (left : D → ℕ → Image → 
     settled = record { told = idle.settled.told; settled = settled-table idle };
     now = record {
       closed = idle.now.gate;
-      has = still_has t (state old).now (state new).now first-now (tables_idle_blocks map (state new).now idle.now ∙ sym (table_blocks_homes (state old).now sure.now.closed)) sure.now.has;
+      has =
+          still_has t (state old).now (state new).now first-now
+          (tables_idle_blocks map (state new).now idle.now ∙ sym (table_blocks_homes (state old).now sure.now.closed)) sure.now.has;
     };
   }

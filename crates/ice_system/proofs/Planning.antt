@@ -50,7 +50,8 @@ module _ (names : NamesView) (owners : OwnersView) (lots : AreLots owners) where
     groups = change.lot ∙ rw (groups_with names owners lots s, free_with names owners) refl;
   }
 
-  pub refuses_full : (s n : ℕ) → 64 < length (groups_at owners s) + n → RefusesGroups (tables_with names owners) (length (groups_of (tables_with names owners) s)) n CubeFull
+  pub refuses_full : (s n : ℕ) → 64 < length (groups_at owners s) + n
+      → RefusesGroups (tables_with names owners) (length (groups_of (tables_with names owners) s)) n CubeFull
   refuses_full s n is = subst (λ (g : List ℕ). 64 < length g + n) (sym (groups_with names owners lots s)) is
 
   pub refuses_none : (s n : ℕ) → length (groups_at owners s) + n ≤ 64 → length (free_of owners) < n
@@ -91,11 +92,13 @@ pub path_none : (names : NamesView) (owners : OwnersView) (p : List (List ℕ)) 
 path_none names owners p never s is = never (has_path names owners p s is)
 
 -- what a search for a path found
-pub some_found : (names : NamesView) (owners : OwnersView) (p : List (List ℕ)) (o : Option ℕ) → is_some o ≡ true → MatchOption o (NoneHas names p) (λ s. path_at names s ≡ Some p) → HasPath (tables_with names owners) p
+pub some_found : (names : NamesView) (owners : OwnersView) (p : List (List ℕ)) (o : Option ℕ) → is_some o ≡ true
+    → MatchOption o (NoneHas names p) (λ s. path_at names s ≡ Some p) → HasPath (tables_with names owners) p
 some_found names owners p None is found = absurd (cc is)
 some_found names owners p (Some s) is found = has_path names owners p s found
 
-pub none_found : (names : NamesView) (p : List (List ℕ)) (o : Option ℕ) → is_some o ≡ false → MatchOption o (NoneHas names p) (λ s. path_at names s ≡ Some p) → NoneHas names p
+pub none_found : (names : NamesView) (p : List (List ℕ)) (o : Option ℕ) → is_some o ≡ false
+    → MatchOption o (NoneHas names p) (λ s. path_at names s ≡ Some p) → NoneHas names p
 none_found names p None is found = found
 none_found names p (Some s) is found = absurd (cc is)
 
@@ -113,7 +116,8 @@ plans_create names owners p s n lot lots tables none free plan =
       groups = plan.groups ∙ ap (λ (g : List ℕ). g ++ take n (free_groups (tables_with names owners))) empty;
     }
 
-refused_free : (names : NamesView) (owners : OwnersView) (p : List (List ℕ)) (n : ℕ) (why : Refusal) → ¬ HasPath (tables_with names owners) p → ¬ NoneFree (tables_with names owners)
+refused_free : (names : NamesView) (owners : OwnersView) (p : List (List ℕ)) (n : ℕ) (why : Refusal)
+    → ¬ HasPath (tables_with names owners) p → ¬ NoneFree (tables_with names owners)
     → RefusesGroups (tables_with names owners) 0 n why → RefusesCreate (tables_with names owners) p n why
 refused_free names owners p n CubeFull fresh free is = (fresh, free, is)
 refused_free names owners p n NoGroups fresh free is = (fresh, free, is)

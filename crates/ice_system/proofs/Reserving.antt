@@ -21,12 +21,14 @@ pub record Gets (o : OwnersView) (s k : ℕ) (groups : List ℕ) : Type 0 where
 
 -- then the reserving isn't refused
 pub never_refused : {T : Type 0} (o : OwnersView) (s k : ℕ) (groups : List ℕ) (r : Result T OwnerFault) (e : OwnerFault) → Gets o s k groups
-    → ((r ≡ Err CubeFull) ↔ (64 < length (groups_at o s) + k)) → ((r ≡ Err NoGroups) ↔ ((length (groups_at o s) + k ≤ 64) × (length (free_of o) < k))) → r ≡ Err e → ⊥
+    → ((r ≡ Err CubeFull) ↔ (64 < length (groups_at o s) + k))
+    → ((r ≡ Err NoGroups) ↔ ((length (groups_at o s) + k ≤ 64) × (length (free_of o) < k))) → r ≡ Err e → ⊥
 never_refused o s k groups r CubeFull gets full none is = let more = full.0 is in omega (arith, more, gets.few)
 never_refused o s k groups r NoGroups gets full none is = let less = (none.0 is).1 in omega (arith, less, gets.enough)
 
 module _ (names : NamesView) (owners : OwnersView) (lots : AreLots owners) where
-  pub create_gets : (p : List (List ℕ)) (n : ℕ) (lot : LotView) → AreTables names owners → PlansCreate (tables_with names owners) p n lot → Gets owners lot.slot (length lot.groups) lot.groups
+  pub create_gets : (p : List (List ℕ)) (n : ℕ) (lot : LotView) → AreTables names owners → PlansCreate (tables_with names owners) p n lot
+      → Gets owners lot.slot (length lot.groups) lot.groups
   create_gets p n lot tables plan =
       let empty : groups_at owners lot.slot ≡ [] = sym (groups_with names owners lots lot.slot) ∙ no_groups names owners lots tables lot.slot plan.slot.free in
       let free : lot.groups ≡ take n (free_of owners) = plan.groups ∙ ap (take n) (free_with names owners) in
@@ -43,12 +45,15 @@ module _ (names : NamesView) (owners : OwnersView) (lots : AreLots owners) where
   pub grow_count : (s n : ℕ) (lot : LotView) → PlansGrow (tables_with names owners) s n lot → length lot.groups ≡ length (groups_at owners s) + n
   grow_count s n lot plan =
       let enough : n ≤ length (free_of owners) = subst (λ (g : List ℕ). n ≤ length g) (free_with names owners) plan.can.enough in
-      grown s n lot plan ∙ length-append (groups_at owners s) (take n (free_of owners)) ∙ ap (λ k. length (groups_at owners s) + k) (length-take-le n (free_of owners) enough)
+      grown s n lot plan ∙ length-append (groups_at owners s) (take n (free_of owners))
+      ∙ ap (λ k. length (groups_at owners s) + k) (length-take-le n (free_of owners) enough)
     where
-      grown : (s n : ℕ) (lot : LotView) → PlansGrow (tables_with names owners) s n lot → length lot.groups ≡ length (groups_at owners s ++ take n (free_of owners))
+      grown : (s n : ℕ) (lot : LotView) → PlansGrow (tables_with names owners) s n lot
+          → length lot.groups ≡ length (groups_at owners s ++ take n (free_of owners))
       grown s n lot plan = ap (λ (g : List ℕ). length g) (plan.groups ∙ rw (groups_with names owners lots s, free_with names owners) refl)
 
-  pub grow_gets : (s n : ℕ) (lot : LotView) → PlansGrow (tables_with names owners) s n lot → Gets owners s (length lot.groups - length (groups_at owners s)) lot.groups
+  pub grow_gets : (s n : ℕ) (lot : LotView) → PlansGrow (tables_with names owners) s n lot
+      → Gets owners s (length lot.groups - length (groups_at owners s)) lot.groups
   grow_gets s n lot plan =
       let enough : n ≤ length (free_of owners) = subst (λ (g : List ℕ). n ≤ length g) (free_with names owners) plan.can.enough in
       let count : length lot.groups - length (groups_at owners s) ≡ n = let all = grow_count s n lot plan in omega (arith, all) in
@@ -56,7 +61,9 @@ module _ (names : NamesView) (owners : OwnersView) (lots : AreLots owners) where
       record {
         few = omega (arith, count, few);
         enough = omega (arith, count, enough);
-        got = ap (λ k. groups_at owners s ++ take k (free_of owners)) count ∙ sym (plan.groups ∙ rw (groups_with names owners lots s, free_with names owners) refl);
+        got =
+            ap (λ k. groups_at owners s ++ take k (free_of owners)) count
+            ∙ sym (plan.groups ∙ rw (groups_with names owners lots s, free_with names owners) refl);
       }
 
 -- the same of a copy of the groups

@@ -105,5 +105,6 @@ pub row_set_at : (names copy new : NamesView) (s r : ℕ) (row : Option Row) →
 row_set_at names copy new s r row same here set = subst (λ n. RowSet n s row new) same (subst (λ x. RowSet copy x row new) here set)
 
 -- and of a copy of the groups
-pub changes_at : (owners copy new : OwnersView) (s r : ℕ) (groups : List ℕ) → copy ≡ owners → r ≡ s → ChangesLots copy new r groups → ChangesLots owners new s groups
+pub changes_at : (owners copy new : OwnersView) (s r : ℕ) (groups : List ℕ) → copy ≡ owners → r ≡ s → ChangesLots copy new r groups
+    → ChangesLots owners new s groups
 changes_at owners copy new s r groups same here change = subst (λ o. ChangesLots o new s groups) same (subst (λ x. ChangesLots copy new x groups) here change)

@@ -22,7 +22,8 @@ pub record SlotBecomes (s : ℕ) (row : Option Row) (groups : List ℕ) (t u : T
   pub groups_else : (r : ℕ) → r ≢ s → groups_of u r ≡ groups_of t r
 
 -- From tables t to u: each crash leaves one of the two, Ok the new ones at rest, Before the old ones at rest, and After a gate that is loose or open.
-pub record MovesTables {D X : Type 0} (state : D → DiskState) (left : D → ℕ → Image → List ℕ → Type 0) (t u : Tables) (result : Result X SystemFault) (old new : D) : Type 0 where
+pub record MovesTables {D X : Type 0} (state : D → DiskState) (left : D → ℕ → Image → List ℕ → Type 0) (t u : Tables)
+    (result : Result X SystemFault) (old new : D) : Type 0 where
   pub crash : CrashStep state left (Below 19) (EitherTables t u) old new
   pub done : OnOk result (Sure IsTable (AtRest u) (state new))
   pub before : IsErrOf result Before → Sure IsTable (AtRest t) (state new)
@@ -39,7 +40,8 @@ pub record HasChanges (t u : Tables) (entries : List Entry) : Type 0 where
   pub few : length entries ≤ 8
 
 -- A change of one slot, from the volume v to w. It fails Before with the volume as it was, or After, and then every later change fails so.
-pub record Changes {D X : Type 0} (state : D → DiskState) (left : D → ℕ → Image → List ℕ → Type 0) (s : ℕ) (row : Option Row) (groups : List ℕ) (v w : SystemView) (result : Result X SystemFault) (old new : D) : Type 0 where
+pub record Changes {D X : Type 0} (state : D → DiskState) (left : D → ℕ → Image → List ℕ → Type 0) (s : ℕ) (row : Option Row)
+    (groups : List ℕ) (v w : SystemView) (result : Result X SystemFault) (old new : D) : Type 0 where
   pub within : Within state left IsChange old new
   pub calm : OnOk result ((state new).faults ≡ (state old).faults)
   pub ready : OnOk result ((v.failed ≡ false) × (w.failed ≡ false))

@@ -68,7 +68,9 @@ lot_of_slot_1 = refl
 
 -- an image whose block k holds k alone, but for the gate and the header of slot 1 and those of the tables
 abbrev image : ℕ → Image
-image gate = map (λ k. if k == 289 then gate ∷ [] else if k == 290 then header 2 (sub_word ∷ word 9 ∷ []) else if k == 1 then gate ∷ [] else if k == 2 then system_header 1 (word 12 ∷ []) else k ∷ []) (range_with_len 0 600)
+image gate =
+    map (λ k. if k == 289 then gate ∷ [] else if k == 290 then header 2
+    (sub_word ∷ word 9 ∷ []) else if k == 1 then gate ∷ [] else if k == 2 then system_header 1 (word 12 ∷ []) else k ∷ []) (range_with_len 0 600)
 
 -- the effective blocks at an address, where there are any
 abbrev seen : Option (ℕ → List ℕ) → ℕ → List ℕ

@@ -63,7 +63,8 @@ unfolding lines_in
 lines_in-front [] ys = (lines_in ys, refl)
 lines_in-front (x ∷ xs) ys =
     let h = lines_in-front xs ys in
-    (elim (x == 10) as (λ y. IsFront (if y then [] ∷ lines_in xs else onto_line x (lines_in xs)) (if y then [] ∷ lines_in (xs ++ ys) else onto_line x (lines_in (xs ++ ys)))) [
+    (elim (x == 10) as (λ y. IsFront (if y then [] ∷ lines_in xs else onto_line x (lines_in xs))
+    (if y then [] ∷ lines_in (xs ++ ys) else onto_line x (lines_in (xs ++ ys)))) [
       | true ↦ (h.0, ap (λ ls. [] ∷ ls) h.1)
       | false ↦ front_onto x (lines_in xs) (lines_in (xs ++ ys)) h
     ])
@@ -108,7 +109,8 @@ part_of : (whole part rest : List ℕ) → whole ++ 10 ∷ [] ≡ part ++ rest �
 part_of whole part rest e some =
     let short : length part ≤ length whole = omega (arith, ap length e, length-append whole (10 ∷ []), length-append part rest) in
     sym (take-append-drop (length part) whole)
-    ∙ ap (λ t. t ++ drop (length part) whole) (sym (take-append-le (length part) whole (10 ∷ []) short) ∙ ap (take (length part)) e ∙ take_at part rest (length part) refl)
+    ∙ ap (λ t. t ++ drop (length part) whole)
+    (sym (take-append-le (length part) whole (10 ∷ []) short) ∙ ap (take (length part)) e ∙ take_at part rest (length part) refl)
 
 -- a part of a reply has none
 pub closings-part : (r : Response) (part rest : List ℕ) → HasNames r → text r ≡ part ++ rest → 0 < length rest → closings part ≡ 0
@@ -116,6 +118,7 @@ closings-part r part rest h e some =
     let whole = ended (data_lines r) ++ closing_line r in
     let is = part_of whole part rest (sym (text_end r) ∙ e) some in
     let front = lines_in-front part (drop (length part) whole) in
-    let found : lines_in whole ≡ data_lines r ++ [] = lines_in-ended (data_lines r) (closing_line r) (whole_data r h) ∙ ap (λ ls. data_lines r ++ ls) (lines_in-whole (closing_line r) (whole_closing r)) in
+    let found : lines_in whole ≡ data_lines r ++ [] = lines_in-ended (data_lines r) (closing_line r) (whole_data r h)
+    ∙ ap (λ ls. data_lines r ++ ls) (lines_in-whole (closing_line r) (whole_closing r)) in
     let same : data_lines r ++ [] ≡ lines_in part ++ front.0 = sym found ∙ ap lines_in is ∙ front.1 in
     omega (arith, ap (count_by is_closing) same, count-append is_closing (data_lines r) [], count-append is_closing (lines_in part) front.0, count_none is_closing (data_lines r) (data_lines_open r))

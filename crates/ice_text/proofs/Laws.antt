@@ -44,17 +44,20 @@ glyph_low d =
 onto_low : (k n : ℕ) (acc : List ℕ) → BeginsLow acc → BeginsLow (digits_onto k 10 false n acc)
 unfolding BeginsLow
 onto_low zero n acc h = h
-onto_low (suc k) n acc h = (elim (n / 10 == 0) as (λ y. BeginsLow (if y then digit_glyph false (n % 10) ∷ acc else digits_onto k 10 false (n / 10) (digit_glyph false (n % 10) ∷ acc))) [
-  | true ↦ glyph_low n
-  | false ↦ onto_low k (n / 10) (digit_glyph false (n % 10) ∷ acc) (glyph_low n)
-])
+onto_low (suc k) n acc h =
+    (elim (n / 10 == 0) as (λ y. BeginsLow
+    (if y then digit_glyph false (n % 10) ∷ acc else digits_onto k 10 false (n / 10) (digit_glyph false (n % 10) ∷ acc))) [
+      | true ↦ glyph_low n
+      | false ↦ onto_low k (n / 10) (digit_glyph false (n % 10) ∷ acc) (glyph_low n)
+    ])
 
 first_low : (k n : ℕ) → BeginsLow (digits_onto (suc k) 10 false n [])
 unfolding BeginsLow
-first_low k n = (elim (n / 10 == 0) as (λ y. BeginsLow (if y then digit_glyph false (n % 10) ∷ [] else digits_onto k 10 false (n / 10) (digit_glyph false (n % 10) ∷ []))) [
-  | true ↦ glyph_low n
-  | false ↦ onto_low k (n / 10) (digit_glyph false (n % 10) ∷ []) (glyph_low n)
-])
+first_low k n =
+    (elim (n / 10 == 0) as (λ y. BeginsLow (if y then digit_glyph false (n % 10) ∷ [] else digits_onto k 10 false (n / 10) (digit_glyph false (n % 10) ∷ []))) [
+      | true ↦ glyph_low n
+      | false ↦ onto_low k (n / 10) (digit_glyph false (n % 10) ∷ []) (glyph_low n)
+    ])
 
 decimal_low : (n : ℕ) → BeginsLow (decimal n)
 unfolding digits

@@ -76,7 +76,8 @@ count_of-decimal zero h = rw (decimal_digit 0 (omega arith)) refl
 count_of-decimal (suc n) h =
     let few : suc n < 10 ^ 20 = omega arith in
     count_from (decimal (suc n)) (suc n)
-    (plain (decimal (suc n)) (decimal_nonempty (suc n) h) (length-decimal-le 20 (suc n) (omega arith) few h) (first_decimal (suc n) (omega arith) h) (digits_decimal own (suc n) h))
+    (plain (decimal (suc n)) (decimal_nonempty (suc n) h) (length-decimal-le 20 (suc n) (omega arith) few h)
+    (first_decimal (suc n) (omega arith) h) (digits_decimal own (suc n) h))
     (digits_value-decimal own (suc n) h) h
 
 is_count-decimal : (n : ℕ) → n < 2 ^ 64 → is_count (decimal n) ≡ true
@@ -106,7 +107,8 @@ encoded_lower [] h = refl
 encoded_lower (b ∷ bytes) h =
     let byte : b < 256 = h 0 in
     both (is_lower_digit (slice_index lower_digits (b / 16))) _ (digit_at is_lower_digit lower_digits (b / 16) refl (omega arith))
-    (both (is_lower_digit (slice_index lower_digits (b % 16))) _ (digit_at is_lower_digit lower_digits (b % 16) refl (omega arith)) (encoded_lower bytes (λ i. h (suc i))))
+    (both (is_lower_digit (slice_index lower_digits (b % 16))) _ (digit_at is_lower_digit lower_digits (b % 16) refl (omega arith))
+    (encoded_lower bytes (λ i. h (suc i))))
 
 lower_other : (b : ℕ) → is_lower_digit b ≡ true → is_blank b ≡ false
 lower_other b h = grind (arith, nat_tests)
@@ -148,13 +150,15 @@ number_reads : (n : ℕ) → n < 2 ^ 64 → closing_of (codes "ok " ++ decimal n
 number_reads n h = ok_reads (decimal n) (decimal n ∷ []) (decimal_token n h) (rw (is_count-decimal n h) refl)
 
 dir_token : (n : ℕ) → n < 2 ^ 64 → tokens (codes "dir " ++ decimal n) ≡ codes "dir" ∷ decimal n ∷ []
-dir_token n h = tokens_word (codes "dir") (decimal n) (no_blank (λ b. not (is_blank b)) unnot (codes "dir") refl) ∙ ap (λ ws. codes "dir" ∷ ws) (decimal_token n h)
+dir_token n h =
+    tokens_word (codes "dir") (decimal n) (no_blank (λ b. not (is_blank b)) unnot (codes "dir") refl) ∙ ap (λ ws. codes "dir" ∷ ws) (decimal_token n h)
   where
     unnot : (b : ℕ) → not (is_blank b) ≡ true → is_blank b ≡ false
     unnot b h = grind (arith, nat_tests)
 
 file_token : (n : ℕ) → n < 2 ^ 64 → tokens (codes "file " ++ decimal n) ≡ codes "file" ∷ decimal n ∷ []
-file_token n h = tokens_word (codes "file") (decimal n) (no_blank (λ b. not (is_blank b)) unnot (codes "file") refl) ∙ ap (λ ws. codes "file" ∷ ws) (decimal_token n h)
+file_token n h =
+    tokens_word (codes "file") (decimal n) (no_blank (λ b. not (is_blank b)) unnot (codes "file") refl) ∙ ap (λ ws. codes "file" ∷ ws) (decimal_token n h)
   where
     unnot : (b : ℕ) → not (is_blank b) ≡ true → is_blank b ≡ false
     unnot b h = grind (arith, nat_tests)
@@ -174,7 +178,9 @@ pub values_read_back : ValuesReadBack
 unfolding tokens
 values_read_back Plain h = refl
 values_read_back (Number n) h = number_reads n h
-values_read_back (Bytes bytes) h = ok_reads (hex_token bytes) (hex_token bytes ∷ []) (hex_no_blank bytes h) (or_true (is_count (hex_token bytes)) (is_lower_hex (hex_token bytes)) (hex_lower bytes h))
+values_read_back (Bytes bytes) h =
+    ok_reads (hex_token bytes) (hex_token bytes ∷ []) (hex_no_blank bytes h)
+    (or_true (is_count (hex_token bytes)) (is_lower_hex (hex_token bytes)) (hex_lower bytes h))
 values_read_back (Dir n) h = ok_reads (codes "dir " ++ decimal n) (codes "dir" ∷ decimal n ∷ []) (dir_token n h) (is_count-decimal n h)
 values_read_back (File n) h = ok_reads (codes "file " ++ decimal n) (codes "file" ∷ decimal n ∷ []) (file_token n h) (is_count-decimal n h)
 values_read_back (Listed entries rows) h = number_reads (length entries + length rows) h
@@ -182,10 +188,12 @@ values_read_back (Checked blocks nodes done) h =
     ap (λ ws. closing_of (codes "ok" ++ ws)) (checked_words (decimal blocks) (decimal nodes) (decimal done))
     ∙ ok_reads (decimal blocks ++ 32 ∷ (decimal nodes ++ 32 ∷ decimal done)) (decimal blocks ∷ decimal nodes ∷ decimal done ∷ [])
     (three_tokens blocks nodes done h.0 h.1 h.2)
-    (both (is_count (decimal blocks)) _ (is_count-decimal blocks h.0) (both (is_count (decimal nodes)) _ (is_count-decimal nodes h.1) (is_count-decimal done h.2)))
+    (both (is_count (decimal blocks)) _ (is_count-decimal blocks h.0)
+    (both (is_count (decimal nodes)) _ (is_count-decimal nodes h.1) (is_count-decimal done h.2)))
 
 damage_reads : (rule : ℕ) → rule < 2 ^ 8 → refusal_of (codes "Damaged" ∷ decimal rule ∷ []) ≡ Some 15
-damage_reads rule h = ap (λ o. if is_small o then Some 15 else None) (count_of-decimal rule (omega arith)) ∙ ap (λ b. if b then Some 15 else None) (below rule (2 ^ 8) h)
+damage_reads rule h =
+    ap (λ o. if is_small o then Some 15 else None) (count_of-decimal rule (omega arith)) ∙ ap (λ b. if b then Some 15 else None) (below rule (2 ^ 8) h)
 
 -- the closing line of each refusal is read back
 pub refusals_read_back : RefusalsReadBack

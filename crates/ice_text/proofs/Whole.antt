@@ -32,7 +32,8 @@ second false b h = cc
 
 pub whole-append : (xs ys : List ℕ) → is_whole xs ≡ true → is_whole ys ≡ true → is_whole (xs ++ ys) ≡ true
 whole-append [] ys p q = q
-whole-append (x ∷ xs) ys p q = both (not (x == 10)) (is_whole (xs ++ ys)) (first (not (x == 10)) (is_whole xs) p) (whole-append xs ys (second (not (x == 10)) (is_whole xs) p) q)
+whole-append (x ∷ xs) ys p q =
+    both (not (x == 10)) (is_whole (xs ++ ys)) (first (not (x == 10)) (is_whole xs) p) (whole-append xs ys (second (not (x == 10)) (is_whole xs) p) q)
 
 -- ---- numbers
 
@@ -52,10 +53,12 @@ whole_glyph n =
 
 whole_onto : (k n : ℕ) (acc : List ℕ) → is_whole acc ≡ true → is_whole (digits_onto k 10 false n acc) ≡ true
 whole_onto zero n acc h = h
-whole_onto (suc k) n acc h = (elim (n / 10 == 0) as (λ y. is_whole (if y then digit_glyph false (n % 10) ∷ acc else digits_onto k 10 false (n / 10) (digit_glyph false (n % 10) ∷ acc)) ≡ true) [
-  | true ↦ both (not (digit_glyph false (n % 10) == 10)) (is_whole acc) (whole_glyph n) h
-  | false ↦ whole_onto k (n / 10) (digit_glyph false (n % 10) ∷ acc) (both (not (digit_glyph false (n % 10) == 10)) (is_whole acc) (whole_glyph n) h)
-])
+whole_onto (suc k) n acc h =
+    (elim (n / 10 == 0) as (λ y. is_whole
+    (if y then digit_glyph false (n % 10) ∷ acc else digits_onto k 10 false (n / 10) (digit_glyph false (n % 10) ∷ acc)) ≡ true) [
+      | true ↦ both (not (digit_glyph false (n % 10) == 10)) (is_whole acc) (whole_glyph n) h
+      | false ↦ whole_onto k (n / 10) (digit_glyph false (n % 10) ∷ acc) (both (not (digit_glyph false (n % 10) == 10)) (is_whole acc) (whole_glyph n) h)
+    ])
 
 whole_decimal : (n : ℕ) → is_whole (decimal n) ≡ true
 unfolding digits
@@ -99,7 +102,8 @@ whole_name c h = whole_bytes c (first (list_all is_name_byte c) _ (second (nat_l
 
 whole_slashes : (names : List (List ℕ)) → IsNameList names → is_whole (with_slashes names) ≡ true
 whole_slashes [] h = refl
-whole_slashes (c ∷ names) h = whole-append c (with_slashes names) (whole_name c (h 0 [] (omega arith))) (whole_slashes names (λ k d lt. h (suc k) d (omega arith)))
+whole_slashes (c ∷ names) h =
+    whole-append c (with_slashes names) (whole_name c (h 0 [] (omega arith))) (whole_slashes names (λ k d lt. h (suc k) d (omega arith)))
 
 whole_path : (names : List (List ℕ)) → IsNameList names → is_whole (text_of names) ≡ true
 whole_path [] h = refl

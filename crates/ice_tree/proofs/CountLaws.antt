@@ -40,7 +40,8 @@ module _ (f : Form) (one : f ≡ form_one) (mode : ℕ) (lot : LotView) (m : Map
       (done_set mode lot m m' t k (k + 1) few (subst (λ (g : Form). MapRecovers g mode lot m t k) one r) (subst (λ n. DoneSet m m' n) up set))
 
   -- and it can
-  pub count_room : (old : Tree) (n : ℕ) (g : Form) (op : Operation) → is_change op ≡ true → refusal old k n g op ≡ None → (e : OpFault) → IsCountFault e → (e ≡ Damaged Done → 2 ^ 63 ≤ long_at (m sub_address) 16 + 1) → e ≡ Disk
+  pub count_room : (old : Tree) (n : ℕ) (g : Form) (op : Operation) → is_change op ≡ true → refusal old k n g op ≡ None → (e : OpFault)
+      → IsCountFault e → (e ≡ Damaged Done → 2 ^ 63 ≤ long_at (m sub_address) 16 + 1) → e ≡ Disk
   count_room old n g op change none e is full =
       let few = recovers_small f mode lot m t k r in
       let more = not_last (is_change op) k change (refusal-none old k n g op why.Spent none) in

@@ -32,13 +32,15 @@ pub count-beside : (old new : List ℕ) → SameBeside (count_place false) 4 old
 count-beside old new same = word-beside old new (count_place false) 4 (count_place true) same (inr (omega arith))
 
 -- one more operation can be counted, so that the disk failed
-pub count-broken : (P : Rule → Type 0) (done : ℕ) (e : OpFault) → IsCountFault e → (e ≡ Damaged rule.Done → 2 ^ 63 ≤ done + 1) → done + 1 < 2 ^ 63 → IsFaultBy P e
+pub count-broken : (P : Rule → Type 0) (done : ℕ) (e : OpFault) → IsCountFault e → (e ≡ Damaged rule.Done → 2 ^ 63 ≤ done + 1)
+    → done + 1 < 2 ^ 63 → IsFaultBy P e
 count-broken P done Disk h full room = tt
 count-broken P done (Damaged rule.Done) h full room = absurd (omega (arith, full refl, room))
 count-broken P done _ h full room = absurd h
 
 -- a refusal that is handed on names the same rule, of which more holds
-pub broke-too : {A B : Type 0} (P Q : Rule → Type 0) → ((x : Rule) → P x → Q x) → (r : Refusal) → ((n : ℕ) → IsErrOf {T = A} (Err r) (code.Damaged n) → (x : Rule) × (n ≡ rule_number x) × P x)
+pub broke-too : {A B : Type 0} (P Q : Rule → Type 0) → ((x : Rule) → P x → Q x) → (r : Refusal)
+    → ((n : ℕ) → IsErrOf {T = A} (Err r) (code.Damaged n) → (x : Rule) × (n ≡ rule_number x) × P x)
     → (n : ℕ) → IsErrOf {T = B} (Err r) (code.Damaged n) → (x : Rule) × (n ≡ rule_number x) × Q x
 broke-too {A} {B} P Q go r found n named =
     let same : r ≡ code.Damaged n = refusal named in
@@ -57,7 +59,9 @@ IsSubRule rule.Mode = ⊤
 IsSubRule rule.Done = ⊤
 IsSubRule _ = ⊥
 
-first-rule : (a b c d e : Bool) (r : Rule) → (if not a then Some rule.Magic else if not b then Some rule.Version else if not c then Some rule.Slot else if not d then Some rule.Mode else if not e then Some rule.Done else None) ≡ Some r → IsSubRule r
+first-rule : (a b c d e : Bool) (r : Rule)
+    → (if not a then Some rule.Magic else if not b then Some rule.Version else if not c then Some rule.Slot else if not d then Some rule.Mode else if not e then Some rule.Done else None) ≡ Some r
+    → IsSubRule r
 first-rule false b c d e r h = subst IsSubRule (same_Some _ _ h) tt
 first-rule true false c d e r h = subst IsSubRule (same_Some _ _ h) tt
 first-rule true true false d e r h = subst IsSubRule (same_Some _ _ h) tt
@@ -67,7 +71,9 @@ first-rule true true true true true r h = absurd (None≢Some _ h)
 
 sub-names : (slot : ℕ) (bytes : List ℕ) (r : Rule) → sub_rule slot bytes ≡ Some r → IsSubRule r
 unfolding sub_rule
-sub-names slot bytes r h = first-rule (word_at bytes 0 == sub_magic) (word_at bytes 4 == 1) (slice_index bytes 8 == slot) (slice_index bytes 9 == 0) (nat_lt (long_at bytes 16) (2 ^ 63)) r h
+sub-names slot bytes r h =
+    first-rule (word_at bytes 0 == sub_magic) (word_at bytes 4 == 1) (slice_index bytes 8 == slot) (slice_index bytes 9 == 0)
+    (nat_lt (long_at bytes 16) (2 ^ 63)) r h
 
 -- a rule of the sub-super block is one of the first five
 pub sub-named : (slot : ℕ) (bytes : List ℕ) (r : Rule) → sub_rule slot bytes ≡ Some r → IsNamedIn sub_rules (Damaged r)

@@ -24,7 +24,8 @@ use Rattle.tree_spec.specs.Costs.{Form, form_one}
 use Rattle.ice_tree.proofs.MapDamage.{file-few}
 
 -- bytes can't be put
-pub write-blamed : (form : Form) → form ≡ form_one → (lot : LotView) (m : Map) (at end number : ℕ) → length lot.groups ≤ 64 → end ≤ form.longest_file → BytesFit form lot m at end number → (e : OpFault) → IsWriteFault e
+pub write-blamed : (form : Form) → form ≡ form_one → (lot : LotView) (m : Map) (at end number : ℕ) → length lot.groups ≤ 64
+    → end ≤ form.longest_file → BytesFit form lot m at end number → (e : OpFault) → IsWriteFault e
     → (e ≡ NoSpace → free_count false lot m + uses_of (blocks_for (inode_of m number).size) < uses_of (blocks_with (inode_of m number).size end))
     → (e ≡ Damaged Counts → 2 ^ 32 + uses_of (blocks_for (inode_of m number).size) ≤ counted false m + uses_of (blocks_with (inode_of m number).size end))
     → (e ≡ Damaged Kind → ¬ ReachesTo form at (inode_of m number)) → (e ≡ Damaged Bitmap → ¬ Reserved lot m)
@@ -39,30 +40,40 @@ write-blamed form one lot m at end number few short fits (Damaged Counts) h none
 write-blamed form one lot m at end number few short fits (Damaged Kind) h none full kind bitmap pointer = absurd (kind refl fits.file_is.reaches)
 write-blamed form one lot m at end number few short fits (Damaged Pointer) h none full kind bitmap pointer =
     let is = fits.file_is.reaches in
-    bad-map form lot m number (blocks_for (inode_of m number).size) fits.file_is.reached (inl (is.kind, omega (arith, is.small, ap (λ (g : Form). g.longest_file) one))) (map-file form (inode_of m number) is.kind) (pointer refl)
+    bad-map form lot m number (blocks_for (inode_of m number).size) fits.file_is.reached
+    (inl (is.kind, omega (arith, is.small, ap (λ (g : Form). g.longest_file) one))) (map-file form (inode_of m number) is.kind) (pointer refl)
 write-blamed form one lot m at end number few short fits (Damaged Bitmap) h none full kind bitmap pointer = inl (bitmap refl)
 write-blamed form one lot m at end number few short fits _ h none full kind bitmap pointer = absurd h
 
 -- a file can't be cut: what is damaged of it, whether or not a directory names it
-pub cut-loose : (form : Form) → form ≡ form_one → (lot : LotView) (m : Map) (len number : ℕ) → ReachesTo form len (inode_of m number) → (e : OpFault) → IsCutToFault e
-    → (e ≡ Damaged Kind → ¬ ReachesTo form len (inode_of m number)) → (e ≡ Damaged Counts → counted false m + uses_of (blocks_for len) < uses_of (blocks_for (inode_of m number).size))
-    → (e ≡ Damaged Bitmap → FreeOrTwice m (cut_off m (inode_of m number) (blocks_for (inode_of m number).size) (blocks_for len))) → (e ≡ Damaged Bitmap → 12 < blocks_for (inode_of m number).size → is_data lot (inode_of m number).single ≡ true)
+pub cut-loose : (form : Form) → form ≡ form_one → (lot : LotView) (m : Map) (len number : ℕ) → ReachesTo form len (inode_of m number)
+    → (e : OpFault) → IsCutToFault e
+    → (e ≡ Damaged Kind → ¬ ReachesTo form len (inode_of m number))
+    → (e ≡ Damaged Counts → counted false m + uses_of (blocks_for len) < uses_of (blocks_for (inode_of m number).size))
+    → (e ≡ Damaged Bitmap → FreeOrTwice m (cut_off m (inode_of m number) (blocks_for (inode_of m number).size) (blocks_for len)))
+    → (e ≡ Damaged Bitmap → 12 < blocks_for (inode_of m number).size → is_data lot (inode_of m number).single ≡ true)
     → (e ≡ Damaged Pointer → Misleads lot m (inode_of m number) (blocks_for (inode_of m number).size)) → IsFaultBy (LooseBroken lot m number) e
 cut-loose form one lot m len number file Disk f kind zero unused placed misled = tt
-cut-loose form one lot m len number file (Damaged Counts) f kind zero unused placed misled = inl (file.kind, omega (arith, file.small, ap (λ (g : Form). g.longest_file) one), omega (arith, zero refl))
+cut-loose form one lot m len number file (Damaged Counts) f kind zero unused placed misled =
+    inl (file.kind, omega (arith, file.small, ap (λ (g : Form). g.longest_file) one), omega (arith, zero refl))
 cut-loose form one lot m len number file (Damaged Kind) f kind zero unused placed misled = absurd (kind refl file)
 cut-loose form one lot m len number file (Damaged Bitmap) f kind zero unused placed misled =
     let x = inode_of m number in
     inl (file.kind, omega (arith, file.small, ap (λ (g : Form). g.longest_file) one), placed refl, free-or m x (blocks_for x.size) (off-free m x (blocks_for x.size) (blocks_for len) (count-less len x.size file.reaches) (unused refl)))
-cut-loose form one lot m len number file (Damaged Pointer) f kind zero unused placed misled = (file.kind, omega (arith, file.small, ap (λ (g : Form). g.longest_file) one), misled refl)
+cut-loose form one lot m len number file (Damaged Pointer) f kind zero unused placed misled =
+    (file.kind, omega (arith, file.small, ap (λ (g : Form). g.longest_file) one), misled refl)
 cut-loose form one lot m len number file _ f kind zero unused placed misled = absurd f
 
 -- where one does, the lot breaks that rule
-pub loose-blamed : (form : Form) (lot : LotView) (m : Map) (number : ℕ) → IsReached form lot m number → (e : OpFault) → IsFaultBy (LooseBroken lot m number) e → IsBrokenBy form lot m e
+pub loose-blamed : (form : Form) (lot : LotView) (m : Map) (number : ℕ) → IsReached form lot m number → (e : OpFault)
+    → IsFaultBy (LooseBroken lot m number) e → IsBrokenBy form lot m e
 loose-blamed form lot m number reached Disk h = tt
-loose-blamed form lot m number reached (Damaged Counts) (inl h) = inr (inr (few-counted form lot m number (blocks_for (inode_of m number).size) reached (inl (h.0, h.1)) (map-file form (inode_of m number) h.0) h.2))
+loose-blamed form lot m number reached (Damaged Counts) (inl h) =
+    inr (inr (few-counted form lot m number (blocks_for (inode_of m number).size) reached (inl (h.0, h.1)) (map-file form (inode_of m number) h.0) h.2))
 loose-blamed form lot m number reached (Damaged Counts) (inr h) = inr (inl h)
-loose-blamed form lot m number reached (Damaged Pointer) h = inl (bad-pointer form lot m number (blocks_for (inode_of m number).size) reached (inl (h.0, h.1)) (map-file form (inode_of m number) h.0) h.2)
-loose-blamed form lot m number reached (Damaged Bitmap) (inl h) = bad-bitmap form lot m number (blocks_for (inode_of m number).size) reached (inl (h.0, h.1)) (map-file form (inode_of m number) h.0) h.3
+loose-blamed form lot m number reached (Damaged Pointer) h =
+    inl (bad-pointer form lot m number (blocks_for (inode_of m number).size) reached (inl (h.0, h.1)) (map-file form (inode_of m number) h.0) h.2)
+loose-blamed form lot m number reached (Damaged Bitmap) (inl h) =
+    bad-bitmap form lot m number (blocks_for (inode_of m number).size) reached (inl (h.0, h.1)) (map-file form (inode_of m number) h.0) h.3
 loose-blamed form lot m number reached (Damaged Bitmap) (inr h) = inr (inr (inl (record { number = number; reached = reached; free = h })))
 loose-blamed form lot m number reached _ h = absurd h

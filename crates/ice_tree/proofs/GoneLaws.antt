@@ -115,7 +115,8 @@ dir-walk i number size (Found (tree.Dir (Entry c t es))) root r z e = absurd (so
 dir-walk i number size NotFound root r z e = absurd cc
 dir-walk i number size tree.NotDir root r z e = absurd cc
 
-spot-walk : (i dir entries : ℕ) (w : Walk) → Dir dir entries ≡ place_by i w → (es : Entries) × (w ≡ Found (tree.Dir es)) × (dir ≡ i) × (entries ≡ length (rows es))
+spot-walk : (i dir entries : ℕ) (w : Walk) → Dir dir entries ≡ place_by i w
+    → (es : Entries) × (w ≡ Found (tree.Dir es)) × (dir ≡ i) × (entries ≡ length (rows es))
 spot-walk i dir entries (Found (tree.File bytes)) e = absurd cc
 spot-walk i dir entries (Found (tree.Dir es)) e = (es, refl, first e, second e)
   where
@@ -128,7 +129,8 @@ spot-walk i dir entries NotFound e = absurd cc
 spot-walk i dir entries tree.NotDir e = absurd cc
 
 -- the directory at a place
-pub spot-is : (f : Form) (o : Table) (names : Names) (t : Tree) (p : Place) (spot : DirAt) → p ≡ place_at f o names t → p ≡ Dir spot.number spot.entries → IsDirAt f o names t spot
+pub spot-is : (f : Form) (o : Table) (names : Names) (t : Tree) (p : Place) (spot : DirAt) → p ≡ place_at f o names t
+    → p ≡ Dir spot.number spot.entries → IsDirAt f o names t spot
 spot-is f o names t p spot at is =
     let w = spot-walk (inode_on f o 0 names) spot.number spot.entries (walk names t) (sym is ∙ at) in
     record { inside = w.0; there = w.1; number = w.2; count = w.3 }
@@ -159,7 +161,8 @@ module _ (f : Form) (o : Table) (p : Names) (t : Tree) (below : is_root p ≡ fa
           bytes_are = g.2 ∙ s.bytes_are ∙ ap (λ w. length (bytes_found w)) (sym s.found);
         },
       ))
-      (λ r n. let e = has_entry p t s.there below s.found in absurd (n.1 (inode_on f o 0 (parent p)) (length (rows e.entries)) (is.at_parent ∙ ap (place_by (inode_on f o 0 (parent p))) e.there)))
+      (λ r n. let e = has_entry p t s.there below s.found in
+      absurd (n.1 (inode_on f o 0 (parent p)) (length (rows e.entries)) (is.at_parent ∙ ap (place_by (inode_on f o 0 (parent p))) e.there)))
 
   pub gone-file : (number size : ℕ) → ends.end ≡ File number size → (result : Result Removal Refusal)
       → MatchResult result (In number size) (λ r. (r ≡ code.NotDir) × ((dir entries : ℕ) → ends.parent ≢ Dir dir entries))
@@ -214,8 +217,11 @@ its-blocks (tree.Dir Nil) e = refl
 its-blocks (tree.Dir (Entry c t es)) e = absurd (subst T e tt)
 
 -- what its removal needs
-pub gone-needs : (f : Form) → f ≡ form_one → (mode : ℕ) (lot : LotView) (m : Map) (t : Tree) (k : ℕ) (p : Names) (gone : Removal) (need : Need) → MapRecovers f mode lot m t k → IsRemoval f (own f m) p t gone → removal_refusal p t ≡ None
-    → need.nodes ≡ 0 → need.lost ≡ 1 → need.blocks ≡ map_cost (dir_blocks f (gone.spot.entries - 1)) → need.freed ≡ map_cost (dir_blocks f gone.spot.entries) + map_cost (file_blocks gone.bytes) → Needs f t (next_tree (Remove p) t) need
+pub gone-needs : (f : Form) → f ≡ form_one
+    → (mode : ℕ) (lot : LotView) (m : Map) (t : Tree) (k : ℕ) (p : Names) (gone : Removal) (need : Need) → MapRecovers f mode lot m t k
+    → IsRemoval f (own f m) p t gone → removal_refusal p t ≡ None
+    → need.nodes ≡ 0 → need.lost ≡ 1 → need.blocks ≡ map_cost (dir_blocks f (gone.spot.entries - 1))
+    → need.freed ≡ map_cost (dir_blocks f gone.spot.entries) + map_cost (file_blocks gone.bytes) → Needs f t (next_tree (Remove p) t) need
 gone-needs f one mode lot m t k p gone need r is none n l b d =
     let g = removable p t none in
     let o : T (is_ordered t) = Reads-ordered f lot (own f m) 0 0 t r.holds.reads in

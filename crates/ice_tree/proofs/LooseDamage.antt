@@ -28,13 +28,15 @@ use Rattle.ice_tree.proofs.MapDamage.{leads-same}
 
 -- what a map uses hangs on its indirect block alone
 uses-same : (m m' : ℕ → List ℕ) (x : Inode) (c : ℕ) → (12 < c → m' x.single ≡ m x.single) → uses m' x c ≡ uses m x c
-uses-same m m' x c same = ap (λ xs. indirect_of x c ++ xs) (sym (whole m') ∙ same-run m' (m' x.single) x 0 c (λ h. refl) ∙ sym (same-run m (m' x.single) x 0 c same) ∙ whole m)
+uses-same m m' x c same =
+    ap (λ xs. indirect_of x c ++ xs) (sym (whole m') ∙ same-run m' (m' x.single) x 0 c (λ h. refl) ∙ sym (same-run m (m' x.single) x 0 c same) ∙ whole m)
   where
     whole : (n : ℕ → List ℕ) → blocks_between n x 0 c ≡ blocks_of n x c
     whole n = let e : c - 0 ≡ c = omega arith in ap (λ k. map (nth_block n x) (range_with_len 0 k)) e
 
 -- another map, of which data places beside these stayed: it uses what it used, or its indirect block is one of these, or none
-module _ (lot : LotView) (m m' : ℕ → List ℕ) (these : List ℕ) (stays : (b : ℕ) → is_data lot b ≡ true → has these b ≡ false → m' b ≡ m b) (x : Inode) (c : ℕ) where
+module _ (lot : LotView) (m m' : ℕ → List ℕ) (these : List ℕ) (stays : (b : ℕ) → is_data lot b ≡ true → has these b ≡ false → m' b ≡ m b)
+    (x : Inode) (c : ℕ) where
   abbrev Shares : Type 0
   Shares = (has these x.single ≡ true) × (has (uses m x c) x.single ≡ true)
 
@@ -54,20 +56,25 @@ module _ (lot : LotView) (m m' : ℕ → List ℕ) (these : List ℕ) (stays : (
   pub other-misled : Misleads lot m' x c → Misleads lot m x c ⊎ Shares
   other-misled bad =
       elim (nat_lt bad.block 12) as (λ t. nat_lt bad.block 12 ≡ t → Misleads lot m x c ⊎ Shares) [
-        | true ↦ λ t. let l : bad.block < 12 = grind (arith, nat_tests) in inl (record { block = bad.block; below = bad.below; bad = leads-direct lot m x bad.block l ∙ sym (leads-direct lot m' x bad.block l) ∙ bad.bad })
+        | true ↦ λ t.
+            let l : bad.block < 12 = grind (arith, nat_tests) in
+            inl (record { block = bad.block; below = bad.below; bad = leads-direct lot m x bad.block l ∙ sym (leads-direct lot m' x bad.block l) ∙ bad.bad })
         | false ↦ λ t.
             let l : 12 ≤ bad.block = grind (arith, nat_tests) in
             let low = bad.below in
             let long : 12 < c = omega arith in
             elim (has these x.single) as (λ u. has these x.single ≡ u → Misleads lot m x c ⊎ Shares) [
               | true ↦ λ u. inr (u, uses-single m x c long)
-              | false ↦ λ u. inl (record { block = bad.block; below = bad.below; bad = sym (leads-same lot m m' x bad.block (λ d. stays x.single d u)) ∙ bad.bad })
+              | false ↦ λ u.
+                  inl (record { block = bad.block; below = bad.below; bad = sym (leads-same lot m m' x bad.block (λ d. stays x.single d u)) ∙ bad.bad })
             ] refl
       ] refl
 
 -- two inodes share a block
-pub shared : (form : Form) (lot : LotView) (m : ℕ → List ℕ) (one other c d b : ℕ) → IsReached form lot m one → IsReached form lot m other → IsNode lot (inode_of m one) → IsNode lot (inode_of m other)
-    → map_length form (inode_of m one) ≡ c → map_length form (inode_of m other) ≡ d → one ≢ other → has (uses m (inode_of m one) c) b ≡ true → has (uses m (inode_of m other) d) b ≡ true → TwiceUsed form lot m
+pub shared : (form : Form) (lot : LotView) (m : ℕ → List ℕ) (one other c d b : ℕ) → IsReached form lot m one → IsReached form lot m other
+    → IsNode lot (inode_of m one) → IsNode lot (inode_of m other)
+    → map_length form (inode_of m one) ≡ c → map_length form (inode_of m other) ≡ d → one ≢ other
+    → has (uses m (inode_of m one) c) b ≡ true → has (uses m (inode_of m other) d) b ≡ true → TwiceUsed form lot m
 shared form lot m one other c d b r s x y long long_too apart h g = record {
   one = one;
   other = other;
@@ -76,12 +83,15 @@ shared form lot m one other c d b r s x y long long_too apart h g = record {
   reached_too = s;
   node = x;
   node_too = y;
-  twice = inr (apart, subst (λ n. has (uses m (inode_of m one) n) b ≡ true) (sym long) h, subst (λ n. has (uses m (inode_of m other) n) b ≡ true) (sym long_too) g);
+  twice =
+      inr (apart, subst (λ n. has (uses m (inode_of m one) n) b ≡ true) (sym long) h, subst (λ n. has (uses m (inode_of m other) n) b ≡ true) (sym long_too) g);
 }
 
 -- fewer blocks are counted than two use
-few-two : (form : Form) (lot : LotView) (m : ℕ → List ℕ) (one other c d : ℕ) → IsReached form lot m one → IsReached form lot m other → IsNode lot (inode_of m one) → IsNode lot (inode_of m other)
-    → map_length form (inode_of m one) ≡ c → map_length form (inode_of m other) ≡ d → one ≢ other → counted false m < uses_of c + uses_of d → FewCounted form lot m
+few-two : (form : Form) (lot : LotView) (m : ℕ → List ℕ) (one other c d : ℕ) → IsReached form lot m one → IsReached form lot m other
+    → IsNode lot (inode_of m one) → IsNode lot (inode_of m other)
+    → map_length form (inode_of m one) ≡ c → map_length form (inode_of m other) ≡ d → one ≢ other → counted false m < uses_of c + uses_of d
+    → FewCounted form lot m
 few-two form lot m one other c d r s x y long long_too apart few = record {
   one = one;
   other = other;
@@ -95,12 +105,14 @@ few-two form lot m one other c d r s x y long long_too apart few = record {
       let p = ap uses_of long in
       let q = ap uses_of long_too in
       let n : (one == other) ≡ false = grind (arith, nat_tests) in
-      let z : cond (one == other) 0 (length (node_uses form m other)) ≡ length (node_uses form m other) = ap (λ t. cond t 0 (length (node_uses form m other))) n in
+      let z : cond (one == other) 0 (length (node_uses form m other)) ≡ length (node_uses form m other) = ap
+      (λ t. cond t 0 (length (node_uses form m other))) n in
       omega arith;
 }
 
 -- an entry of a directory was taken
-module _ (form : Form) (lot : LotView) (m0 m1 : ℕ → List ℕ) (dir : ℕ) (reached : IsReached form lot m0 dir) (is : IsDirectory lot (inode_of m0 dir)) (gone : EntryGone lot form m0 m1 dir) where
+module _ (form : Form) (lot : LotView) (m0 m1 : ℕ → List ℕ) (dir : ℕ) (reached : IsReached form lot m0 dir)
+    (is : IsDirectory lot (inode_of m0 dir)) (gone : EntryGone lot form m0 m1 dir) where
   long : map_length form (inode_of m0 dir) ≡ entry_blocks form (inode_of m0 dir).size
   long = map-dir form (inode_of m0 dir) is.kind
 
@@ -126,37 +138,47 @@ module _ (form : Form) (lot : LotView) (m0 m1 : ℕ → List ℕ) (dir : ℕ) (r
       length-is : map_length form (inode_of m0 number) ≡ blocks_for (inode_of m0 number).size
       length-is = map-file form (inode_of m0 number) file
 
-      both : (b : ℕ) → has (dir_uses form m0 dir) b ≡ true → has (uses m0 (inode_of m0 number) (blocks_for (inode_of m0 number).size)) b ≡ true → TwiceUsed form lot m0
-      both b h g = shared form lot m0 number dir (blocks_for (inode_of m0 number).size) (entry_blocks form (inode_of m0 dir).size) b there reached node (inr is) length-is long (apart kind) g h
+      both : (b : ℕ) → has (dir_uses form m0 dir) b ≡ true
+          → has (uses m0 (inode_of m0 number) (blocks_for (inode_of m0 number).size)) b ≡ true → TwiceUsed form lot m0
+      both b h g =
+          shared form lot m0 number dir (blocks_for (inode_of m0 number).size)
+          (entry_blocks form (inode_of m0 dir).size) b there reached node (inr is) length-is long (apart kind) g h
 
       file-few : counted false m1 < uses_of (blocks_for (inode_of m1 number).size) → FewCounted form lot m0
       file-few few =
           let s = ap (λ (i : Inode). uses_of (blocks_for i.size)) same in
           let c = gone.counts in
-          few-two form lot m0 number dir (blocks_for (inode_of m0 number).size) (entry_blocks form (inode_of m0 dir).size) there reached node (inr is) length-is long (apart kind) (omega arith)
+          few-two form lot m0 number dir (blocks_for (inode_of m0 number).size)
+          (entry_blocks form (inode_of m0 dir).size) there reached node (inr is) length-is long (apart kind) (omega arith)
 
       file-misled : Misleads lot m1 (inode_of m1 number) (blocks_for (inode_of m1 number).size) → BadPointer form lot m0 ⊎ TwiceUsed form lot m0
       file-misled bad =
           ⊎_elim
           (λ l. inl (bad-pointer form lot m0 number (blocks_for (inode_of m0 number).size) there node length-is l))
           (λ s. inr (both (inode_of m0 number).single s.0 s.1))
-          (other-misled lot m0 m1 (dir_uses form m0 dir) gone.blocks (inode_of m0 number) (blocks_for (inode_of m0 number).size) (subst (λ (i : Inode). Misleads lot m1 i (blocks_for i.size)) same bad))
+          (other-misled lot m0 m1 (dir_uses form m0 dir) gone.blocks (inode_of m0 number) (blocks_for (inode_of m0 number).size)
+          (subst (λ (i : Inode). Misleads lot m1 i (blocks_for i.size)) same bad))
 
       file-unused : (12 < blocks_for (inode_of m1 number).size → is_data lot (inode_of m1 number).single ≡ true)
-          → UsesUnmarked m1 (inode_of m1 number) (blocks_for (inode_of m1 number).size) ⊎ HasTwice (uses m1 (inode_of m1 number) (blocks_for (inode_of m1 number).size)) → FreeBlock form lot m0 ⊎ TwiceUsed form lot m0
+          → UsesUnmarked m1 (inode_of m1 number) (blocks_for (inode_of m1 number).size) ⊎ HasTwice (uses m1 (inode_of m1 number) (blocks_for (inode_of m1 number).size))
+          → FreeBlock form lot m0 ⊎ TwiceUsed form lot m0
       file-unused placed bad =
           ⊎_elim
           (λ e. by e (subst (λ (i : Inode). UsesUnmarked m1 i (blocks_for i.size) ⊎ HasTwice (uses m1 i (blocks_for i.size))) same bad))
           (λ s. inr (both (inode_of m0 number).single s.0 s.1))
-          (other-uses lot m0 m1 (dir_uses form m0 dir) gone.blocks (inode_of m0 number) (blocks_for (inode_of m0 number).size) (subst (λ (i : Inode). 12 < blocks_for i.size → is_data lot i.single ≡ true) same placed))
+          (other-uses lot m0 m1 (dir_uses form m0 dir) gone.blocks (inode_of m0 number) (blocks_for (inode_of m0 number).size)
+          (subst (λ (i : Inode). 12 < blocks_for i.size → is_data lot i.single ≡ true) same placed))
         where
           by : uses m1 (inode_of m0 number) (blocks_for (inode_of m0 number).size) ≡ uses m0 (inode_of m0 number) (blocks_for (inode_of m0 number).size)
-              → UsesUnmarked m1 (inode_of m0 number) (blocks_for (inode_of m0 number).size) ⊎ HasTwice (uses m1 (inode_of m0 number) (blocks_for (inode_of m0 number).size)) → FreeBlock form lot m0 ⊎ TwiceUsed form lot m0
-          by e (inr t) = inr (twice-used form lot m0 number (blocks_for (inode_of m0 number).size) there node length-is (t.0, subst (λ xs. 2 ≤ times xs t.0) e t.1))
+              → UsesUnmarked m1 (inode_of m0 number) (blocks_for (inode_of m0 number).size) ⊎ HasTwice (uses m1 (inode_of m0 number) (blocks_for (inode_of m0 number).size))
+              → FreeBlock form lot m0 ⊎ TwiceUsed form lot m0
+          by e (inr t) =
+              inr (twice-used form lot m0 number (blocks_for (inode_of m0 number).size) there node length-is (t.0, subst (λ xs. 2 ≤ times xs t.0) e t.1))
           by e (inl u) =
               let here = ap (λ xs. has xs u.block) (sym e) ∙ u.uses in
               ⊎_elim
-              (λ f. inl (free-block form lot m0 number (blocks_for (inode_of m0 number).size) there node length-is (record { block = u.block; uses = here; unmarked = f })))
+              (λ f. inl (free-block form lot m0 number (blocks_for (inode_of m0 number).size) there node length-is
+              (record { block = u.block; uses = here; unmarked = f })))
               (λ s. inr (⊎_elim (λ h. both u.block h here) (λ t. dir-twice t) s))
               (gone.marks u.block u.unmarked)
 

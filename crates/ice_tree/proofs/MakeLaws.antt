@@ -49,7 +49,8 @@ take-fails NoNodes h n c = absurd (n refl)
 take-fails (Damaged Counts) h n c = absurd (c refl)
 take-fails _ h n c = absurd h
 
-pub add-fails : (e : OpFault) → IsAddFault e → (e ≡ NoSpace → ⊥) → (e ≡ Damaged Counts → ⊥) → (e ≡ Damaged Kind → ⊥) → (e ≡ Damaged Pointer → ⊥) → (e ≡ Damaged Bitmap → ⊥) → e ≡ Disk
+pub add-fails : (e : OpFault) → IsAddFault e → (e ≡ NoSpace → ⊥) → (e ≡ Damaged Counts → ⊥) → (e ≡ Damaged Kind → ⊥)
+    → (e ≡ Damaged Pointer → ⊥) → (e ≡ Damaged Bitmap → ⊥) → e ≡ Disk
 add-fails Disk h n c k p b = refl
 add-fails NoSpace h n c k p b = absurd (n refl)
 add-fails (Damaged Counts) h n c k p b = absurd (c refl)
@@ -93,7 +94,8 @@ module _ (t : Tree) (k n : ℕ) (p : Names) where
   one_left false h = let q = nodes-next t k n form_one (Make p) h refl in let m = total-placed (λ _. 1) (λ _. 1) p (File []) t (place_of false h) in omega arith
 
   -- and so do its blocks
-  pub blocks_left : (dir : Bool) → refusal t k n form_one (new_operation dir p) ≡ None → blocks form_one (at (parent p) (with_entry (last_name p) (made dir)) t) ≤ block_quota n
+  pub blocks_left : (dir : Bool) → refusal t k n form_one (new_operation dir p) ≡ None
+      → blocks form_one (at (parent p) (with_entry (last_name p) (made dir)) t) ≤ block_quota n
   blocks_left true h = blocks-next t k n form_one (Mkdir p) h refl
   blocks_left false h = blocks-next t k n form_one (Make p) h refl
 
@@ -112,11 +114,13 @@ made-beside : (mode : ℕ) (lot : LotView) (m : Map) (t : Tree) (k j : ℕ) (dir
 made-beside mode lot m t k j true b e = dir_beside mode lot m t k j b (fresh_value 2 (inode_of m j) e)
 made-beside mode lot m t k j false b e = file_beside mode lot m t k j b (fresh_value 1 (inode_of m j) e)
 
-made-reads : (lot : LotView) (m : Map) (j h : ℕ) (dir : Bool) → h ≤ deepest → j < 64 * length lot.groups → inode_of m j ≡ new_inode dir → Reads form_one lot (own form_one m) j h (made dir)
+made-reads : (lot : LotView) (m : Map) (j h : ℕ) (dir : Bool) → h ≤ deepest → j < 64 * length lot.groups → inode_of m j ≡ new_inode dir
+    → Reads form_one lot (own form_one m) j h (made dir)
 made-reads lot m j h true deep small e = fresh_dir lot m j h deep small (fresh_value 2 (inode_of m j) e)
 made-reads lot m j h false deep small e = fresh_file lot m j h deep small (fresh_value 1 (inode_of m j) e)
 
-module _ (mode : ℕ) (lot : LotView) (m0 : Map) (t : Tree) (k : ℕ) (p : Names) (dir : Bool) (spot : DirAt) (name : List ℕ) (few : length lot.groups ≤ 64) (x : Takes form_one mode lot m0 t k p dir spot name) where
+module _ (mode : ℕ) (lot : LotView) (m0 : Map) (t : Tree) (k : ℕ) (p : Names) (dir : Bool) (spot : DirAt) (name : List ℕ)
+    (few : length lot.groups ≤ 64) (x : Takes form_one mode lot m0 t k p dir spot name) where
   place : HasPlace p t
   place = place_of t k (length lot.groups) p dir x.accepted
 
@@ -153,18 +157,26 @@ module _ (mode : ℕ) (lot : LotView) (m0 : Map) (t : Tree) (k : ℕ) (p : Names
     spot_made = subst (WellMade lot form_one m2) here (beside_made mode lot m2 t k [] (j ∷ []) beside-put few (parent p) (Dir place.entries) place.there)
 
     spot_room : HasEntryRoom lot (inode_of m2 spot.number)
-    spot_room = subst (λ i. HasEntryRoom lot (inode_of m2 i)) here (beside_room mode lot m2 t k [] (j ∷ []) beside-put (omega arith) (parent p) place.entries place.there)
+    spot_room =
+        subst (λ i. HasEntryRoom lot (inode_of m2 i)) here
+        (beside_room mode lot m2 t k [] (j ∷ []) beside-put (omega arith) (parent p) place.entries place.there)
 
     -- no row can be added, or none can be counted
     add_fault : (e : OpFault) → IsAddFault e
         → (e ≡ NoSpace → free_count false lot m2 + uses_of (entry_blocks form_one (inode_of m2 spot.number).size) < uses_of (entry_blocks form_one ((inode_of m2 spot.number).size + 1)))
         → (e ≡ Damaged Counts → 2 ^ 32 + uses_of (entry_blocks form_one (inode_of m2 spot.number).size) ≤ counted false m2 + uses_of (entry_blocks form_one ((inode_of m2 spot.number).size + 1)))
-        → (e ≡ Damaged Kind → ¬ HasEntryRoom lot (inode_of m2 spot.number)) → (e ≡ Damaged Pointer → ¬ WellMade lot form_one m2 spot.number) → (e ≡ Damaged Bitmap → ¬ Reserved lot m2) → e ≡ Disk
+        → (e ≡ Damaged Kind → ¬ HasEntryRoom lot (inode_of m2 spot.number))
+        → (e ≡ Damaged Pointer → ¬ WellMade lot form_one m2 spot.number) → (e ≡ Damaged Bitmap → ¬ Reserved lot m2) → e ≡ Disk
     add_fault e h none full kind pointer unreserved = add-fails e h
-        (λ q. subst (λ i. ¬ (free_count false lot m2 + uses_of (entry_blocks form_one (inode_of m2 i).size) < uses_of (entry_blocks form_one ((inode_of m2 i).size + 1)))) here
-        (add_fits mode lot m2 t k few j (length (parent p) + 1) (made dir) (used_inodes form_one (own form_one m2) j (made dir)) (made-beside mode lot m2 t k j dir beside-put n.put.value) (made-reads lot m2 j (length (parent p) + 1) dir deep n.small n.put.value)
+        (λ q. subst
+        (λ i. ¬ (free_count false lot m2 + uses_of (entry_blocks form_one (inode_of m2 i).size) < uses_of
+        (entry_blocks form_one ((inode_of m2 i).size + 1)))) here
+        (add_fits mode lot m2 t k few j (length (parent p) + 1) (made dir) (used_inodes form_one (own form_one m2) j (made dir))
+        (made-beside mode lot m2 t k j dir beside-put n.put.value) (made-reads lot m2 j (length (parent p) + 1) dir deep n.small n.put.value)
         (parent p) (last_name p) place.entries place.there place.free (blocks_left t k (length lot.groups) p dir x.accepted)) (none q))
-        (λ q. subst (λ i. ¬ (2 ^ 32 + uses_of (entry_blocks form_one (inode_of m2 i).size) ≤ counted false m2 + uses_of (entry_blocks form_one ((inode_of m2 i).size + 1)))) here
+        (λ q. subst
+        (λ i. ¬ (2 ^ 32 + uses_of (entry_blocks form_one (inode_of m2 i).size) ≤ counted false m2 + uses_of
+        (entry_blocks form_one ((inode_of m2 i).size + 1)))) here
         (add_counts mode lot m2 t k few [] (j ∷ []) beside-put (parent p) place.entries place.there) (full q))
         (λ q. kind q spot_room)
         (λ q. pointer q spot_made)
@@ -176,21 +188,27 @@ module _ (mode : ℕ) (lot : LotView) (m0 : Map) (t : Tree) (k : ℕ) (p : Names
       good = record { is = subst (λ c. is_name c ≡ true) x.name_is x.proper; short = subst (λ c. length c ≤ 59) x.name_is short }
 
       set-here : DirSet lot form_one m2 m3 (inode_on form_one (own form_one m0) 0 (parent p)) (dir_rows_of form_one m2 (inode_on form_one (own form_one m0) 0 (parent p)) ++ (last_name p, j) ∷ [])
-      set-here = subst (λ i. DirSet lot form_one m2 m3 i (dir_rows_of form_one m2 i ++ (last_name p, j) ∷ [])) x.spot_is.number (subst (λ c. DirSet lot form_one m2 m3 spot.number (dir_rows_of form_one m2 spot.number ++ (c, j) ∷ [])) x.name_is set)
+      set-here =
+          subst (λ i. DirSet lot form_one m2 m3 i (dir_rows_of form_one m2 i ++ (last_name p, j) ∷ [])) x.spot_is.number
+          (subst (λ c. DirSet lot form_one m2 m3 spot.number (dir_rows_of form_one m2 spot.number ++ (c, j) ∷ [])) x.name_is set)
 
       node_made : MapRecovers form_one mode lot m3 (next_tree (new_operation dir p) t) k
       node_made = by dir x.recovers n.took n.small n.taken n.put n.there
         where
-          by : (d : Bool) → MapRecovers form_one mode lot m0 t k → TookInode m0 m1 j → j < 64 * length lot.groups → OnlyAt (sub_address ∷ bitmap_of true j ∷ []) m0 m1 → InodeSet m1 m2 j (new_inode d) → OnlyAt (inode_address j ∷ []) m1 m2
+          by : (d : Bool) → MapRecovers form_one mode lot m0 t k → TookInode m0 m1 j → j < 64 * length lot.groups
+              → OnlyAt (sub_address ∷ bitmap_of true j ∷ []) m0 m1 → InodeSet m1 m2 j (new_inode d) → OnlyAt (inode_address j ∷ []) m1 m2
               → MapRecovers form_one mode lot m3 (next_tree (new_operation d p) t) k
           by true r took small taken put there =
-              dir_made mode lot m0 m1 m2 m3 t k (parent p) (last_name p) j place.entries (new_inode true) few r took small taken put there place.there place.free good deep set-here (fresh_value 2 (new_inode true) refl)
+              dir_made mode lot m0 m1 m2 m3 t k (parent p) (last_name p) j place.entries
+              (new_inode true) few r took small taken put there place.there place.free good deep set-here (fresh_value 2 (new_inode true) refl)
           by false r took small taken put there =
-              file_made mode lot m0 m1 m2 m3 t k (parent p) (last_name p) j place.entries (new_inode false) few r took small taken put there place.there place.free good deep set-here (fresh_value 1 (new_inode false) refl)
+              file_made mode lot m0 m1 m2 m3 t k (parent p) (last_name p) j place.entries
+              (new_inode false) few r took small taken put there place.there place.free good deep set-here (fresh_value 1 (new_inode false) refl)
 
 -- ---- the same in the form that a cube has
 
-module _ (f : Form) (one : f ≡ form_one) (form : Form) (sized : form ≡ form_one) (mode : ℕ) (lot : LotView) (m0 : Map) (t : Tree) (k : ℕ) (p : Names) (dir : Bool) (spot : DirAt) (name : List ℕ) (few : length lot.groups ≤ 64)
+module _ (f : Form) (one : f ≡ form_one) (form : Form) (sized : form ≡ form_one) (mode : ℕ) (lot : LotView) (m0 : Map) (t : Tree) (k : ℕ)
+    (p : Names) (dir : Bool) (spot : DirAt) (name : List ℕ) (few : length lot.groups ≤ 64)
     (x : Takes f mode lot m0 t k p dir spot name) where
   as_one : Takes form_one mode lot m0 t k p dir spot name
   as_one = subst (λ g. Takes g mode lot m0 t k p dir spot name) one x
@@ -209,14 +227,22 @@ module _ (f : Form) (one : f ≡ form_one) (form : Form) (sized : form ≡ form_
     pub add_sound : (e : OpFault) → IsAddFault e
         → (e ≡ NoSpace → free_count false lot m2 + uses_of (entry_blocks form (inode_of m2 spot.number).size) < uses_of (entry_blocks form ((inode_of m2 spot.number).size + 1)))
         → (e ≡ Damaged Counts → 2 ^ 32 + uses_of (entry_blocks form (inode_of m2 spot.number).size) ≤ counted false m2 + uses_of (entry_blocks form ((inode_of m2 spot.number).size + 1)))
-        → (e ≡ Damaged Kind → ¬ HasEntryRoom lot (inode_of m2 spot.number)) → (e ≡ Damaged Pointer → ¬ WellMade lot form m2 spot.number) → (e ≡ Damaged Bitmap → ¬ Reserved lot m2) → e ≡ Disk
+        → (e ≡ Damaged Kind → ¬ HasEntryRoom lot (inode_of m2 spot.number)) → (e ≡ Damaged Pointer → ¬ WellMade lot form m2 spot.number)
+        → (e ≡ Damaged Bitmap → ¬ Reserved lot m2) → e ≡ Disk
     add_sound e h none full kind pointer unreserved = add_fault mode lot m0 t k p dir spot name few as_one m1 m2 j n e h
-        (λ q. subst (λ s. free_count false lot m2 + uses_of (entry_blocks s (inode_of m2 spot.number).size) < uses_of (entry_blocks s ((inode_of m2 spot.number).size + 1))) sized (none q))
-        (λ q. subst (λ s. 2 ^ 32 + uses_of (entry_blocks s (inode_of m2 spot.number).size) ≤ counted false m2 + uses_of (entry_blocks s ((inode_of m2 spot.number).size + 1))) sized (full q))
+        (λ q. subst
+        (λ s. free_count false lot m2 + uses_of (entry_blocks s (inode_of m2 spot.number).size) < uses_of
+        (entry_blocks s ((inode_of m2 spot.number).size + 1))) sized (none q))
+        (λ q. subst
+        (λ s. 2 ^ 32 + uses_of (entry_blocks s (inode_of m2 spot.number).size) ≤ counted false m2 + uses_of
+        (entry_blocks s ((inode_of m2 spot.number).size + 1))) sized (full q))
         kind
         (λ q. subst (λ s. ¬ WellMade lot s m2 spot.number) sized (pointer q))
         unreserved
 
-    pub node_recovers : length name ≤ 59 → (m3 : Map) → DirSet lot form m2 m3 spot.number (dir_rows_of form m2 spot.number ++ (name, j) ∷ []) → MapRecovers f mode lot m3 (next_tree (new_operation dir p) t) k
+    pub node_recovers : length name ≤ 59 → (m3 : Map)
+        → DirSet lot form m2 m3 spot.number (dir_rows_of form m2 spot.number ++ (name, j) ∷ [])
+        → MapRecovers f mode lot m3 (next_tree (new_operation dir p) t) k
     node_recovers short m3 set = subst (λ g. MapRecovers g mode lot m3 (next_tree (new_operation dir p) t) k) (sym one)
-        (node_made mode lot m0 t k p dir spot name few as_one m1 m2 j n short m3 (subst (λ s. DirSet lot s m2 m3 spot.number (dir_rows_of s m2 spot.number ++ (name, j) ∷ [])) sized set))
+        (node_made mode lot m0 t k p dir spot name few as_one m1 m2 j n short m3
+        (subst (λ s. DirSet lot s m2 m3 spot.number (dir_rows_of s m2 spot.number ++ (name, j) ∷ [])) sized set))

@@ -35,7 +35,8 @@ file-few n h =
     omega (arith, a, r, h, uses-few (nat_lt 12 (blocks_for n)) (blocks_for n))
 
 -- what the blocks of a map are hangs on its indirect block alone
-pub leads-same : (lot : LotView) (m m' : Map) (x : Inode) (k : ℕ) → (is_data lot x.single ≡ true → m' x.single ≡ m x.single) → leads lot m' x k ≡ leads lot m x k
+pub leads-same : (lot : LotView) (m m' : Map) (x : Inode) (k : ℕ) → (is_data lot x.single ≡ true → m' x.single ≡ m x.single)
+    → leads lot m' x k ≡ leads lot m x k
 leads-same lot m m' x k same =
     elim (nat_lt k 12) as (λ t. nat_lt k 12 ≡ t → leads lot m' x k ≡ leads lot m x k) [
       | true ↦ λ t. let l : k < 12 = grind (arith, nat_tests) in leads-direct lot m' x k l ∙ sym (leads-direct lot m x k l)
@@ -47,5 +48,6 @@ leads-same lot m m' x k same =
           ] refl
     ] refl
 
-pub misleads-same : (lot : LotView) (m m' : Map) (x : Inode) (c : ℕ) → (is_data lot x.single ≡ true → m' x.single ≡ m x.single) → Misleads lot m' x c → Misleads lot m x c
+pub misleads-same : (lot : LotView) (m m' : Map) (x : Inode) (c : ℕ) → (is_data lot x.single ≡ true → m' x.single ≡ m x.single)
+    → Misleads lot m' x c → Misleads lot m x c
 misleads-same lot m m' x c same bad = record { block = bad.block; below = bad.below; bad = sym (leads-same lot m m' x bad.block same) ∙ bad.bad }

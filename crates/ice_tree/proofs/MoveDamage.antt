@@ -40,7 +40,8 @@ unfolding is_data
 low-place lot b h = grind (arith, nat_tests)
 
 -- an entry was taken, and is to be added
-module _ (form : Form) (e64 : form ≡ form_one) (lot : LotView) (few : length lot.groups ≤ 64) (m0 m1 : ℕ → List ℕ) (name : List ℕ) (step : Move) (is : MoveIs form lot m0 name step) (fits : RowFits form lot m0 step) (differ : step.same ≡ false)
+module _ (form : Form) (e64 : form ≡ form_one) (lot : LotView) (few : length lot.groups ≤ 64) (m0 m1 : ℕ → List ℕ) (name : List ℕ)
+    (step : Move) (is : MoveIs form lot m0 name step) (fits : RowFits form lot m0 step) (differ : step.same ≡ false)
     (gone : EntryGone lot form m0 m1 step.from.number) where
   abbrev from : ℕ
   from = step.from.number
@@ -116,7 +117,8 @@ module _ (form : Form) (e64 : form ≡ form_one) (lot : LotView) (few : length l
     where
       here : to ≡ from → BadPointer form lot m0 ⊎ TwiceUsed form lot m0
       here e =
-          bad-map form lot m0 from (entry_blocks form (inode_of m0 from).size) is.from_is.reached (inr is.from_is.dir) (map-dir form (inode_of m0 from) is.from_is.dir.kind)
+          bad-map form lot m0 from (entry_blocks form (inode_of m0 from).size) is.from_is.reached (inr is.from_is.dir)
+          (map-dir form (inode_of m0 from) is.from_is.dir.kind)
           (gone.leads (subst (λ i. Misleads lot m1 (inode_of m1 i) (entry_blocks form (inode_of m1 i).size)) e bad))
 
       there : to ≢ from → BadPointer form lot m0 ⊎ TwiceUsed form lot m0
@@ -125,7 +127,8 @@ module _ (form : Form) (e64 : form ≡ form_one) (lot : LotView) (few : length l
           let c = entry_blocks form (inode_of m0 to).size in
           ⊎_elim
           (λ l. inl (bad-pointer form lot m0 to c is.to_is.reached (inr is.to_is.dir) (map-dir form x is.to_is.dir.kind) l))
-          (λ s. inr (shared form lot m0 to from c (entry_blocks form (inode_of m0 from).size) x.single is.to_is.reached is.from_is.reached (inr is.to_is.dir) (inr is.from_is.dir) (map-dir form x is.to_is.dir.kind)
+          (λ s. inr (shared form lot m0 to from c (entry_blocks form (inode_of m0 from).size) x.single is.to_is.reached is.from_is.reached
+          (inr is.to_is.dir) (inr is.from_is.dir) (map-dir form x is.to_is.dir.kind)
           (map-dir form (inode_of m0 from) is.from_is.dir.kind) n s.1 s.0))
           (other-misled lot m0 m1 (dir_uses form m0 from) gone.blocks x c (subst (λ (i : Inode). Misleads lot m1 i (entry_blocks form i.size)) (to-same n) bad))
 
@@ -136,7 +139,8 @@ module _ (form : Form) (e64 : form ≡ form_one) (lot : LotView) (few : length l
   pub add-blamed : (e : OpFault) → IsAddFault e
       → (e ≡ NoSpace → free_count false lot m1 + uses_of (entry_blocks form (inode_of m1 to).size) < uses_of (entry_blocks form ((inode_of m1 to).size + 1)))
       → (e ≡ Damaged Counts → 2 ^ 32 + uses_of (entry_blocks form (inode_of m1 to).size) ≤ counted false m1 + uses_of (entry_blocks form ((inode_of m1 to).size + 1)))
-      → (e ≡ Damaged Kind → ¬ HasEntryRoom lot (inode_of m1 to)) → (e ≡ Damaged Bitmap → ¬ Reserved lot m1) → (e ≡ Damaged Pointer → Misleads lot m1 (inode_of m1 to) (entry_blocks form (inode_of m1 to).size))
+      → (e ≡ Damaged Kind → ¬ HasEntryRoom lot (inode_of m1 to)) → (e ≡ Damaged Bitmap → ¬ Reserved lot m1)
+      → (e ≡ Damaged Pointer → Misleads lot m1 (inode_of m1 to) (entry_blocks form (inode_of m1 to).size))
       → IsBrokenBy form lot m0 e
   add-blamed Disk f none most kind unreserved misled = tt
   add-blamed NoSpace f none most kind unreserved misled = absurd (no-space (none refl))

@@ -30,7 +30,8 @@ use Rattle.ice_tree.proofs.MapDamage.{dir-few, misleads-same}
 
 module _ (form : Form) (e64 : form ≡ form_one) (lot : LotView) (few : length lot.groups ≤ 64) (m0 : Map) (spot : DirAt) (fits : NewFits form lot m0 spot) where
   -- no inode can be taken
-  pub take-blamed : (e : OpFault) → IsTakeInodeFault e → (e ≡ NoNodes → AllUsed true lot m0) → (e ≡ Damaged Counts → counted true m0 ≡ 2 ^ 32 - 1) → IsBrokenBy form lot m0 e
+  pub take-blamed : (e : OpFault) → IsTakeInodeFault e → (e ≡ NoNodes → AllUsed true lot m0)
+      → (e ≡ Damaged Counts → counted true m0 ≡ 2 ^ 32 - 1) → IsBrokenBy form lot m0 e
   take-blamed Disk h none full = tt
   take-blamed NoNodes h none full =
       let z : free_count true lot m0 ≡ 0 = count_none (λ i. not (used true m0 i)) (64 * length lot.groups) (λ i l. ap not (none refl i l)) in
@@ -45,7 +46,8 @@ module _ (form : Form) (e64 : form ≡ form_one) (lot : LotView) (few : length l
     same-node : inode_of m2 spot.number ≡ inode_of m0 spot.number
     same-node =
         put.put.others spot.number (λ e. apart (sym e))
-        ∙ ap (λ (b : List ℕ). inode_at b (inode_index spot.number)) (only-two sub_address (bitmap_of true j) m0 m1 put.taken (inode_address spot.number) (inode_not_sub spot.number) (inode_not_bitmap spot.number _))
+        ∙ ap (λ (b : List ℕ). inode_at b (inode_index spot.number))
+        (only-two sub_address (bitmap_of true j) m0 m1 put.taken (inode_address spot.number) (inode_not_sub spot.number) (inode_not_bitmap spot.number _))
 
     same-blocks : (b : ℕ) → used_block m2 b ≡ used_block m0 b
     same-blocks b = used-same false m1 m2 b (λ o. only-one (inode_address j) m1 m2 put.there (256 * o) (λ e. inode_not_bitmap j o (sym e))) ∙ put.took.others b
@@ -66,7 +68,9 @@ module _ (form : Form) (e64 : form ≡ form_one) (lot : LotView) (few : length l
     pub add-blamed : (e : OpFault) → IsAddFault e
         → (e ≡ NoSpace → free_count false lot m2 + uses_of (entry_blocks form (inode_of m2 spot.number).size) < uses_of (entry_blocks form ((inode_of m2 spot.number).size + 1)))
         → (e ≡ Damaged Counts → 2 ^ 32 + uses_of (entry_blocks form (inode_of m2 spot.number).size) ≤ counted false m2 + uses_of (entry_blocks form ((inode_of m2 spot.number).size + 1)))
-        → (e ≡ Damaged Kind → ¬ HasEntryRoom lot (inode_of m2 spot.number)) → (e ≡ Damaged Pointer → Misleads lot m2 (inode_of m2 spot.number) (entry_blocks form (inode_of m2 spot.number).size)) → (e ≡ Damaged Bitmap → ¬ Reserved lot m2) → IsBrokenBy form lot m0 e
+        → (e ≡ Damaged Kind → ¬ HasEntryRoom lot (inode_of m2 spot.number))
+        → (e ≡ Damaged Pointer → Misleads lot m2 (inode_of m2 spot.number) (entry_blocks form (inode_of m2 spot.number).size))
+        → (e ≡ Damaged Bitmap → ¬ Reserved lot m2) → IsBrokenBy form lot m0 e
     add-blamed Disk h none full kind pointer unreserved = tt
     add-blamed NoSpace h none full kind pointer unreserved =
         let q = subst (λ x. free_count false lot m2 + uses_of (entry_blocks form x) < uses_of (entry_blocks form (x + 1))) same-size (none refl) in
@@ -76,10 +80,16 @@ module _ (form : Form) (e64 : form ≡ form_one) (lot : LotView) (few : length l
         let small = fits.spot_is.dir.few in
         let is = fits.spot_is.entries in
         inl (record { inodes = false; many = omega (arith, few, q, same-count, dir-few form (spot.entries + 1) e64 (omega (arith, few, small, is))) })
-    add-blamed (Damaged Kind) h none full kind pointer unreserved = absurd (kind refl (subst (λ (x : Inode). HasEntryRoom lot x) (sym same-node) (record { is = fits.spot_is.dir; room = omega (arith, fits.room, fits.spot_is.entries) })))
+    add-blamed (Damaged Kind) h none full kind pointer unreserved =
+        absurd (kind refl
+        (subst (λ (x : Inode). HasEntryRoom lot x) (sym same-node)
+        (record { is = fits.spot_is.dir; room = omega (arith, fits.room, fits.spot_is.entries) })))
     add-blamed (Damaged Pointer) h none full kind pointer unreserved =
         let x = inode_of m0 spot.number in
-        let bad = misleads-same lot m0 m2 x (entry_blocks form x.size) (λ d. same-data x.single d) (subst (λ (y : Inode). Misleads lot m2 y (entry_blocks form y.size)) same-node (pointer refl)) in
-        inl (bad-pointer form lot m0 spot.number (entry_blocks form x.size) fits.spot_is.reached (inr fits.spot_is.dir) (map-dir form x fits.spot_is.dir.kind) bad)
-    add-blamed (Damaged Bitmap) h none full kind pointer unreserved = inl (λ reserved. unreserved refl (record { set = λ b l r. same-blocks b ∙ reserved.set b l r }))
+        let bad = misleads-same lot m0 m2 x (entry_blocks form x.size) (λ d. same-data x.single d)
+        (subst (λ (y : Inode). Misleads lot m2 y (entry_blocks form y.size)) same-node (pointer refl)) in
+        inl (bad-pointer form lot m0 spot.number (entry_blocks form x.size) fits.spot_is.reached (inr fits.spot_is.dir)
+        (map-dir form x fits.spot_is.dir.kind) bad)
+    add-blamed (Damaged Bitmap) h none full kind pointer unreserved =
+        inl (λ reserved. unreserved refl (record { set = λ b l r. same-blocks b ∙ reserved.set b l r }))
     add-blamed _ h none full kind pointer unreserved = absurd h

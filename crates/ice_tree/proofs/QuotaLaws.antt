@@ -24,31 +24,38 @@ few_blocks n x f h t e = grind (arith, nat_tests)
 many_blocks : (n x : ℕ) (f : Form) → block_quota n < x → (t : Tree) → blocks f t ≡ x → blocks_refusal n f t ≡ Some why.NoSpace
 many_blocks n x f h t e = grind (arith, nat_tests)
 
-module _ (f : Form) (one : f ≡ form_one) (mode : ℕ) (lot : LotView) (m : Map) (t next : Tree) (k : ℕ) (need : Need) (r : MapRecovers f mode lot m t k) (n : Needs f t next need) where
+module _ (f : Form) (one : f ≡ form_one) (mode : ℕ) (lot : LotView) (m : Map) (t next : Tree) (k : ℕ) (need : Need)
+    (r : MapRecovers f mode lot m t k) (n : Needs f t next need) where
   nodes_free : free_count true lot m + nodes t ≡ node_quota (length lot.groups)
   nodes_free = free_nodes_are mode lot m t k (subst (λ (g : Form). MapRecovers g mode lot m t k) one r)
 
   blocks_free : length lot.groups ≤ 64 → free_count false lot m + blocks f t ≡ block_quota (length lot.groups)
-  blocks_free few = subst (λ (g : Form). free_count false lot m + blocks g t ≡ block_quota (length lot.groups)) (sym one) (free_blocks_are mode lot m t k (subst (λ (g : Form). MapRecovers g mode lot m t k) one r) few)
+  blocks_free few =
+      subst (λ (g : Form). free_count false lot m + blocks g t ≡ block_quota (length lot.groups)) (sym one)
+      (free_blocks_are mode lot m t k (subst (λ (g : Form). MapRecovers g mode lot m t k) one r) few)
 
   -- the change needs no more nodes than it gives back
   pub nodes_shrink : need.nodes ≤ need.lost → nodes_refusal (length lot.groups) next ≡ None
   nodes_shrink h = let e = nodes_free in let v = n.nodes_move in few_nodes (length lot.groups) (nodes next) (omega arith) next refl
 
   -- so many are free
-  pub nodes_fit : (free : ℕ) → free ≡ free_count true lot m → need.lost < need.nodes → need.nodes - need.lost ≤ free → nodes_refusal (length lot.groups) next ≡ None
+  pub nodes_fit : (free : ℕ) → free ≡ free_count true lot m → need.lost < need.nodes → need.nodes - need.lost ≤ free
+      → nodes_refusal (length lot.groups) next ≡ None
   nodes_fit free is more h = let e = nodes_free in let v = n.nodes_move in few_nodes (length lot.groups) (nodes next) (omega arith) next refl
 
   -- fewer are free
-  pub nodes_lack : (free : ℕ) → free ≡ free_count true lot m → need.lost < need.nodes → free < need.nodes - need.lost → nodes_refusal (length lot.groups) next ≡ Some why.NoNodes
+  pub nodes_lack : (free : ℕ) → free ≡ free_count true lot m → need.lost < need.nodes → free < need.nodes - need.lost
+      → nodes_refusal (length lot.groups) next ≡ Some why.NoNodes
   nodes_lack free is more h = let e = nodes_free in let v = n.nodes_move in many_nodes (length lot.groups) (nodes next) (omega arith) next refl
 
   -- the same of blocks
   pub blocks_shrink : length lot.groups ≤ 64 → need.blocks ≤ need.freed → blocks_refusal (length lot.groups) f next ≡ None
   blocks_shrink few h = let e = blocks_free few in let v = n.blocks_move in few_blocks (length lot.groups) (blocks f next) f (omega arith) next refl
 
-  pub blocks_fit : length lot.groups ≤ 64 → (free : ℕ) → free ≡ free_count false lot m → need.freed < need.blocks → need.blocks - need.freed ≤ free → blocks_refusal (length lot.groups) f next ≡ None
+  pub blocks_fit : length lot.groups ≤ 64 → (free : ℕ) → free ≡ free_count false lot m → need.freed < need.blocks
+      → need.blocks - need.freed ≤ free → blocks_refusal (length lot.groups) f next ≡ None
   blocks_fit few free is more h = let e = blocks_free few in let v = n.blocks_move in few_blocks (length lot.groups) (blocks f next) f (omega arith) next refl
 
-  pub blocks_lack : length lot.groups ≤ 64 → (free : ℕ) → free ≡ free_count false lot m → need.freed < need.blocks → free < need.blocks - need.freed → blocks_refusal (length lot.groups) f next ≡ Some why.NoSpace
+  pub blocks_lack : length lot.groups ≤ 64 → (free : ℕ) → free ≡ free_count false lot m → need.freed < need.blocks
+      → free < need.blocks - need.freed → blocks_refusal (length lot.groups) f next ≡ Some why.NoSpace
   blocks_lack few free is more h = let e = blocks_free few in let v = n.blocks_move in many_blocks (length lot.groups) (blocks f next) f (omega arith) next refl

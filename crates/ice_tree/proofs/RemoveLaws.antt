@@ -73,7 +73,9 @@ give-fails _ h c b = absurd h
 
 module _ (mode : ℕ) (lot : LotView) (few : length lot.groups ≤ 64) (m : Map) (t : Tree) (k j : ℕ) where
   -- what uses no block
-  no-blocks : (h : ℕ) (v : Tree) → Beside form_one mode lot m t k (used_blocks form_one (own form_one m) j v) (used_inodes form_one (own form_one m) j v) → Reads form_one lot (own form_one m) j h v → is_full_found (Found v) ≡ false → 0 ≡ length (bytes_of v)
+  no-blocks : (h : ℕ) (v : Tree)
+      → Beside form_one mode lot m t k (used_blocks form_one (own form_one m) j v) (used_inodes form_one (own form_one m) j v)
+      → Reads form_one lot (own form_one m) j h v → is_full_found (Found v) ≡ false → 0 ≡ length (bytes_of v)
       → Beside form_one mode lot m t k [] (j ∷ [])
   no-blocks h (File bytes) b r e z =
       let size = file-size m j bytes r.1 in
@@ -82,14 +84,19 @@ module _ (mode : ℕ) (lot : LotView) (few : length lot.groups ≤ 64) (m : Map)
   no-blocks h (Dir (Entry c u es)) b r e z = absurd (subst T e tt)
 
   -- a file that was cut to nothing
-  some-blocks : (m' : Map) (h n : ℕ) (v : Tree) → Beside form_one mode lot m t k (used_blocks form_one (own form_one m) j v) (used_inodes form_one (own form_one m) j v) → Reads form_one lot (own form_one m) j h v → n ≡ length (bytes_of v) → n ≢ 0
+  some-blocks : (m' : Map) (h n : ℕ) (v : Tree)
+      → Beside form_one mode lot m t k (used_blocks form_one (own form_one m) j v) (used_inodes form_one (own form_one m) j v)
+      → Reads form_one lot (own form_one m) j h v → n ≡ length (bytes_of v) → n ≢ 0
       → FileSet lot form_one m m' j [] → Beside form_one mode lot m' t k [] (j ∷ [])
   some-blocks m' h n (File bytes) b r e z set = loose_cut mode lot m m' t k j h bytes b r set
   some-blocks m' h n (Dir es) b r e z set = absurd (z e)
 
   -- it can be cut
-  can-cut : (h n : ℕ) (v : Tree) → Beside form_one mode lot m t k (used_blocks form_one (own form_one m) j v) (used_inodes form_one (own form_one m) j v) → Reads form_one lot (own form_one m) j h v → n ≡ length (bytes_of v) → n ≢ 0
-      → (e : OpFault) → IsCutToFault e → (e ≡ Damaged Kind → ¬ ReachesTo form_one 0 (inode_of m j)) → (e ≡ Damaged Counts → counted false m < uses_of (blocks_for (inode_of m j).size))
+  can-cut : (h n : ℕ) (v : Tree)
+      → Beside form_one mode lot m t k (used_blocks form_one (own form_one m) j v) (used_inodes form_one (own form_one m) j v)
+      → Reads form_one lot (own form_one m) j h v → n ≡ length (bytes_of v) → n ≢ 0
+      → (e : OpFault) → IsCutToFault e → (e ≡ Damaged Kind → ¬ ReachesTo form_one 0 (inode_of m j))
+      → (e ≡ Damaged Counts → counted false m < uses_of (blocks_for (inode_of m j).size))
       → (e ≡ Damaged Bitmap → ¬ WellMade lot form_one m j) → (e ≡ Damaged Pointer → ¬ WellMade lot form_one m j) → e ≡ Disk
   can-cut h n (File bytes) b r len z e is kind zero unused pointer =
       let f = file_at lot m j h bytes r in
@@ -102,7 +109,8 @@ module _ (mode : ℕ) (lot : LotView) (few : length lot.groups ≤ 64) (m : Map)
   can-cut h n (Dir es) b r len z e is kind zero unused pointer = absurd (z len)
 
   -- its inode is freed and given back
-  gave-back : (m1 m2 : Map) (inode : Inode) → Beside form_one mode lot m t k [] (j ∷ []) → InodeSet m m1 j inode → OnlyAt (inode_address j ∷ []) m m1 → GaveInode m1 m2 j → OnlyAt (sub_address ∷ bitmap_of true j ∷ []) m1 m2 → MapRecovers form_one mode lot m2 t k
+  gave-back : (m1 m2 : Map) (inode : Inode) → Beside form_one mode lot m t k [] (j ∷ []) → InodeSet m m1 j inode
+      → OnlyAt (inode_address j ∷ []) m m1 → GaveInode m1 m2 j → OnlyAt (sub_address ∷ bitmap_of true j ∷ []) m1 m2 → MapRecovers form_one mode lot m2 t k
   gave-back m1 m2 inode b put there gave given =
       beside_recovers form_one mode lot m2 t k (gave_inode mode lot m1 m2 t k j few (put_loose mode lot m m1 t k j inode b put there) gave given)
 
@@ -116,7 +124,8 @@ module _ (mode : ℕ) (lot : LotView) (few : length lot.groups ≤ 64) (m : Map)
 
 -- ---- the same of each form
 
-module _ (f : Form) (one : f ≡ form_one) (mode : ℕ) (lot : LotView) (few : length lot.groups ≤ 64) (m : Map) (t : Tree) (k j bytes : ℕ) (form : Form) (wide : form ≡ form_one) where
+module _ (f : Form) (one : f ≡ form_one) (mode : ℕ) (lot : LotView) (few : length lot.groups ≤ 64) (m : Map) (t : Tree) (k j bytes : ℕ)
+    (form : Form) (wide : form ≡ form_one) where
   at-one : (P : Form → Type 0) → P f → P form_one
   at-one P p = subst P one p
 
@@ -136,22 +145,29 @@ module _ (f : Form) (one : f ≡ form_one) (mode : ℕ) (lot : LotView) (few : l
       let at = at-one (AtMap m s.tree s.level) (s.beside, s.reads) in
       subst (λ w. WellMade lot w m j) (sym wide) (loose_made mode lot m t k (used_inodes form_one (own form_one m) j s.tree) j s.level s.tree at.0 at.1 few)
 
-  pub bytes-dropped : (m' : Map) → StandsLoose f mode lot m t k j bytes → bytes ≢ 0 → FileSet lot form m m' j (take 0 (file_bytes (own form m j))) → Beside f mode lot m' t k [] (j ∷ [])
+  pub bytes-dropped : (m' : Map) → StandsLoose f mode lot m t k j bytes → bytes ≢ 0
+      → FileSet lot form m m' j (take 0 (file_bytes (own form m j))) → Beside f mode lot m' t k [] (j ∷ [])
   bytes-dropped m' s z set =
       let at = at-one (AtMap m s.tree s.level) (s.beside, s.reads) in
-      from-one (λ g. Beside g mode lot m' t k [] (j ∷ [])) (some-blocks mode lot few m t k j m' s.level bytes s.tree at.0 at.1 s.bytes_are z (subst (λ w. FileSet lot w m m' j []) wide set))
+      from-one (λ g. Beside g mode lot m' t k [] (j ∷ []))
+      (some-blocks mode lot few m t k j m' s.level bytes s.tree at.0 at.1 s.bytes_are z (subst (λ w. FileSet lot w m m' j []) wide set))
 
   pub can-drop : StandsLoose f mode lot m t k j bytes → bytes ≢ 0
-      → (e : OpFault) → IsCutToFault e → (e ≡ Damaged Kind → ¬ ReachesTo form 0 (inode_of m j)) → (e ≡ Damaged Counts → counted false m < uses_of (blocks_for (inode_of m j).size))
+      → (e : OpFault) → IsCutToFault e → (e ≡ Damaged Kind → ¬ ReachesTo form 0 (inode_of m j))
+      → (e ≡ Damaged Counts → counted false m < uses_of (blocks_for (inode_of m j).size))
       → (e ≡ Damaged Bitmap → ¬ WellMade lot form m j) → (e ≡ Damaged Pointer → ¬ WellMade lot form m j) → e ≡ Disk
   can-drop s z e is kind zero unused pointer =
       let at = at-one (AtMap m s.tree s.level) (s.beside, s.reads) in
-      can-cut mode lot few m t k j s.level bytes s.tree at.0 at.1 s.bytes_are z e is (subst (λ w. e ≡ Damaged Kind → ¬ ReachesTo w 0 (inode_of m j)) wide kind) zero
+      can-cut mode lot few m t k j s.level bytes s.tree at.0 at.1 s.bytes_are z e is
+      (subst (λ w. e ≡ Damaged Kind → ¬ ReachesTo w 0 (inode_of m j)) wide kind) zero
       (subst (λ w. e ≡ Damaged Bitmap → ¬ WellMade lot w m j) wide unused)
       (subst (λ w. e ≡ Damaged Pointer → ¬ WellMade lot w m j) wide pointer)
 
-  pub inode-given : (m1 m2 : Map) (inode : Inode) → Beside f mode lot m t k [] (j ∷ []) → InodeSet m m1 j inode → OnlyAt (inode_address j ∷ []) m m1 → GaveInode m1 m2 j → OnlyAt (sub_address ∷ bitmap_of true j ∷ []) m1 m2 → MapRecovers f mode lot m2 t k
-  inode-given m1 m2 inode b put there gave given = from-one (λ g. MapRecovers g mode lot m2 t k) (gave-back mode lot few m t k j m1 m2 inode (at-one (λ g. Beside g mode lot m t k [] (j ∷ [])) b) put there gave given)
+  pub inode-given : (m1 m2 : Map) (inode : Inode) → Beside f mode lot m t k [] (j ∷ []) → InodeSet m m1 j inode
+      → OnlyAt (inode_address j ∷ []) m m1 → GaveInode m1 m2 j → OnlyAt (sub_address ∷ bitmap_of true j ∷ []) m1 m2 → MapRecovers f mode lot m2 t k
+  inode-given m1 m2 inode b put there gave given =
+      from-one (λ g. MapRecovers g mode lot m2 t k)
+      (gave-back mode lot few m t k j m1 m2 inode (at-one (λ g. Beside g mode lot m t k [] (j ∷ [])) b) put there gave given)
 
   pub can-give-inode : (m1 : Map) (inode : Inode) → Beside f mode lot m t k [] (j ∷ []) → InodeSet m m1 j inode → OnlyAt (inode_address j ∷ []) m m1
       → (e : OpFault) → IsGiveFault e → (e ≡ Damaged Counts → counted true m1 ≡ 0) → (e ≡ Damaged Bitmap → used true m1 j ≡ false) → e ≡ Disk
@@ -159,7 +175,8 @@ module _ (f : Form) (one : f ≡ form_one) (mode : ℕ) (lot : LotView) (few : l
 
 -- ---- an entry is taken
 
-take-fails : (e : OpFault) → IsRemovalFault e → (e ≡ Damaged Counts → ⊥) → (e ≡ Damaged Kind → ⊥) → (e ≡ Damaged Pointer → ⊥) → (e ≡ Damaged Bitmap → ⊥) → e ≡ Disk
+take-fails : (e : OpFault) → IsRemovalFault e → (e ≡ Damaged Counts → ⊥) → (e ≡ Damaged Kind → ⊥) → (e ≡ Damaged Pointer → ⊥)
+    → (e ≡ Damaged Bitmap → ⊥) → e ≡ Disk
 take-fails Disk h c k p b = refl
 take-fails (Damaged Counts) h c k p b = absurd (c refl)
 take-fails (Damaged Kind) h c k p b = absurd (k refl)
@@ -176,7 +193,8 @@ some_value None e = absurd (subst T (sym e) tt)
 some_value (Some j) e = refl
 
 -- an entry of a recovered tree
-module _ (mode : ℕ) (lot : LotView) (few : length lot.groups ≤ 64) (m : Map) (t : Tree) (k : ℕ) (r : MapRecovers form_one mode lot m t k) (p : Names) (v : Tree) (h : HasEntry p t v) where
+module _ (mode : ℕ) (lot : LotView) (few : length lot.groups ≤ 64) (m : Map) (t : Tree) (k : ℕ) (r : MapRecovers form_one mode lot m t k)
+    (p : Names) (v : Tree) (h : HasEntry p t v) where
   abbrev here : ℕ
   here = inode_on form_one (own form_one m) 0 (parent p)
 
@@ -191,11 +209,14 @@ module _ (mode : ℕ) (lot : LotView) (few : length lot.groups ≤ 64) (m : Map)
   pub row-there : look_up (last_name p) (dir_rows_of form_one m here) ≡ Some named
   row-there =
       let d = walk_part mode lot m t k r (parent p) (Dir h.entries) h.there in
-      look_up-find (last_name p) (dir_rows_of form_one m here) ∙ some_value (find by_bytes (last_name p) (dir_rows_of form_one m here)) (sym (d.1.maps (last_name p)) ∙ ap is_some h.found)
+      look_up-find (last_name p) (dir_rows_of form_one m here)
+      ∙ some_value (find by_bytes (last_name p) (dir_rows_of form_one m here)) (sym (d.1.maps (last_name p)) ∙ ap is_some h.found)
 
   -- and can lose it
-  pub can-take : (e : OpFault) → IsRemovalFault e → (e ≡ Damaged Counts → counted false m + uses_of (entry_blocks form_one ((inode_of m here).size - 1)) < uses_of (entry_blocks form_one (inode_of m here).size))
-      → (e ≡ Damaged Kind → ¬ IsDirectory lot (inode_of m here)) → (e ≡ Damaged Pointer → ¬ WellMade lot form_one m here) → (e ≡ Damaged Bitmap → ¬ WellMade lot form_one m here) → e ≡ Disk
+  pub can-take : (e : OpFault) → IsRemovalFault e
+      → (e ≡ Damaged Counts → counted false m + uses_of (entry_blocks form_one ((inode_of m here).size - 1)) < uses_of (entry_blocks form_one (inode_of m here).size))
+      → (e ≡ Damaged Kind → ¬ IsDirectory lot (inode_of m here)) → (e ≡ Damaged Pointer → ¬ WellMade lot form_one m here)
+      → (e ≡ Damaged Bitmap → ¬ WellMade lot form_one m here) → e ≡ Disk
   can-take e is zero kind pointer unused =
       let made = walk_made mode lot m t k r (parent p) few (Dir h.entries) h.there in
       let d = walk_dir mode lot m t k r (parent p) h.entries h.there in
@@ -204,14 +225,17 @@ module _ (mode : ℕ) (lot : LotView) (few : length lot.groups ≤ 64) (m : Map)
       (λ q. kind q d.is) (λ q. pointer q made) (λ q. unused q made)
 
   -- what the row named stands loose then
-  pub entry-left : (m' : Map) → DirSet lot form_one m m' here (rows_without (last_name p) (dir_rows_of form_one m here)) → is_full_found (Found v) ≡ false → StandsLoose form_one mode lot m' (next_tree (Remove p) t) k (inode_on form_one (own form_one m) 0 p) (length (bytes_of v))
+  pub entry-left : (m' : Map) → DirSet lot form_one m m' here (rows_without (last_name p) (dir_rows_of form_one m here))
+      → is_full_found (Found v) ≡ false
+      → StandsLoose form_one mode lot m' (next_tree (Remove p) t) k (inode_on form_one (own form_one m) 0 p) (length (bytes_of v))
   entry-left m' set empty =
       let l = loses_row mode lot m m' t k (parent p) (last_name p) v h.entries r h.there h.found set in
       subst (λ j. StandsLoose form_one mode lot m' (next_tree (Remove p) t) k j (length (bytes_of v))) (sym end-named)
       (record { tree = v; level = length (parent p) + 1; beside = l.0; reads = l.1; empty = empty; bytes_are = refl })
 
 -- the same of each form, for a removal that is accepted
-module _ (f : Form) (one : f ≡ form_one) (mode : ℕ) (lot : LotView) (few : length lot.groups ≤ 64) (m : Map) (t : Tree) (k : ℕ) (p : Names) (gone : Removal) (name : List ℕ) (form : Form) (wide : form ≡ form_one) (l : Loses f mode lot m t k p gone name) where
+module _ (f : Form) (one : f ≡ form_one) (mode : ℕ) (lot : LotView) (few : length lot.groups ≤ 64) (m : Map) (t : Tree) (k : ℕ) (p : Names)
+    (gone : Removal) (name : List ℕ) (form : Form) (wide : form ≡ form_one) (l : Loses f mode lot m t k p gone name) where
   goes : Removes t k (length lot.groups) f p
   goes = accepted-remove t k (length lot.groups) f p l.accepted
 
@@ -228,36 +252,48 @@ module _ (f : Form) (one : f ≡ form_one) (mode : ℕ) (lot : LotView) (few : l
   bytes-there = l.gone_is.bytes_are ∙ ap (λ w. length (bytes_found w)) (entry_walk p t goes.gone goes.entry)
 
   pub spot-made : WellMade lot form m gone.spot.number
-  spot-made = subst (λ w. WellMade lot w m gone.spot.number) (sym wide) (subst (λ i. WellMade lot form_one m i) (sym spot-here) (walk_made mode lot m t k recovers-one (parent p) few (Dir goes.entry.entries) goes.entry.there))
+  spot-made =
+      subst (λ w. WellMade lot w m gone.spot.number) (sym wide)
+      (subst (λ i. WellMade lot form_one m i) (sym spot-here)
+      (walk_made mode lot m t k recovers-one (parent p) few (Dir goes.entry.entries) goes.entry.there))
 
   pub spot-has : look_up name (dir_rows_of form m gone.spot.number) ≡ None → ⊥
   spot-has none =
       let e : look_up (last_name p) (dir_rows_of form_one m (inode_on form_one (own form_one m) 0 (parent p))) ≡ None =
-      ap (λ i. look_up (last_name p) (dir_rows_of form_one m i)) (sym spot-here) ∙ ap (λ w. look_up (last_name p) (dir_rows_of w m gone.spot.number)) (sym wide) ∙ ap (λ c. look_up c (dir_rows_of form m gone.spot.number)) (sym l.name_is) ∙ none in
+      ap (λ i. look_up (last_name p) (dir_rows_of form_one m i)) (sym spot-here)
+      ∙ ap (λ w. look_up (last_name p) (dir_rows_of w m gone.spot.number)) (sym wide)
+      ∙ ap (λ c. look_up c (dir_rows_of form m gone.spot.number)) (sym l.name_is) ∙ none in
       let s = row-there mode lot few m t k recovers-one p goes.gone goes.entry in
       subst T (ap is_some (sym s ∙ e)) tt
 
-  pub spot-takes : (e : OpFault) → IsRemovalFault e → (e ≡ Damaged Counts → counted false m + uses_of (entry_blocks form ((inode_of m gone.spot.number).size - 1)) < uses_of (entry_blocks form (inode_of m gone.spot.number).size))
-      → (e ≡ Damaged Kind → ¬ IsDirectory lot (inode_of m gone.spot.number)) → (e ≡ Damaged Pointer → ¬ WellMade lot form m gone.spot.number) → (e ≡ Damaged Bitmap → ¬ WellMade lot form m gone.spot.number) → e ≡ Disk
+  pub spot-takes : (e : OpFault) → IsRemovalFault e
+      → (e ≡ Damaged Counts → counted false m + uses_of (entry_blocks form ((inode_of m gone.spot.number).size - 1)) < uses_of (entry_blocks form (inode_of m gone.spot.number).size))
+      → (e ≡ Damaged Kind → ¬ IsDirectory lot (inode_of m gone.spot.number))
+      → (e ≡ Damaged Pointer → ¬ WellMade lot form m gone.spot.number) → (e ≡ Damaged Bitmap → ¬ WellMade lot form m gone.spot.number) → e ≡ Disk
   spot-takes e is zero kind pointer unused =
-      let P : Form → ℕ → Type 0 = λ w i. (e ≡ Damaged Counts → counted false m + uses_of (entry_blocks w ((inode_of m i).size - 1)) < uses_of (entry_blocks w (inode_of m i).size)) in
+      let P : Form → ℕ
+      → Type 0 = λ w i. (e ≡ Damaged Counts → counted false m + uses_of (entry_blocks w ((inode_of m i).size - 1)) < uses_of (entry_blocks w (inode_of m i).size)) in
       can-take mode lot few m t k recovers-one p goes.gone goes.entry e is
       (subst (P form_one) spot-here (subst (λ w. P w gone.spot.number) wide zero))
       (subst (λ i. e ≡ Damaged Kind → ¬ IsDirectory lot (inode_of m i)) spot-here kind)
       (λ q. absurd (pointer q spot-made))
       (λ q. absurd (unused q spot-made))
 
-  pub spot-left : (m' : Map) → DirSet lot form m m' gone.spot.number (rows_without name (dir_rows_of form m gone.spot.number)) → StandsLoose f mode lot m' (next_tree (Remove p) t) k gone.number gone.bytes
+  pub spot-left : (m' : Map) → DirSet lot form m m' gone.spot.number (rows_without name (dir_rows_of form m gone.spot.number))
+      → StandsLoose f mode lot m' (next_tree (Remove p) t) k gone.number gone.bytes
   spot-left m' set =
       let P : Form → ℕ → List ℕ → Type 0 = λ w i c. DirSet lot w m m' i (rows_without c (dir_rows_of w m i)) in
-      let here : P form_one (inode_on form_one (own form_one m) 0 (parent p)) (last_name p) = subst (λ c. P form_one (inode_on form_one (own form_one m) 0 (parent p)) c) l.name_is (subst (λ i. P form_one i name) spot-here (subst (λ w. P w gone.spot.number name) wide set)) in
+      let here : P form_one (inode_on form_one (own form_one m) 0 (parent p)) (last_name p) = subst
+      (λ c. P form_one (inode_on form_one (own form_one m) 0 (parent p)) c) l.name_is
+      (subst (λ i. P form_one i name) spot-here (subst (λ w. P w gone.spot.number name) wide set)) in
       let s = entry-left mode lot few m t k recovers-one p goes.gone goes.entry m' here goes.empty in
       subst (λ g. StandsLoose g mode lot m' (next_tree (Remove p) t) k gone.number gone.bytes) (sym one)
       (subst (λ j. StandsLoose form_one mode lot m' (next_tree (Remove p) t) k j gone.bytes) (sym number-there)
       (subst (λ n. StandsLoose form_one mode lot m' (next_tree (Remove p) t) k (inode_on form_one (own form_one m) 0 p) n) (sym bytes-there) s))
 
 -- what was found before a look holds after it
-pub loses-after : (f : Form) (mode : ℕ) (lot : LotView) (m m' : Map) (t : Tree) (k : ℕ) (p : Names) (gone : Removal) (name : List ℕ) → m' ≡ m → MapRecovers f mode lot m t k → IsRemoval f (own f m) p t gone → name ≡ last_name p
+pub loses-after : (f : Form) (mode : ℕ) (lot : LotView) (m m' : Map) (t : Tree) (k : ℕ) (p : Names) (gone : Removal) (name : List ℕ)
+    → m' ≡ m → MapRecovers f mode lot m t k → IsRemoval f (own f m) p t gone → name ≡ last_name p
     → refusal t k (length lot.groups) f (Remove p) ≡ None → Loses f mode lot m' t k p gone name
 loses-after f mode lot m m' t k p gone name same r is last none =
     subst (λ (x : Map). Loses f mode lot x t k p gone name) (sym same) (record { recovers = r; gone_is = is; name_is = last; accepted = none })
@@ -276,4 +312,6 @@ later_refusal n f k p t = or_else (removal_refusal p t) (quota_refusal n f k (ne
 pub remove-stages : (t : Tree) (k n : ℕ) (f : Form) (p : Names) → refusal t k n f (Remove p) ≡ or_else (paths_refusal f (p ∷ [])) (later_refusal n f k p t)
 remove-stages t k n f p =
     refusal_remove t k n f p
-    ∙ ap (or_else (paths_refusal f (p ∷ []))) (chained (walk_refusal (walk p t)) (if is_root p then Some why.IsRoot else None) (if is_full_found (walk p t) then Some why.NotEmpty else None) (quota_refusal n f k (next_tree (Remove p) t)))
+    ∙ ap (or_else (paths_refusal f (p ∷ [])))
+    (chained (walk_refusal (walk p t)) (if is_root p then Some why.IsRoot else None)
+    (if is_full_found (walk p t) then Some why.NotEmpty else None) (quota_refusal n f k (next_tree (Remove p) t)))

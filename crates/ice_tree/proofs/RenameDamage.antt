@@ -56,10 +56,12 @@ module _ (form : Form) (lot : LotView) (m : ℕ → List ℕ) where
   named-inode dir entries name Blocked named is fits = absurd (none is)
 
   -- what is renamed
-  pub move-is : (name : List ℕ) (from into : Ends) (step : Move) → EndsAre form lot m from → EndsAre form lot m into → EndsFit lot from → EndsFit lot into → PlaceNamed form m from.parent name from.end → is_place from.end ≡ true
+  pub move-is : (name : List ℕ) (from into : Ends) (step : Move) → EndsAre form lot m from → EndsAre form lot m into → EndsFit lot from
+      → EndsFit lot into → PlaceNamed form m from.parent name from.end → is_place from.end ≡ true
       → from.parent ≡ Dir step.from.number step.from.entries → into.parent ≡ Dir step.to.number step.to.entries → MoveIs form lot m name step
   move-is name from into step a b f g named is source target =
-      let x = named-inode step.from.number step.from.entries name from.end (subst (λ (p : Place). PlaceNamed form m p name from.end) source named) is f.at_end in
+      let x = named-inode step.from.number step.from.entries name from.end
+      (subst (λ (p : Place). PlaceNamed form m p name from.end) source named) is f.at_end in
       record {
         from_is = place-spot from.parent step.from source f.at_parent a.parent a.parent_reached;
         to_is = place-spot into.parent step.to target g.at_parent b.parent b.parent_reached;
@@ -69,15 +71,18 @@ module _ (form : Form) (lot : LotView) (m : ℕ → List ℕ) where
       }
 
   -- a look for the height of a tree that spent its budget, which has all inodes of the lot
-  pub height-broken : (place : Place) (number size levels budget : ℕ) → place ≡ Dir number size → 64 * length lot.groups ≤ budget → PlaceReached form lot m place
+  pub height-broken : (place : Place) (number size levels budget : ℕ) → place ≡ Dir number size → 64 * length lot.groups ≤ budget
+      → PlaceReached form lot m place
       → (e : OpFault) → IsBrokenBy form lot m e ⊎ ((e ≡ Damaged InodeTwice) × (budget < count_within_place form m levels place)) → IsBrokenBy form lot m e
   height-broken place number size levels budget at all reached e (inl b) = b
   height-broken place number size levels budget at all reached e (inr x) =
       let many = subst (λ (p : Place). budget < count_within_place form m levels p) at x.1 in
-      subst (IsBrokenBy form lot m) (sym x.0) (inr (inr (record { number = number; levels = levels; reached = subst (PlaceReached form lot m) at reached; many = omega (arith, all, many) })))
+      subst (IsBrokenBy form lot m) (sym x.0)
+      (inr (inr (record { number = number; levels = levels; reached = subst (PlaceReached form lot m) at reached; many = omega (arith, all, many) })))
 
   -- two directories that have too many entries
-  pub overfull-of : (name : List ℕ) (step : Move) → MoveIs form lot m name step → (step.from.number ≢ step.to.number) × (64 * length lot.groups ≤ step.from.entries + step.to.entries) → Overfull form lot m
+  pub overfull-of : (name : List ℕ) (step : Move) → MoveIs form lot m name step
+      → (step.from.number ≢ step.to.number) × (64 * length lot.groups ≤ step.from.entries + step.to.entries) → Overfull form lot m
   overfull-of name step is many = record {
     one = step.from.number;
     other = step.to.number;
@@ -90,7 +95,8 @@ module _ (form : Form) (lot : LotView) (m : ℕ → List ℕ) where
   }
 
   -- the blocks that a rename needs are free
-  pub row-fits : (f : Form) → f ≡ form_one → form ≡ form_one → (step : Move) (need : Need) → step.from.entries < 4096 → step.to.entries < 4096 → (step.from.number ≢ step.to.number → step.from.entries + step.to.entries < 64 * length lot.groups)
+  pub row-fits : (f : Form) → f ≡ form_one → form ≡ form_one → (step : Move) (need : Need) → step.from.entries < 4096
+      → step.to.entries < 4096 → (step.from.number ≢ step.to.number → step.from.entries + step.to.entries < 64 * length lot.groups)
       → (step.same ≡ false → step.from.number ≢ step.to.number → (need.blocks ≡ map_cost (tree.dir_blocks f (step.to.entries + 1)) + map_cost (tree.dir_blocks f (step.from.entries - 1)))
       × (need.freed ≡ map_cost (tree.dir_blocks f step.to.entries) + map_cost (tree.dir_blocks f step.from.entries)))
       → HasFree lot m need → RowFits form lot m step

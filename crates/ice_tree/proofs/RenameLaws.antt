@@ -55,7 +55,8 @@ module _ (p q : Names) (depth : ℕ) where
     here : (x : Names) → get_or (drop depth x) (i - depth) [] ≡ get_or x i []
     here x = let at : depth + (i - depth) ≡ i = omega arith in get_or-drop depth x (i - depth) [] ∙ ap (λ n. get_or x n []) at
 
-    same-here : (b : Bool) → is_same_name (get_or p i []) (get_or q i []) ≡ b → is_same_name (get_or (drop depth p) (i - depth) []) (get_or (drop depth q) (i - depth) []) ≡ b
+    same-here : (b : Bool) → is_same_name (get_or p i []) (get_or q i []) ≡ b
+        → is_same_name (get_or (drop depth p) (i - depth) []) (get_or (drop depth q) (i - depth) []) ≡ b
     same-here b e = (λ z. is_same_name (here p z) (here q z)) ∙ e
 
     pub begins-step : is_same_name (get_or p i []) (get_or q i []) ≡ true → BeginsFrom p q depth i → BeginsFrom p q depth (i + 1)
@@ -65,11 +66,13 @@ module _ (p q : Names) (depth : ℕ) where
         ∙ step (drop depth p) (drop depth q) (i - depth) (omega (arith, length-drop depth p)) (omega (arith, length-drop depth q)) (same-here true e) is
 
     pub begins-differs : is_same_name (get_or p i []) (get_or q i []) ≡ false → BeginsFrom p q depth i → false ≡ is_prefix (drop depth p) (drop depth q)
-    begins-differs e is = differs (drop depth p) (drop depth q) (i - depth) (omega (arith, length-drop depth p)) (omega (arith, length-drop depth q)) (same-here false e) is
+    begins-differs e is =
+        differs (drop depth p) (drop depth q) (i - depth) (omega (arith, length-drop depth p)) (omega (arith, length-drop depth q)) (same-here false e) is
 
 -- ---- one stage after another
 
-chain : (h a b c d e q : Option Why) → or_else h (or_else a (or_else b (or_else c (or_else d (or_else e q))))) ≡ or_else (or_else h (or_else a (or_else b (or_else c (or_else d e))))) q
+chain : (h a b c d e q : Option Why)
+    → or_else h (or_else a (or_else b (or_else c (or_else d (or_else e q))))) ≡ or_else (or_else h (or_else a (or_else b (or_else c (or_else d e))))) q
 chain (Some r) a b c d e q = refl
 chain None (Some r) b c d e q = refl
 chain None None (Some r) c d e q = refl
@@ -81,8 +84,10 @@ chain None None None None None e q = refl
 pub rename-stages : (t : Tree) (k n : ℕ) (f : Form) (p q : Names)
     → refusal t k n f (Rename p q) ≡ or_else (paths_refusal f (p ∷ q ∷ [])) (or_else (move_refusal p q t) (quota_refusal n f k (next_tree (Rename p q) t)))
 rename-stages t k n f p q = refusal_rename t k n f p q ∙ ap (λ x. or_else (paths_refusal f (p ∷ q ∷ [])) x)
-    (chain (height_refusal p q t) (if is_not_found (walk p t) || is_not_found (parent_walk q t) then Some why.NotFound else None) (if is_not_dir (walk p t) || is_not_dir (parent_walk q t) then Some why.NotDir else None)
-    (if is_root p || is_root q then Some why.IsRoot else None) (if is_taken (Rename p q) t then Some why.Exists else None) (if moves_into_itself (Rename p q) then Some why.IntoItself else None) (quota_refusal n f k (next_tree (Rename p q) t)))
+    (chain (height_refusal p q t) (if is_not_found (walk p t) || is_not_found (parent_walk q t) then Some why.NotFound else None)
+    (if is_not_dir (walk p t) || is_not_dir (parent_walk q t) then Some why.NotDir else None)
+    (if is_root p || is_root q then Some why.IsRoot else None) (if is_taken (Rename p q) t then Some why.Exists else None)
+    (if moves_into_itself (Rename p q) then Some why.IntoItself else None) (quota_refusal n f k (next_tree (Rename p q) t)))
 
 -- the places, by five tests
 abbrev by_tests : Bool → Bool → Bool → Bool → Bool → Option Why
@@ -96,12 +101,15 @@ never true = refl
 never false = refl
 
 -- both paths are one
-pub ends-same : (missing blocked root found same begins : Bool) → missing ≡ false → blocked ≡ false → root ≡ false → same ≡ true → by_tests missing blocked root (found && not same) (begins && not same) ≡ None
-ends-same missing blocked root found same begins m b r s = (λ z. by_tests (m z) (b z) (r z) (found && not (s z)) (begins && not (s z))) ∙ (λ z. by_tests false false false (never found z) (never begins z))
+pub ends-same : (missing blocked root found same begins : Bool) → missing ≡ false → blocked ≡ false → root ≡ false → same ≡ true
+    → by_tests missing blocked root (found && not same) (begins && not same) ≡ None
+ends-same missing blocked root found same begins m b r s =
+    (λ z. by_tests (m z) (b z) (r z) (found && not (s z)) (begins && not (s z))) ∙ (λ z. by_tests false false false (never found z) (never begins z))
 
 -- ---- heights
 
-low-walk : (w : Walk) (n : ℕ) → ((s : Tree) → w ≡ Found s → n + height s ≤ deepest) → (if is_found w && nat_lt deepest (n + height (tree_found w)) then Some why.TooDeep else None) ≡ None
+low-walk : (w : Walk) (n : ℕ) → ((s : Tree) → w ≡ Found s → n + height s ≤ deepest)
+    → (if is_found w && nat_lt deepest (n + height (tree_found w)) then Some why.TooDeep else None) ≡ None
 low-walk (Found s) n h =
     let l = h s refl in
     let e : nat_lt deepest (n + height s) ≡ false = grind (arith, nat_tests) in
@@ -115,13 +123,16 @@ low-fits p q t h = low-walk (walk p t) (length q) h
 high-fails : (p q : Names) (t s : Tree) → walk p t ≡ Found s → deepest < length q + height s → height_refusal p q t ≡ Some why.TooDeep
 high-fails p q t s found h =
     let e : nat_lt deepest (length q + height s) ≡ true = grind (arith, nat_tests) in
-    ap (λ w. if is_found w && nat_lt deepest (length q + height (tree_found w)) then Some why.TooDeep else None) found ∙ ap (λ b. if b then Some why.TooDeep else None) e
+    ap (λ w. if is_found w && nat_lt deepest (length q + height (tree_found w)) then Some why.TooDeep else None) found
+    ∙ ap (λ b. if b then Some why.TooDeep else None) e
 
 -- the same by the levels that are left
-pub high-more : (p q : Names) (t s : Tree) (there : ℕ) → length q ≡ there → walk p t ≡ Found s → nat_lt (deepest - there) (height s) ≡ true → height_refusal p q t ≡ Some why.TooDeep
+pub high-more : (p q : Names) (t s : Tree) (there : ℕ) → length q ≡ there → walk p t ≡ Found s → nat_lt (deepest - there) (height s) ≡ true
+    → height_refusal p q t ≡ Some why.TooDeep
 high-more p q t s there e found h = let l : deepest - there < height s = grind (arith, nat_tests) in high-fails p q t s found (omega arith)
 
-pub low-more : (p q : Names) (t s : Tree) (there : ℕ) → length q ≡ there → there ≤ deepest → walk p t ≡ Found s → nat_lt (deepest - there) (height s) ≡ false → height_refusal p q t ≡ None
+pub low-more : (p q : Names) (t s : Tree) (there : ℕ) → length q ≡ there → there ≤ deepest → walk p t ≡ Found s
+    → nat_lt (deepest - there) (height s) ≡ false → height_refusal p q t ≡ None
 low-more p q t s there e short found h =
     let l : height s ≤ deepest - there = grind (arith, nat_tests) in
     low-fits p q t (λ u w. let same : s ≡ u = found_same s u (sym found ∙ w) in let x = ap (λ y. height y) same in omega arith)
@@ -131,7 +142,8 @@ low-more p q t s there e short found h =
 
 -- what goes no deeper fits
 pub fits-higher : (f : Form) (lot : LotView) (o : Table) (p q : Names) (t : Tree) → Reads f lot o 0 0 t → length q ≤ length p → height_refusal p q t ≡ None
-fits-higher f lot o p q t r h = low-fits p q t (λ s found. omega (arith, Reads-depth f lot o (inode_on f o 0 p) (0 + length p) s (Reads-part f lot o p 0 0 t s found r)))
+fits-higher f lot o p q t r h =
+    low-fits p q t (λ s found. omega (arith, Reads-depth f lot o (inode_on f o 0 p) (0 + length p) s (Reads-part f lot o p 0 0 t s found r)))
 
 nodes-some : (t : Tree) → 1 ≤ nodes t
 nodes-some (File bytes) = omega arith
@@ -158,13 +170,16 @@ short-name longest n h = grind (arith, nat_tests)
 -- no name is too long
 pub names-short : (f : Form) (p q xs : Names) (c : List ℕ) → paths_refusal f (p ∷ q ∷ []) ≡ None → q ≡ xs ++ c ∷ [] → length c ≤ f.longest_name
 names-short f p q xs c h is =
-    by-two (list_any (λ x. nat_lt f.longest_name (length x)) p) (list_any (λ x. nat_lt f.longest_name (length x)) q) (list_any (λ x. nat_lt deepest (length x)) (p ∷ q ∷ [])) h
-    (λ e. short-name f.longest_name (length c) (any-last (λ x. nat_lt f.longest_name (length x)) xs c (ap (λ y. list_any (λ x. nat_lt f.longest_name (length x)) y) (sym is) ∙ e)))
+    by-two (list_any (λ x. nat_lt f.longest_name (length x)) p) (list_any (λ x. nat_lt f.longest_name (length x)) q)
+    (list_any (λ x. nat_lt deepest (length x)) (p ∷ q ∷ [])) h
+    (λ e. short-name f.longest_name (length c)
+    (any-last (λ x. nat_lt f.longest_name (length x)) xs c (ap (λ y. list_any (λ x. nat_lt f.longest_name (length x)) y) (sym is) ∙ e)))
   where
     no : Some why.NameLong ≡ None → ⊥
     no h = cc
 
-    by-two : {A : Type 0} → (first second deep : Bool) → (if first || (second || false) then Some why.NameLong else (if deep then Some why.TooDeep else None)) ≡ None → (second ≡ false → A) → A
+    by-two : {A : Type 0} → (first second deep : Bool)
+        → (if first || (second || false) then Some why.NameLong else (if deep then Some why.TooDeep else None)) ≡ None → (second ≡ false → A) → A
     by-two true second deep h k = absurd (no h)
     by-two false true deep h k = absurd (no h)
     by-two false false deep h k = k refl
@@ -189,31 +204,38 @@ by-none false false false taken into h = (refl, refl, refl)
 -- where the places refuse nothing both directories are there
 pub ends-dirs : (p q : Names) (t : Tree) → ends_refusal p q t ≡ None → IsDirWalk (walk (parent p) t) × IsDirWalk (walk (parent q) t)
 ends-dirs p q t h =
-    let n = by-none (is_not_found (walk p t) || is_not_found (parent_walk q t)) (is_not_dir (walk p t) || is_not_dir (parent_walk q t)) (is_root p || is_root q) (is_taken (Rename p q) t) (moves_into_itself (Rename p q)) h in
+    let n = by-none (is_not_found (walk p t) || is_not_found (parent_walk q t)) (is_not_dir (walk p t) || is_not_dir (parent_walk q t))
+    (is_root p || is_root q) (is_taken (Rename p q) t) (moves_into_itself (Rename p q)) h in
     let w = tree_walk (walk p t) (first_false _ _ n.0) (first_false _ _ n.1) in
     let e = has_entry p t w.0 (first_false _ _ n.2) w.1 in
     ((e.entries, e.there), dir_walk (walk (parent q) t) (second_false _ _ n.0) (second_false _ _ n.1))
 
 -- the directory at a place
-pub spot-is : (f : Form) (o : Table) (names : Names) (t : Tree) (place : Place) (spot : DirAt) → place ≡ place_at f o names t → place ≡ at_place.Dir spot.number spot.entries → IsDirAt f o names t spot
+pub spot-is : (f : Form) (o : Table) (names : Names) (t : Tree) (place : Place) (spot : DirAt) → place ≡ place_at f o names t
+    → place ≡ at_place.Dir spot.number spot.entries → IsDirAt f o names t spot
 spot-is f o names t place spot at is =
     let e = ends_dir (inode_on f o 0 names) spot.number spot.entries (walk names t) (sym is ∙ at) in
     record { inside = e.0; there = e.1; number = e.2; count = e.3 }
 
-pub spot-there : (f : Form) (o : Table) (names : Names) (t : Tree) (place : Place) → place ≡ place_at f o names t → IsDirWalk (walk names t) → ((number size : ℕ) → place ≢ at_place.Dir number size) → ⊥
+pub spot-there : (f : Form) (o : Table) (names : Names) (t : Tree) (place : Place) → place ≡ place_at f o names t
+    → IsDirWalk (walk names t) → ((number size : ℕ) → place ≢ at_place.Dir number size) → ⊥
 spot-there f o names t place at w none = none (inode_on f o 0 names) (length (rows w.0)) (at ∙ ap (λ x. place_by (inode_on f o 0 names) x) w.1)
 
 -- a move that was found
-pub found-move : (result : Result Move Refusal) (found : Option Why) (P : Move → Type 0) → found ≡ None → MatchResult result P (λ r. ⊥) → MatchResult result (λ step. (found ≡ None) × P step) (λ r. RefusedAs (refused_of r) found)
+pub found-move : (result : Result Move Refusal) (found : Option Why) (P : Move → Type 0) → found ≡ None → MatchResult result P (λ r. ⊥)
+    → MatchResult result (λ step. (found ≡ None) × P step) (λ r. RefusedAs (refused_of r) found)
 found-move (Ok step) found P e h = (e, h)
 found-move (Err r) found P e h = absurd h
 
 -- behind the paths
-pub move-stages : (t : Tree) (k n : ℕ) (f : Form) (p q : Names) → paths_refusal f (p ∷ q ∷ []) ≡ None → refusal t k n f (Rename p q) ≡ or_else (move_refusal p q t) (quota_refusal n f k (next_tree (Rename p q) t))
-move-stages t k n f p q names = rename-stages t k n f p q ∙ later_stage (paths_refusal f (p ∷ q ∷ [])) (or_else (move_refusal p q t) (quota_refusal n f k (next_tree (Rename p q) t))) names
+pub move-stages : (t : Tree) (k n : ℕ) (f : Form) (p q : Names) → paths_refusal f (p ∷ q ∷ []) ≡ None
+    → refusal t k n f (Rename p q) ≡ or_else (move_refusal p q t) (quota_refusal n f k (next_tree (Rename p q) t))
+move-stages t k n f p q names =
+    rename-stages t k n f p q ∙ later_stage (paths_refusal f (p ∷ q ∷ [])) (or_else (move_refusal p q t) (quota_refusal n f k (next_tree (Rename p q) t))) names
 
 -- the files and directories below a path are no more than the lot has room for
-pub nodes-few : (f : Form) → f ≡ form_one → (mode : ℕ) (lot : LotView) (m : Map) (t : Tree) (k : ℕ) → MapRecovers f mode lot m t k → (p : Names) (s : Tree) → walk p t ≡ Found s → nodes s ≤ 64 * length lot.groups
+pub nodes-few : (f : Form) → f ≡ form_one → (mode : ℕ) (lot : LotView) (m : Map) (t : Tree) (k : ℕ) → MapRecovers f mode lot m t k
+    → (p : Names) (s : Tree) → walk p t ≡ Found s → nodes s ≤ 64 * length lot.groups
 nodes-few f one mode lot m t k r p s found =
     let e = free_nodes_are mode lot m t k (subst (λ (g : Form). MapRecovers g mode lot m t k) one r) in
     let n = nodes-within p t s found in
@@ -229,9 +251,11 @@ last-is path depth name below is =
     let last = length path - 1 in
     sym (ap last_name (names-last path depth last name (omega arith) (omega arith) is) ∙ last-more (take (last - depth) (drop depth path)) name)
 
-pub renames-are : (f : Form) (mode : ℕ) (lot : LotView) (m later : Map) (t : Tree) (k : ℕ) (path to : Names) (depth : ℕ) (step : Move) (name new : List ℕ) → later ≡ m → MapRecovers f mode lot m t k → depth < length path → depth < length to
+pub renames-are : (f : Form) (mode : ℕ) (lot : LotView) (m later : Map) (t : Tree) (k : ℕ) (path to : Names) (depth : ℕ) (step : Move) (name new : List ℕ)
+    → later ≡ m → MapRecovers f mode lot m t k → depth < length path → depth < length to
     → name ≡ get_or path (length path - 1) [] → new ≡ get_or to (length to - 1) []
-    → (refusal t k (length lot.groups) f (Rename (drop depth path) (drop depth to)) ≡ None) × IsMove f (own f m) (drop depth path) (drop depth to) t step → Renames f mode lot later t k (drop depth path) (drop depth to) step name new
+    → (refusal t k (length lot.groups) f (Rename (drop depth path) (drop depth to)) ≡ None) × IsMove f (own f m) (drop depth path) (drop depth to) t step
+    → Renames f mode lot later t k (drop depth path) (drop depth to) step name new
 renames-are f mode lot m later t k path to depth step name new same r below below_to is_name is_new x = record {
   recovers = subst (λ (x : Map). MapRecovers f mode lot x t k) (sym same) r;
   move_is = subst (λ (x : Map). IsMove f (own f x) (drop depth path) (drop depth to) t step) (sym same) x.1;

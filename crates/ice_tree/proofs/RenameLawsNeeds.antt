@@ -80,7 +80,8 @@ count (Found (Dir es)) = length (rows es)
 count NotFound = 0
 count NotDir = 0
 
-count_step : (o : Option Tree) (h : Tree → Tree) (go : Tree → Walk) → ((u : Tree) → count (go (h u)) ≡ count (go u)) → count (and_on (found_or_not (on_some h o)) go) ≡ count (and_on (found_or_not o) go)
+count_step : (o : Option Tree) (h : Tree → Tree) (go : Tree → Walk) → ((u : Tree) → count (go (h u)) ≡ count (go u))
+    → count (and_on (found_or_not (on_some h o)) go) ≡ count (and_on (found_or_not o) go)
 count_step None h go is = refl
 count_step (Some u) h go is = is u
 
@@ -93,7 +94,8 @@ not_both true y h e = h
 not_both false y h e = absurd (subst T (sym e) tt)
 
 -- but for the directory that loses the entry, each has as many entries as before
-count-left : (p : Names) (c : List ℕ) (q : Names) (t : Tree) → p ≢ q → is_prefix (p ++ c ∷ []) q ≡ false → count (walk q (at p (without_entry c) t)) ≡ count (walk q t)
+count-left : (p : Names) (c : List ℕ) (q : Names) (t : Tree) → p ≢ q → is_prefix (p ++ c ∷ []) q ≡ false
+    → count (walk q (at p (without_entry c) t)) ≡ count (walk q t)
 count-left [] c [] t ne h = absurd (ne refl)
 count-left [] c (d ∷ q) (File bytes) ne h = refl
 count-left [] c (d ∷ q) (Dir es) ne h =
@@ -103,16 +105,19 @@ count-left (x ∷ p) c [] (Dir es) ne h = length-over x (λ u. at p (without_ent
 count-left (x ∷ p) c (d ∷ q) (File bytes) ne h = refl
 count-left (x ∷ p) c (d ∷ q) (Dir es) ne h =
     ap (λ o. count (and_on (found_or_not o) (λ u. walk q u))) (find-over x d (λ u. at p (without_entry c) u) es)
-    ∙ elim (is_same_name x d) as (λ b. is_same_name x d ≡ b → count (and_on (found_or_not (cond b (on_some (λ u. at p (without_entry c) u) (find by_bytes d (rows es))) (find by_bytes d (rows es)))) (λ u. walk q u)) ≡ count (and_on (found_or_not (find by_bytes d (rows es))) (λ u. walk q u))) [
+    ∙ elim (is_same_name x d) as (λ b. is_same_name x d ≡ b
+    → count (and_on (found_or_not (cond b (on_some (λ u. at p (without_entry c) u) (find by_bytes d (rows es))) (find by_bytes d (rows es)))) (λ u. walk q u)) ≡ count (and_on (found_or_not (find by_bytes d (rows es))) (λ u. walk q u))) [
       | true ↦ λ e. count_step (find by_bytes d (rows es)) (λ u. at p (without_entry c) u) (λ u. walk q u)
           (λ u. count-left p c q u (λ z. ne (λ j. same_name x d e j ∷ z j)) (not_both (is_same_name x d) _ h e))
       | false ↦ λ e. refl
     ] refl
 
 -- the directory that loses it
-count-here : (p : Names) (c : List ℕ) (t : Tree) (es : Entries) → walk p t ≡ Found (Dir es) → count (walk p (at p (without_entry c) t)) ≡ length (rows (without c es))
+count-here : (p : Names) (c : List ℕ) (t : Tree) (es : Entries) → walk p t ≡ Found (Dir es)
+    → count (walk p (at p (without_entry c) t)) ≡ length (rows (without c es))
 count-here p c t es h =
-    ap (λ x. count (walk x (at p (without_entry c) t))) (sym (append-nil p)) ∙ ap count (walk-at p [] (without_entry c) t) ∙ ap (λ w. count (and_on w (λ u. walk [] (without_entry c u)))) h
+    ap (λ x. count (walk x (at p (without_entry c) t))) (sym (append-nil p)) ∙ ap count (walk-at p [] (without_entry c) t)
+    ∙ ap (λ w. count (and_on w (λ u. walk [] (without_entry c u)))) h
 
 -- a path that doesn't begin another doesn't begin the path of its directory
 not-above : (p q : Names) → is_prefix p q ≡ false → is_prefix p (parent q) ≡ false
@@ -138,7 +143,8 @@ few-blocks : (x y : ℕ) → nat_lt (247 * (x + y)) y ≡ false
 few-blocks x y = grind (arith, nat_tests)
 
 -- in a lot that is great enough
-great-lot : (t : Tree) (f : Form) (p q : Names) → paths_refusal f (p ∷ q ∷ []) ≡ None → move_refusal p q t ≡ None → (n : ℕ) × (refusal t 0 n f (Rename p q) ≡ None)
+great-lot : (t : Tree) (f : Form) (p q : Names) → paths_refusal f (p ∷ q ∷ []) ≡ None → move_refusal p q t ≡ None
+    → (n : ℕ) × (refusal t 0 n f (Rename p q) ≡ None)
 great-lot t f p q names ends =
     let u = next_tree (Rename p q) t in
     let n = nodes u + blocks f u in (
@@ -161,7 +167,8 @@ module _ (f : Form) (mode : ℕ) (lot : LotView) (m : Map) (t : Tree) (k : ℕ) 
     (names : paths_refusal f (p ∷ q ∷ []) ≡ None) (ends : move_refusal p q t ≡ None) (is : IsMove f (own f m) p q t step) where
   -- nothing moves
   pub need-same : step.same ≡ true → Needs f t (next_tree (Rename p q) t) no_need
-  need-same e = subst (λ u. Needs f t u no_need) (sym (ap (λ b. cond b t (moved_tree p q t)) (sym is.same_is ∙ e))) (record { nodes_move = refl; blocks_move = refl })
+  need-same e =
+      subst (λ u. Needs f t u no_need) (sym (ap (λ b. cond b t (moved_tree p q t)) (sym is.same_is ∙ e))) (record { nodes_move = refl; blocks_move = refl })
 
   module _ (differ : step.same ≡ false) where
     moves : Moves p q t
@@ -201,27 +208,33 @@ module _ (f : Form) (mode : ℕ) (lot : LotView) (m : Map) (t : Tree) (k : ℕ) 
 
     -- the directory loses an entry and gains one
     one-dir : parent p ≡ parent q → joins ≡ rest
-    one-dir e = sym (ap count moves.place.there) ∙ ap (λ x. count (walk x (removed p t))) (sym e) ∙ count-here (parent p) (last_name p) t moves.entry.entries moves.entry.there
+    one-dir e =
+        sym (ap count moves.place.there) ∙ ap (λ x. count (walk x (removed p t))) (sym e)
+        ∙ count-here (parent p) (last_name p) t moves.entry.entries moves.entry.there
 
     -- the two directories differ
     two-dirs : parent p ≢ parent q → joins ≡ step.to.entries
     two-dirs ne =
-        sym (ap count moves.place.there) ∙ count-left (parent p) (last_name p) (parent q) t ne (ap (λ x. is_prefix x (parent q)) (whole p moves.entry.below) ∙ not-above p q moves.apart) ∙ ap count is.to_is.there ∙ sym is.to_is.count
+        sym (ap count moves.place.there) ∙ count-left (parent p) (last_name p) (parent q) t ne
+        (ap (λ x. is_prefix x (parent q)) (whole p moves.entry.below) ∙ not-above p q moves.apart) ∙ ap count is.to_is.there ∙ sym is.to_is.count
 
     -- one inode stands for both where they are one
     number-once : parent p ≢ parent q → step.from.number ≢ step.to.number
     number-once ne same =
         let here = inode_on f (own f m) 0 (parent p) in
-        let w = two_walks f (own f m) (λ i. i ∷ []) here (parent p) (parent q) 0 t (Dir is.from_is.inside) (Dir is.to_is.inside) ne is.from_is.there is.to_is.there in
+        let w = two_walks f (own f m) (λ i. i ∷ []) here (parent p) (parent q) 0 t (Dir is.from_is.inside)
+        (Dir is.to_is.inside) ne is.from_is.there is.to_is.there in
         let e : inode_on f (own f m) 0 (parent q) ≡ here = sym is.to_is.number ∙ sym same ∙ is.from_is.number in
         let a = times-here here [] in
         let b = ap (λ i. times (i ∷ []) here) e in
-        let small : here < 64 * length lot.groups = number (Reads-part f lot (own f m) (parent p) 0 0 t (Dir is.from_is.inside) is.from_is.there r.holds.reads) in
+        let small : here < 64 * length lot.groups = number
+        (Reads-part f lot (own f m) (parent p) 0 0 t (Dir is.from_is.inside) is.from_is.there r.holds.reads) in
         let o = r.holds.inodes here small in
         let l = mark-small (used_inode m here) in
         absurd (omega arith)
       where
-        number : Reads f lot (own f m) (inode_on f (own f m) 0 (parent p)) (0 + length (parent p)) (Dir is.from_is.inside) → inode_on f (own f m) 0 (parent p) < 64 * length lot.groups
+        number : Reads f lot (own f m) (inode_on f (own f m) 0 (parent p)) (0 + length (parent p)) (Dir is.from_is.inside)
+            → inode_on f (own f m) 0 (parent p) < 64 * length lot.groups
         number r = r.0.number
 
     pub need-one : step.from.number ≡ step.to.number → Needs f t (next_tree (Rename p q) t) no_need
@@ -236,8 +249,10 @@ module _ (f : Form) (mode : ℕ) (lot : LotView) (m : Map) (t : Tree) (k : ℕ) 
       | inr ne ↦ absurd (number-once ne e)
     ]
 
-    pub need-two : step.from.number ≢ step.to.number → (less more freed : ℕ) → less ≡ step.from.entries - 1 → more ≡ map_cost (dir_blocks f (step.to.entries + 1)) + map_cost (dir_blocks f less)
-        → freed ≡ map_cost (dir_blocks f step.to.entries) + map_cost (dir_blocks f step.from.entries) → Needs f t (next_tree (Rename p q) t) (record { nodes = 0; lost = 0; blocks = more; freed = freed })
+    pub need-two : step.from.number ≢ step.to.number → (less more freed : ℕ) → less ≡ step.from.entries - 1
+        → more ≡ map_cost (dir_blocks f (step.to.entries + 1)) + map_cost (dir_blocks f less)
+        → freed ≡ map_cost (dir_blocks f step.to.entries) + map_cost (dir_blocks f step.from.entries)
+        → Needs f t (next_tree (Rename p q) t) (record { nodes = 0; lost = 0; blocks = more; freed = freed })
     need-two differs less more freed l a b =
         let ne : parent p ≢ parent q = (λ e. differs (is.from_is.number ∙ ap (λ x. inode_on f (own f m) 0 x) e ∙ sym is.to_is.number)) in
         let j = two-dirs ne in

@@ -23,5 +23,6 @@ module _ (t : Tree) (k n : ℕ) (f : Form) (op : Operation) where
     accepted-model = sym (ap (λ a. a.0) (answer-accepted t k n f op none) ∙ ap (λ v. Ok v) (accepted_value-change op t change))
 
     -- and makes the next tree
-    pub accepted-recovers : (mode : ℕ) (lot : LotView) (m : Map) → MapRecovers f mode lot m (next_tree op t) (k + 1) → MapRecovers f mode lot m (answer t k n f op).1 (k + 1)
+    pub accepted-recovers : (mode : ℕ) (lot : LotView) (m : Map) → MapRecovers f mode lot m (next_tree op t) (k + 1)
+        → MapRecovers f mode lot m (answer t k n f op).1 (k + 1)
     accepted-recovers mode lot m r = subst (λ u. MapRecovers f mode lot m u (k + 1)) (sym (ap (λ a. a.1) (answer-accepted t k n f op none))) r

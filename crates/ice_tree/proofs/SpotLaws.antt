@@ -53,7 +53,8 @@ module _ (f : Form) (o : Table) (p : Names) (t : Tree) (ends : Ends) (is : IsEnd
 
   module _ (number size : ℕ) where
     pub file_parent : ends.parent ≡ File number size → new_refusal p t ≡ Some why.NotDir
-    file_parent e = let d = ends_file (inode_on f o 0 (parent p)) number size (walk (parent p) t) (sym e ∙ is.at_parent) in by-walk p t (Found (tree.File d.0)) d.1
+    file_parent e =
+        let d = ends_file (inode_on f o 0 (parent p)) number size (walk (parent p) t) (sym e ∙ is.at_parent) in by-walk p t (Found (tree.File d.0)) d.1
 
     module _ (e : ends.parent ≡ Dir number size) where
       dir : (es : tree.Entries) × (walk (parent p) t ≡ Found (tree.Dir es)) × (number ≡ inode_on f o 0 (parent p)) × (size ≡ length (rows es))
@@ -76,7 +77,9 @@ module _ (f : Form) (o : Table) (p : Names) (t : Tree) (ends : Ends) (is : IsEnd
           elim (walk p t) as (λ w. walk p t ≡ w → new_refusal p t ≡ Some why.Exists) [
             | Found s ↦ λ q. below h ∙ ap (λ w. if is_found w then Some why.Exists else None) q
             | NotFound ↦ λ q. absurd (full (is.at_end ∙ ap (place_by (inode_on f o 0 p)) q))
-            | NotDir ↦ λ q. absurd (never_blocked (find by_bytes (last_name p) (rows dir.0)) (sym (walk-last p t h ∙ ap (λ w. and_on w (λ u. walk (last_name p ∷ []) u)) dir.1) ∙ q))
+            | NotDir ↦ λ q.
+                absurd (never_blocked (find by_bytes (last_name p) (rows dir.0))
+                (sym (walk-last p t h ∙ ap (λ w. and_on w (λ u. walk (last_name p ∷ []) u)) dir.1) ∙ q))
           ] refl
 
 -- ---- all that refuses something new
@@ -86,13 +89,18 @@ chained (Some r) b c d = refl
 chained None (Some r) c d = refl
 chained None None c d = refl
 
-pub new-stages : (dir : Bool) (t : Tree) (k n : ℕ) (f : Form) (p : Names) → refusal t k n f (new_operation dir p) ≡ or_else (paths_refusal f (p ∷ [])) (or_else (new_refusal p t) (quota_refusal n f k (next_tree (new_operation dir p) t)))
+pub new-stages : (dir : Bool) (t : Tree) (k n : ℕ) (f : Form) (p : Names)
+    → refusal t k n f (new_operation dir p) ≡ or_else (paths_refusal f (p ∷ [])) (or_else (new_refusal p t) (quota_refusal n f k (next_tree (new_operation dir p) t)))
 new-stages true t k n f p =
     refusal_mkdir t k n f p
-    ∙ ap (or_else (paths_refusal f (p ∷ []))) (chained (walk_refusal (parent_walk p t)) (if is_root p then Some why.IsRoot else None) (if is_found (walk p t) then Some why.Exists else None) (quota_refusal n f k (next_tree (new_operation true p) t)))
+    ∙ ap (or_else (paths_refusal f (p ∷ [])))
+    (chained (walk_refusal (parent_walk p t)) (if is_root p then Some why.IsRoot else None)
+    (if is_found (walk p t) then Some why.Exists else None) (quota_refusal n f k (next_tree (new_operation true p) t)))
 new-stages false t k n f p =
     refusal_make t k n f p
-    ∙ ap (or_else (paths_refusal f (p ∷ []))) (chained (walk_refusal (parent_walk p t)) (if is_root p then Some why.IsRoot else None) (if is_found (walk p t) then Some why.Exists else None) (quota_refusal n f k (next_tree (new_operation false p) t)))
+    ∙ ap (or_else (paths_refusal f (p ∷ [])))
+    (chained (walk_refusal (parent_walk p t)) (if is_root p then Some why.IsRoot else None)
+    (if is_found (walk p t) then Some why.Exists else None) (quota_refusal n f k (next_tree (new_operation false p) t)))
 
 free-both : (a b : Bool) → or_else (if a then Some why.IsRoot else None) (if b then Some why.Exists else None) ≡ None → (a ≡ false) × (b ≡ false)
 free-both true b h = absurd cc
@@ -111,7 +119,8 @@ made_nodes true = refl
 made_nodes false = refl
 
 -- what it needs
-pub new-needs : (f : Form) → f ≡ form_one → (o : Table) (p : Names) (t : Tree) (spot : DirAt) (dir : Bool) → IsDirAt f o (parent p) t spot → new_refusal p t ≡ None
+pub new-needs : (f : Form) → f ≡ form_one → (o : Table) (p : Names) (t : Tree) (spot : DirAt) (dir : Bool) → IsDirAt f o (parent p) t spot
+    → new_refusal p t ≡ None
     → (b c : ℕ) → b ≡ map_cost (dir_blocks f (spot.entries + 1)) → c ≡ map_cost (dir_blocks f spot.entries)
     → Needs f t (next_tree (new_operation dir p) t) (record { nodes = 1; lost = 0; blocks = b; freed = c })
 new-needs f one o p t spot dir is none b c more less =
@@ -130,10 +139,12 @@ new-needs f one o p t spot dir is none b c more less =
     record { nodes_move = omega arith; blocks_move = omega arith }
 
 -- what was found before a look holds after it
-pub takes-after : (f : Form) (mode : ℕ) (lot : LotView) (m m' : Map) (t : Tree) (k : ℕ) (p : Names) (dir : Bool) (spot : DirAt) (name : List ℕ) → m' ≡ m → MapRecovers f mode lot m t k → IsDirAt f (own f m) (parent p) t spot
+pub takes-after : (f : Form) (mode : ℕ) (lot : LotView) (m m' : Map) (t : Tree) (k : ℕ) (p : Names) (dir : Bool) (spot : DirAt) (name : List ℕ)
+    → m' ≡ m → MapRecovers f mode lot m t k → IsDirAt f (own f m) (parent p) t spot
     → name ≡ last_name p → is_name name ≡ true → refusal t k (length lot.groups) f (new_operation dir p) ≡ None → Takes f mode lot m' t k p dir spot name
 takes-after f mode lot m m' t k p dir spot name same r is last proper none =
-    subst (λ (x : Map). Takes f mode lot x t k p dir spot name) (sym same) (record { recovers = r; spot_is = is; name_is = last; proper = proper; accepted = none })
+    subst (λ (x : Map). Takes f mode lot x t k p dir spot name) (sym same)
+    (record { recovers = r; spot_is = is; name_is = last; proper = proper; accepted = none })
 
 -- a path with no name from the depth on is the root
 pub root-is : (path : List (List ℕ)) (depth n : ℕ) → depth ≤ length path → n ≡ length path → nat_eq n depth ≡ is_root (drop depth path)

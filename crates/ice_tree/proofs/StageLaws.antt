@@ -31,5 +31,6 @@ pub finds-later : {A : Type 0} (result : Result A Refusal) (a b : Option Why) �
 finds-later {A} result a b e h = subst (λ (o : Option Why). RefusedBy o result) (sym (later_stage a b e)) h
 
 -- an equal map recovers the same
-pub recovers-same : (f : Form) (mode : ℕ) (lot : LotView) (m m' : Map) (t : Tree) (k : ℕ) → m' ≡ m → MapRecovers f mode lot m t k → MapRecovers f mode lot m' t k
+pub recovers-same : (f : Form) (mode : ℕ) (lot : LotView) (m m' : Map) (t : Tree) (k : ℕ) → m' ≡ m → MapRecovers f mode lot m t k
+    → MapRecovers f mode lot m' t k
 recovers-same f mode lot m m' t k e r = subst (λ (x : Map). MapRecovers f mode lot x t k) (sym e) r

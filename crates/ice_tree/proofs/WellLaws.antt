@@ -26,10 +26,12 @@ module _ (lot : LotView) (form : Form) (one : form ≡ form_one) (m : ℕ → Li
   pub dir-free : IsDirectory lot (inode_of m number) → FreeOrTwice m (dir_uses form m number) → ¬ WellMade lot form m number
   dir-free d bad made = free-unmade lot m (inode_of m number) (entry_blocks form (inode_of m number).size) bad (made-dir d made)
 
-  pub dir-confused : IsDirectory lot (inode_of m number) → Confuses lot m (inode_of m number) (entry_blocks form (inode_of m number).size) → ¬ WellMade lot form m number
+  pub dir-confused : IsDirectory lot (inode_of m number) → Confuses lot m (inode_of m number) (entry_blocks form (inode_of m number).size)
+      → ¬ WellMade lot form m number
   dir-confused d bad made = confused-unmade lot m (inode_of m number) (entry_blocks form (inode_of m number).size) bad (made-dir d made)
 
-  pub dir-misled : IsDirectory lot (inode_of m number) → Misleads lot m (inode_of m number) (entry_blocks form (inode_of m number).size) → ¬ WellMade lot form m number
+  pub dir-misled : IsDirectory lot (inode_of m number) → Misleads lot m (inode_of m number) (entry_blocks form (inode_of m number).size)
+      → ¬ WellMade lot form m number
   dir-misled d bad made = misled-unmade lot m (inode_of m number) (entry_blocks form (inode_of m number).size) bad (made-dir d made)
 
   module _ (at : ℕ) (file : ReachesTo form at (inode_of m number)) where
@@ -45,4 +47,5 @@ module _ (lot : LotView) (form : Form) (one : form ≡ form_one) (m : ℕ → Li
     pub file-free : FreeOrTwice m (cut_off m (inode_of m number) (blocks_for (inode_of m number).size) (blocks_for at)) → ¬ WellMade lot form m number
     file-free bad made =
         free-unmade lot m (inode_of m number) (blocks_for (inode_of m number).size)
-        (off-free m (inode_of m number) (blocks_for (inode_of m number).size) (blocks_for at) (count-less at (inode_of m number).size file.reaches) bad) (made-file made)
+        (off-free m (inode_of m number) (blocks_for (inode_of m number).size) (blocks_for at)
+        (count-less at (inode_of m number).size file.reaches) bad) (made-file made)

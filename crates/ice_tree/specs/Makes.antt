@@ -31,10 +31,12 @@ new_inode dir = record { kind = if dir then 2 else 1; size = 0; direct = replica
 
 -- the refusal of the place where something is made
 abbrev pub new_refusal : List (List ℕ) → Tree → Option Why
-new_refusal p t = or_else (walk_refusal (parent_walk p t)) (or_else (if is_root p then Some why.IsRoot else None) (if is_found (walk p t) then Some why.Exists else None))
+new_refusal p t =
+    or_else (walk_refusal (parent_walk p t)) (or_else (if is_root p then Some why.IsRoot else None) (if is_found (walk p t) then Some why.Exists else None))
 
 -- the map recovers a tree that takes the new directory or file, the spot is the directory of its path, and the name is the path's last one
-pub record Takes (f : Form) (mode : ℕ) (lot : LotView) (m : Map) (t : Tree) (k : ℕ) (p : List (List ℕ)) (dir : Bool) (spot : DirAt) (name : List ℕ) : Type 0 where
+pub record Takes (f : Form) (mode : ℕ) (lot : LotView) (m : Map) (t : Tree) (k : ℕ) (p : List (List ℕ)) (dir : Bool) (spot : DirAt)
+    (name : List ℕ) : Type 0 where
   pub recovers : MapRecovers f mode lot m t k
   pub spot_is : IsDirAt f (own f m) (parent p) t spot
   pub name_is : name ≡ last_name p

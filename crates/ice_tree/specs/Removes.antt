@@ -30,7 +30,8 @@ use Rattle.ice_dir.specs.Rows.{dir_rows_of, look_up}
 
 -- the refusal of a removal by what stands at the path
 abbrev pub removal_refusal : List (List ℕ) → Tree → Option Why
-removal_refusal p t = or_else (walk_refusal (walk p t)) (or_else (if is_root p then Some why.IsRoot else None) (if is_full_found (walk p t) then Some why.NotEmpty else None))
+removal_refusal p t =
+    or_else (walk_refusal (walk p t)) (or_else (if is_root p then Some why.IsRoot else None) (if is_full_found (walk p t) then Some why.NotEmpty else None))
 
 -- the inode of nothing
 abbrev pub free_inode : Inode
@@ -79,10 +80,14 @@ pub record RemovalIs (form : Form) (lot : LotView) (m : ℕ → List ℕ) (name 
 -- what is damaged of a file or an empty directory at an inode, whether or not a directory names it, by the rule on counts, pointers or bitmaps
 abbrev pub LooseBroken : LotView → (ℕ → List ℕ) → ℕ → Rule → Type 0
 LooseBroken lot m number rule.Counts =
-    (((inode_of m number).kind ≡ 1) × ((inode_of m number).size ≤ form_one.longest_file) × (counted false m < uses_of (blocks_for (inode_of m number).size))) ⊎ (counted true m ≡ 0)
-LooseBroken lot m number rule.Pointer = ((inode_of m number).kind ≡ 1) × ((inode_of m number).size ≤ form_one.longest_file) × Misleads lot m (inode_of m number) (blocks_for (inode_of m number).size)
+    (((inode_of m number).kind ≡ 1) × ((inode_of m number).size ≤ form_one.longest_file) × (counted false m < uses_of
+    (blocks_for (inode_of m number).size))) ⊎ (counted true m ≡ 0)
+LooseBroken lot m number rule.Pointer =
+    ((inode_of m number).kind ≡ 1) × ((inode_of m number).size ≤ form_one.longest_file) × Misleads lot m (inode_of m number)
+    (blocks_for (inode_of m number).size)
 LooseBroken lot m number rule.Bitmap =
     (((inode_of m number).kind ≡ 1) × ((inode_of m number).size ≤ form_one.longest_file)
     × (12 < blocks_for (inode_of m number).size → is_data lot (inode_of m number).single ≡ true)
-    × (UsesUnmarked m (inode_of m number) (blocks_for (inode_of m number).size) ⊎ HasTwice (uses m (inode_of m number) (blocks_for (inode_of m number).size)))) ⊎ (used_inode m number ≡ false)
+    × (UsesUnmarked m (inode_of m number) (blocks_for (inode_of m number).size) ⊎ HasTwice
+    (uses m (inode_of m number) (blocks_for (inode_of m number).size)))) ⊎ (used_inode m number ≡ false)
 LooseBroken lot m number _ = ⊥

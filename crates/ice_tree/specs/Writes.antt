@@ -38,7 +38,8 @@ pub record FileFits (lot : LotView) (at : ℕ) (file : FileAt) : Type 0 where
 
 -- the refusal of a path that has to end at a file that reaches to a place
 abbrev pub reach_refusal : Form → List (List ℕ) → ℕ → Tree → Option Why
-reach_refusal f p at t = or_else (paths_refusal f (p ∷ [])) (or_else (file_refusal (walk p t)) (if nat_lt (length (bytes_found (walk p t))) at then Some why.BeyondEnd else None))
+reach_refusal f p at t =
+    or_else (paths_refusal f (p ∷ [])) (or_else (file_refusal (walk p t)) (if nat_lt (length (bytes_found (walk p t))) at then Some why.BeyondEnd else None))
 
 -- the map recovers a tree that takes the operation, and the inode is that of the path's file
 pub record TakesAt (f : Form) (mode : ℕ) (lot : LotView) (m : Map) (t : Tree) (k : ℕ) (p : List (List ℕ)) (op : Operation) (number : ℕ) : Type 0 where

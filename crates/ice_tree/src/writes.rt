@@ -287,7 +287,8 @@ fn put_cut<D: Disk, K: Keep<D>, P: Pool<D, K>, F: Form>(
     Ok(())
 }
 
-/// Puts the bytes into a file from `at` on: they replace those that stand there, and those past the end extend it. `depth` is the number of names of the cube's path. After a fault or damage the keep may hold part of the change.
+/// Puts the bytes into a file from `at` on: they replace those that stand there, and those past the end extend it.
+/// `depth` is the number of names of the cube's path. After a fault or damage the keep may hold part of the change.
 pub fn write<D: Disk, K: Keep<D>, P: Pool<D, K>, F: Form>(
     keep: &mut K,
     pool: &mut P,

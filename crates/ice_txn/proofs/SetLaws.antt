@@ -35,12 +35,14 @@ held_here entries j at less e = subst (λ a. holds entries a ≡ true) e (held_a
 
 pub ruleset find_laws = (held_here, not_held)
 
-pub over_at : (entries : List Entry) (m : ℕ → List ℕ) (j : ℕ) (d : Entry) → Differ entries → j < length entries → over entries m (address entries j) ≡ (slice_index_or entries j d).block
+pub over_at : (entries : List Entry) (m : ℕ → List ℕ) (j : ℕ) (d : Entry) → Differ entries → j < length entries
+    → over entries m (address entries j) ≡ (slice_index_or entries j d).block
 unfolding over address
 over_at [] m j d differ less = absurd (omega arith)
 over_at (e ∷ entries) m zero d differ less = grind (arith, nat_tests)
 over_at (e ∷ entries) m (suc j) d differ less =
-    let r : over entries m (address entries j) ≡ (slice_index_or entries j d).block = over_at entries m j d (λ x y h k q. differ (suc x) (suc y) (omega (arith, h)) (omega (arith, k)) q) (omega arith) in
+    let r : over entries m (address entries j) ≡ (slice_index_or entries j d).block = over_at entries m j d
+    (λ x y h k q. differ (suc x) (suc y) (omega (arith, h)) (omega (arith, k)) q) (omega arith) in
     let f : e.at ≢ address entries j = differ zero (suc j) (omega arith) less in
     grind (arith, nat_tests)
 
@@ -51,7 +53,8 @@ at_of (f ∷ entries) zero e d less t = ap (λ (x : Entry). x.at) t
 at_of (f ∷ entries) (suc j) e d less t = at_of entries j e d (omega arith) t
 
 -- an entry with another block in its place
-pub address_set : (entries : List Entry) (j : ℕ) (e : Entry) (i : ℕ) → j < length entries → e.at ≡ address entries j → address (slice_set entries j e) i ≡ address entries i
+pub address_set : (entries : List Entry) (j : ℕ) (e : Entry) (i : ℕ) → j < length entries → e.at ≡ address entries j
+    → address (slice_set entries j e) i ≡ address entries i
 unfolding address
 address_set [] j e i less t = absurd (omega arith)
 address_set (f ∷ entries) zero e zero less t = t
@@ -69,18 +72,22 @@ differ_set entries j e less t differ = λ x y h k q.
     let n = count_set entries j e in
     differ x y h (omega (arith, k, n)) (sym (address_set entries j e x less t) ∙ q ∙ address_set entries j e y less t)
 
-pub holds_set : (entries : List Entry) (j : ℕ) (e : Entry) (a : ℕ) → j < length entries → e.at ≡ address entries j → holds (slice_set entries j e) a ≡ cond (e.at == a) true (holds entries a)
+pub holds_set : (entries : List Entry) (j : ℕ) (e : Entry) (a : ℕ) → j < length entries → e.at ≡ address entries j
+    → holds (slice_set entries j e) a ≡ cond (e.at == a) true (holds entries a)
 unfolding holds address
 holds_set [] j e a less t = absurd (omega arith)
 holds_set (f ∷ entries) zero e a less t = let s : e.at ≡ f.at = t in grind (arith, nat_tests)
-holds_set (f ∷ entries) (suc j) e a less t = let r : holds (slice_set entries j e) a ≡ cond (e.at == a) true (holds entries a) = holds_set entries j e a (omega arith) t in grind (arith, nat_tests)
+holds_set (f ∷ entries) (suc j) e a less t =
+    let r : holds (slice_set entries j e) a ≡ cond (e.at == a) true (holds entries a) = holds_set entries j e a (omega arith) t in grind (arith, nat_tests)
 
-pub over_set : (entries : List Entry) (j : ℕ) (e : Entry) (m : ℕ → List ℕ) (a : ℕ) → Differ entries → j < length entries → e.at ≡ address entries j → over (slice_set entries j e) m a ≡ cond (e.at == a) e.block (over entries m a)
+pub over_set : (entries : List Entry) (j : ℕ) (e : Entry) (m : ℕ → List ℕ) (a : ℕ) → Differ entries → j < length entries
+    → e.at ≡ address entries j → over (slice_set entries j e) m a ≡ cond (e.at == a) e.block (over entries m a)
 unfolding over address
 over_set [] j e m a differ less t = absurd (omega arith)
 over_set (f ∷ entries) zero e m a differ less t = let s : e.at ≡ f.at = t in grind (arith, nat_tests)
 over_set (f ∷ entries) (suc j) e m a differ less t =
-    let r : over (slice_set entries j e) m a ≡ cond (e.at == a) e.block (over entries m a) = over_set entries j e m a (λ x y h k q. differ (suc x) (suc y) (omega (arith, h)) (omega (arith, k)) q) (omega arith) t in
+    let r : over (slice_set entries j e) m a ≡ cond (e.at == a) e.block (over entries m a) = over_set entries j e m a
+    (λ x y h k q. differ (suc x) (suc y) (omega (arith, h)) (omega (arith, k)) q) (omega arith) t in
     let g : f.at ≢ e.at = λ q. differ zero (suc j) (omega arith) less (q ∙ t) in
     grind (arith, nat_tests)
 
@@ -90,7 +97,8 @@ unfolding holds
 holds_push [] e a = grind (arith, nat_tests)
 holds_push (f ∷ entries) e a = let r = holds_push entries e a in grind (arith, nat_tests)
 
-pub over_push : (entries : List Entry) (e : Entry) (m : ℕ → List ℕ) (a : ℕ) → holds entries e.at ≡ false → over (entries ++ e ∷ []) m a ≡ cond (e.at == a) e.block (over entries m a)
+pub over_push : (entries : List Entry) (e : Entry) (m : ℕ → List ℕ) (a : ℕ) → holds entries e.at ≡ false
+    → over (entries ++ e ∷ []) m a ≡ cond (e.at == a) e.block (over entries m a)
 unfolding holds over
 over_push [] e m a free = grind (arith, nat_tests)
 over_push (f ∷ entries) e m a free = let r = over_push entries e m a in grind (arith, nat_tests)
@@ -150,21 +158,26 @@ later : (e : Entry) (entries : List Entry) → Differ (e ∷ entries) → Differ
 unfolding address
 later e entries differ = λ x y h k q. differ (suc x) (suc y) (omega (arith, h)) (omega (arith, k)) q
 
-pub holds_removed : (entries : List Entry) (j a : ℕ) → Differ entries → j < length entries → holds (remove entries j) a ≡ cond (address entries j == a) false (holds entries a)
+pub holds_removed : (entries : List Entry) (j a : ℕ) → Differ entries → j < length entries
+    → holds (remove entries j) a ≡ cond (address entries j == a) false (holds entries a)
 unfolding holds address
 holds_removed [] j a differ less = absurd (omega arith)
 holds_removed (e ∷ entries) zero a differ less = out_of e.at a (holds entries a) (λ q. subst (λ x. holds entries x ≡ false) q (first_apart e entries differ))
 holds_removed (e ∷ entries) (suc j) a differ less =
-    let r : holds (remove entries j) a ≡ cond (address entries j == a) false (holds entries a) = holds_removed entries j a (later e entries differ) (omega arith) in
+    let r : holds (remove entries j) a ≡ cond (address entries j == a) false (holds entries a) = holds_removed entries j a
+    (later e entries differ) (omega arith) in
     let f : e.at ≢ address entries j = differ zero (suc j) (omega arith) less in
     grind (arith, nat_tests)
 
-pub over_removed : (entries : List Entry) (m : ℕ → List ℕ) (j a : ℕ) → Differ entries → j < length entries → over (remove entries j) m a ≡ cond (address entries j == a) (m a) (over entries m a)
+pub over_removed : (entries : List Entry) (m : ℕ → List ℕ) (j a : ℕ) → Differ entries → j < length entries
+    → over (remove entries j) m a ≡ cond (address entries j == a) (m a) (over entries m a)
 unfolding over address
 over_removed [] m j a differ less = absurd (omega arith)
-over_removed (e ∷ entries) m zero a differ less = from_under e.at a (over entries m a) e.block (m a) (λ q. over_free entries m a (subst (λ x. holds entries x ≡ false) q (first_apart e entries differ)))
+over_removed (e ∷ entries) m zero a differ less =
+    from_under e.at a (over entries m a) e.block (m a) (λ q. over_free entries m a (subst (λ x. holds entries x ≡ false) q (first_apart e entries differ)))
 over_removed (e ∷ entries) m (suc j) a differ less =
-    let r : over (remove entries j) m a ≡ cond (address entries j == a) (m a) (over entries m a) = over_removed entries m j a (later e entries differ) (omega arith) in
+    let r : over (remove entries j) m a ≡ cond (address entries j == a) (m a) (over entries m a) = over_removed entries m j a
+    (later e entries differ) (omega arith) in
     let f : e.at ≢ address entries j = differ zero (suc j) (omega arith) less in
     grind (arith, nat_tests)
 

@@ -100,12 +100,14 @@ named_some (Some u) v h = ap (λ x. Some x) (same h)
     same : Found u ≡ Found v → u ≡ v
     same h = cc
 
-walk_in : (p : Names) (t : Tree) (es : Entries) → is_root p ≡ false → walk (parent p) t ≡ Found (Dir es) → walk p t ≡ and_on (found_or_not (find by_bytes (last_name p) (rows es))) (λ u. Found u)
+walk_in : (p : Names) (t : Tree) (es : Entries) → is_root p ≡ false → walk (parent p) t ≡ Found (Dir es)
+    → walk p t ≡ and_on (found_or_not (find by_bytes (last_name p) (rows es))) (λ u. Found u)
 walk_in p t es r h = walk-last p t r ∙ ap (λ w. and_on w (λ u. walk (last_name p ∷ []) u)) h
 
 -- a directory on the way and nothing at the path
 pub has_place : (p : Names) (t : Tree) (es : Entries) → is_root p ≡ false → walk (parent p) t ≡ Found (Dir es) → is_found (walk p t) ≡ false → HasPlace p t
-has_place p t es r h free = record { entries = es; there = h; free = named (find by_bytes (last_name p) (rows es)) (ap is_found (sym (walk_in p t es r h)) ∙ free); below = r }
+has_place p t es r h free =
+    record { entries = es; there = h; free = named (find by_bytes (last_name p) (rows es)) (ap is_found (sym (walk_in p t es r h)) ∙ free); below = r }
 
 -- and a walk finds what the directory has
 pub entry_walk : (p : Names) (t v : Tree) → HasEntry p t v → walk p t ≡ Found v
@@ -138,13 +140,15 @@ module _ (t : Tree) (done n : ℕ) (f : Form) where
   -- an accepted mkdir has a place
   pub accepted-mkdir : (p : Names) → refusal t done n f (Mkdir p) ≡ None → HasPlace p t
   accepted-mkdir p h =
-      let d = dir_walk (walk (parent p) t) (first_false _ _ (refusal-none t done n f (Mkdir p) why.NotFound h)) (first_false _ _ (first_false _ _ (refusal-none t done n f (Mkdir p) why.NotDir h))) in
+      let d = dir_walk (walk (parent p) t) (first_false _ _ (refusal-none t done n f (Mkdir p) why.NotFound h))
+      (first_false _ _ (first_false _ _ (refusal-none t done n f (Mkdir p) why.NotDir h))) in
       has_place p t d.0 (refusal-none t done n f (Mkdir p) why.IsRoot h) d.1 (refusal-none t done n f (Mkdir p) why.Exists h)
 
   -- an accepted make has a place
   pub accepted-make : (p : Names) → refusal t done n f (Make p) ≡ None → HasPlace p t
   accepted-make p h =
-      let d = dir_walk (walk (parent p) t) (first_false _ _ (refusal-none t done n f (Make p) why.NotFound h)) (first_false _ _ (first_false _ _ (refusal-none t done n f (Make p) why.NotDir h))) in
+      let d = dir_walk (walk (parent p) t) (first_false _ _ (refusal-none t done n f (Make p) why.NotFound h))
+      (first_false _ _ (first_false _ _ (refusal-none t done n f (Make p) why.NotDir h))) in
       has_place p t d.0 (refusal-none t done n f (Make p) why.IsRoot h) d.1 (refusal-none t done n f (Make p) why.Exists h)
 
   -- a file
@@ -168,7 +172,8 @@ module _ (t : Tree) (done n : ℕ) (f : Form) where
   pub accepted-write : (p : Names) (off : ℕ) (bytes : List ℕ) → refusal t done n f (Write p off bytes) ≡ None → WritesFile p off bytes
   accepted-write p off bytes h =
       let op = Write p off bytes in
-      let w = file_walk (walk p t) (first_false _ _ (refusal-none t done n f op why.NotFound h)) (first_false _ _ (first_false _ _ (refusal-none t done n f op why.NotDir h))) (refusal-none t done n f op why.IsDir h) in
+      let w = file_walk (walk p t) (first_false _ _ (refusal-none t done n f op why.NotFound h))
+      (first_false _ _ (first_false _ _ (refusal-none t done n f op why.NotDir h))) (refusal-none t done n f op why.IsDir h) in
       record {
         old = w.0;
         found = w.1;
@@ -186,7 +191,8 @@ module _ (t : Tree) (done n : ℕ) (f : Form) where
   pub accepted-trunc : (p : Names) (len : ℕ) → refusal t done n f (Trunc p len) ≡ None → CutsFile p len
   accepted-trunc p len h =
       let op = Trunc p len in
-      let w = file_walk (walk p t) (first_false _ _ (refusal-none t done n f op why.NotFound h)) (first_false _ _ (first_false _ _ (refusal-none t done n f op why.NotDir h))) (refusal-none t done n f op why.IsDir h) in
+      let w = file_walk (walk p t) (first_false _ _ (refusal-none t done n f op why.NotFound h))
+      (first_false _ _ (first_false _ _ (refusal-none t done n f op why.NotDir h))) (refusal-none t done n f op why.IsDir h) in
       record { old = w.0; found = w.1; within = at_most _ _ (ap (λ x. nat_lt (length (bytes_found x)) len) (sym w.1) ∙ refusal-none t done n f op why.BeyondEnd h) }
 
   -- an entry that is no directory with entries
@@ -199,5 +205,6 @@ module _ (t : Tree) (done n : ℕ) (f : Form) where
   pub accepted-remove : (p : Names) → refusal t done n f (Remove p) ≡ None → Removes p
   accepted-remove p h =
       let op = Remove p in
-      let w = tree_walk (walk p t) (first_false _ _ (refusal-none t done n f op why.NotFound h)) (first_false _ _ (first_false _ _ (refusal-none t done n f op why.NotDir h))) in
+      let w = tree_walk (walk p t) (first_false _ _ (refusal-none t done n f op why.NotFound h))
+      (first_false _ _ (first_false _ _ (refusal-none t done n f op why.NotDir h))) in
       record { gone = w.0; entry = has_entry p t w.0 (refusal-none t done n f op why.IsRoot h) w.1; empty = ap is_full_found (sym w.1) ∙ refusal-none t done n f op why.NotEmpty h }

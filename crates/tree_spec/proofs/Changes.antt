@@ -48,13 +48,15 @@ dir_sorted p t es o h = left (is_sorted by_bytes (rows es)) (all_ordered es) (su
     left false b p = p
 
 -- the number of entries of the directory falls by one
-pub length-removed : (p : Names) (t v : Tree) → T (is_ordered t) → (h : HasEntry p t v) → length (rows (without (last_name p) h.entries)) + 1 ≡ length (rows h.entries)
+pub length-removed : (p : Names) (t v : Tree) → T (is_ordered t) → (h : HasEntry p t v)
+    → length (rows (without (last_name p) h.entries)) + 1 ≡ length (rows h.entries)
 length-removed p t v o h = length-without (last_name p) v h.entries (dir_sorted (parent p) t h.entries o h.there) h.found
 
 -- the sum loses what went, and the directory's own part moves by one entry
 pub total-removed : (file : List ℕ → ℕ) (dir : ℕ → ℕ) (p : Names) (t v : Tree) → T (is_ordered t) → (h : HasEntry p t v)
     → total file dir (removed p t) + total file dir v + dir (length (rows h.entries)) ≡ total file dir t + dir (length (rows (without (last_name p) h.entries)))
-total-removed file dir p t v o h = total-without_at file dir (parent p) (last_name p) v t h.entries h.there (dir_sorted (parent p) t h.entries o h.there) h.found
+total-removed file dir p t v o h =
+    total-without_at file dir (parent p) (last_name p) v t h.entries h.there (dir_sorted (parent p) t h.entries o h.there) h.found
 
 -- ---- a file that gets other bytes
 
@@ -142,7 +144,8 @@ module _ (t : Tree) (done n : ℕ) (f : Form) (p q : Names) (h : refusal t done 
       let at_end : outline (walk q (removed p t)) ≡ outline (walk q t) =
       outline-without (parent p) (last_name p) q t (ap (λ x. is_prefix x q) (whole p p_below) ∙ apart) in
       let e = dir_outline (walk (parent q) (removed p t)) (at_parent ∙ ap outline d.1) in
-      let deep : nat_lt deepest (length q + height (tree_found (walk p t))) ≡ false = and_given _ _ (second_false _ _ (refusal-none t done n f op why.TooDeep h)) (ap is_found w.1) in
+      let deep : nat_lt deepest (length q + height (tree_found (walk p t))) ≡ false = and_given _ _
+      (second_false _ _ (refusal-none t done n f op why.TooDeep h)) (ap is_found w.1) in
       record {
         tree = w.0;
         entry = has_entry p t w.0 p_below w.1;
@@ -160,7 +163,8 @@ next-rename t p q v differ h = ap (λ b. cond b t (moved_tree p q t)) differ ∙
 path_short : (p : Names) (b : Bool) → ((nat_lt deepest (length p) || false) || b) ≡ false → length p ≤ deepest
 path_short p b h = at_most _ _ (first_false _ _ (first_false _ _ h))
 
-height-rename : (t : Tree) (done n : ℕ) (f : Form) (p q : Names) (b : Bool) → is_same_path p q ≡ b → refusal t done n f (Rename p q) ≡ None → height t ≤ deepest → height (cond b t (moved_tree p q t)) ≤ deepest
+height-rename : (t : Tree) (done n : ℕ) (f : Form) (p q : Names) (b : Bool) → is_same_path p q ≡ b → refusal t done n f (Rename p q) ≡ None
+    → height t ≤ deepest → height (cond b t (moved_tree p q t)) ≤ deepest
 height-rename t done n f p q true e h low = low
 height-rename t done n f p q false e h low =
     let m = accepted-rename t done n f p q h e in
@@ -169,8 +173,10 @@ height-rename t done n f p q false e h low =
     (omega (arith, height-placed q m.tree (removed p t) m.place, height-removed p t m.tree m.entry, m.low))
 
 pub height-next : (op : Operation) (t : Tree) (done n : ℕ) (f : Form) → refusal t done n f op ≡ None → height t ≤ deepest → height (next_tree op t) ≤ deepest
-height-next (Mkdir p) t done n f h low = omega (arith, height-placed p (Dir Nil) t (accepted-mkdir t done n f p h), path_short p _ (refusal-none t done n f (Mkdir p) why.TooDeep h))
-height-next (Make p) t done n f h low = omega (arith, height-placed p (File []) t (accepted-make t done n f p h), path_short p _ (refusal-none t done n f (Make p) why.TooDeep h))
+height-next (Mkdir p) t done n f h low =
+    omega (arith, height-placed p (Dir Nil) t (accepted-mkdir t done n f p h), path_short p _ (refusal-none t done n f (Mkdir p) why.TooDeep h))
+height-next (Make p) t done n f h low =
+    omega (arith, height-placed p (File []) t (accepted-make t done n f p h), path_short p _ (refusal-none t done n f (Make p) why.TooDeep h))
 height-next (Write p off bytes) t done n f h low =
     let w = accepted-write t done n f p off bytes h in
     omega (arith, height-file p (λ s. written (bytes_of s) off bytes) t (File w.old) w.found)

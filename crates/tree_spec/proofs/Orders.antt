@@ -27,7 +27,8 @@ right false b p = absurd p
 below_all-over : (x c : List ℕ) (g : Tree → Tree) (es : Entries) → below_all by_bytes x (rows (over_entry c g es)) ≡ below_all by_bytes x (rows es)
 below_all-over x c g Nil = refl
 below_all-over x c g (Entry d t es) =
-    elim (is_same_name c d) as (λ b. below_all by_bytes x (rows (cond b (Entry d (g t) es) (Entry d t (over_entry c g es)))) ≡ below_all by_bytes x ((d, t) ∷ rows es)) [
+    elim (is_same_name c d) as (λ b. below_all by_bytes x
+    (rows (cond b (Entry d (g t) es) (Entry d t (over_entry c g es)))) ≡ below_all by_bytes x ((d, t) ∷ rows es)) [
       | true ↦ refl
       | false ↦ ap (λ b. is_lt (by_bytes x d) && b) (below_all-over x c g es)
     ]
@@ -36,7 +37,8 @@ below_all-over x c g (Entry d t es) =
 pub is_sorted-over : (c : List ℕ) (g : Tree → Tree) (es : Entries) → is_sorted by_bytes (rows (over_entry c g es)) ≡ is_sorted by_bytes (rows es)
 is_sorted-over c g Nil = refl
 is_sorted-over c g (Entry d t es) =
-    elim (is_same_name c d) as (λ b. is_sorted by_bytes (rows (cond b (Entry d (g t) es) (Entry d t (over_entry c g es)))) ≡ (below_all by_bytes d (rows es) && is_sorted by_bytes (rows es))) [
+    elim (is_same_name c d) as (λ b. is_sorted by_bytes
+    (rows (cond b (Entry d (g t) es) (Entry d t (over_entry c g es)))) ≡ (below_all by_bytes d (rows es) && is_sorted by_bytes (rows es))) [
       | true ↦ refl
       | false ↦ λ i. below_all-over d c g es i && is_sorted-over c g es i
     ]
@@ -62,7 +64,8 @@ is_ordered-at (c ∷ p) g k (Dir es) h =
 all_ordered-with : (c : List ℕ) (s : Tree) (es : Entries) → T (is_ordered s) → T (all_ordered es) → T (all_ordered (from_rows (put by_bytes c s (rows es))))
 all_ordered-with c s Nil k h = both _ _ k tt
 all_ordered-with c s (Entry d t es) k h =
-    elim (by_bytes c d) as (λ r. T (all_ordered (from_rows (by_order r ((c, s) ∷ (d, t) ∷ rows es) ((d, s) ∷ rows es) ((d, t) ∷ put by_bytes c s (rows es)))))) [
+    elim (by_bytes c d) as (λ r. T
+    (all_ordered (from_rows (by_order r ((c, s) ∷ (d, t) ∷ rows es) ((d, s) ∷ rows es) ((d, t) ∷ put by_bytes c s (rows es)))))) [
       | Less ↦ both _ _ k (both _ _ (left _ _ h) (same es (right _ _ h)))
       | Equal ↦ both _ _ k (same es (right _ _ h))
       | Greater ↦ both _ _ (left _ _ h) (all_ordered-with c s es k (right _ _ h))
@@ -74,7 +77,9 @@ all_ordered-with c s (Entry d t es) k h =
 all_ordered-without : (c : List ℕ) (es : Entries) → T (all_ordered es) → T (all_ordered (without c es))
 all_ordered-without c Nil h = tt
 all_ordered-without c (Entry d t es) h =
-    elim (is_same_name c d) as (λ b. T (all_ordered (from_rows (cond (not b) ((d, t) ∷ filter (λ e. not (is_same_name c e.0)) (rows es)) (filter (λ e. not (is_same_name c e.0)) (rows es)))))) [
+    elim (is_same_name c d) as (λ b. T
+    (all_ordered
+    (from_rows (cond (not b) ((d, t) ∷ filter (λ e. not (is_same_name c e.0)) (rows es)) (filter (λ e. not (is_same_name c e.0)) (rows es)))))) [
       | true ↦ all_ordered-without c es (right _ _ h)
       | false ↦ both _ _ (left _ _ h) (all_ordered-without c es (right _ _ h))
     ]
@@ -82,13 +87,15 @@ all_ordered-without c (Entry d t es) h =
 pub is_ordered-with : (c : List ℕ) (s : Tree) → T (is_ordered s) → KeepsOrder (with_entry c s)
 is_ordered-with c s k (File bytes) h = tt
 is_ordered-with c s k (Dir es) h =
-    both _ _ (subst (λ y. T (is_sorted by_bytes y)) (sym (rows-from_rows (put by_bytes c s (rows es)))) (is_sorted-put by_bytes nat_list_cmp_total c s (rows es) (left _ _ h)))
+    both _ _ (subst (λ y. T (is_sorted by_bytes y)) (sym (rows-from_rows (put by_bytes c s (rows es))))
+    (is_sorted-put by_bytes nat_list_cmp_total c s (rows es) (left _ _ h)))
     (all_ordered-with c s es k (right _ _ h))
 
 pub is_ordered-without : (c : List ℕ) → KeepsOrder (without_entry c)
 is_ordered-without c (File bytes) h = tt
 is_ordered-without c (Dir es) h =
-    both _ _ (subst (λ y. T (is_sorted by_bytes y)) (sym (rows-from_rows (filter (λ e. not (is_same_name c e.0)) (rows es)))) (is_sorted-where_key by_bytes (λ x. not (is_same_name c x)) (rows es) (left _ _ h)))
+    both _ _ (subst (λ y. T (is_sorted by_bytes y)) (sym (rows-from_rows (filter (λ e. not (is_same_name c e.0)) (rows es))))
+    (is_sorted-where_key by_bytes (λ x. not (is_same_name c x)) (rows es) (left _ _ h)))
     (all_ordered-without c es (right _ _ h))
 
 ordered-find : (c : List ℕ) (es : Entries) (u : Tree) → T (all_ordered es) → find by_bytes c (rows es) ≡ Some u → T (is_ordered u)

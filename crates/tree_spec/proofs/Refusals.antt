@@ -61,18 +61,23 @@ module _ (t : Tree) (done n : ℕ) (f : Form) (op : Operation) where
   unfolding refusal
   refusal-of_paths r a = find-now test of_paths (of_walks ++ of_place ++ of_quota) r a
 
-  pub refusal-of_walks : (r : Why) → find (applies t done n f op) of_paths ≡ None → find (applies t done n f op) of_walks ≡ Some r → refusal t done n f op ≡ Some r
+  pub refusal-of_walks : (r : Why) → find (applies t done n f op) of_paths ≡ None → find (applies t done n f op) of_walks ≡ Some r
+      → refusal t done n f op ≡ Some r
   unfolding refusal
   refusal-of_walks r a b = find-later test of_paths (of_walks ++ of_place ++ of_quota) a ∙ find-now test of_walks (of_place ++ of_quota) r b
 
-  pub refusal-of_place : (r : Why) → find (applies t done n f op) of_paths ≡ None → find (applies t done n f op) of_walks ≡ None → find (applies t done n f op) of_place ≡ Some r → refusal t done n f op ≡ Some r
+  pub refusal-of_place : (r : Why) → find (applies t done n f op) of_paths ≡ None → find (applies t done n f op) of_walks ≡ None
+      → find (applies t done n f op) of_place ≡ Some r → refusal t done n f op ≡ Some r
   unfolding refusal
-  refusal-of_place r a b c = find-later test of_paths (of_walks ++ of_place ++ of_quota) a ∙ find-later test of_walks (of_place ++ of_quota) b ∙ find-now test of_place of_quota r c
+  refusal-of_place r a b c =
+      find-later test of_paths (of_walks ++ of_place ++ of_quota) a ∙ find-later test of_walks (of_place ++ of_quota) b ∙ find-now test of_place of_quota r c
 
-  pub refusal-of_quota : (r : Option Why) → find (applies t done n f op) of_paths ≡ None → find (applies t done n f op) of_walks ≡ None → find (applies t done n f op) of_place ≡ None → find (applies t done n f op) of_quota ≡ r → refusal t done n f op ≡ r
+  pub refusal-of_quota : (r : Option Why) → find (applies t done n f op) of_paths ≡ None → find (applies t done n f op) of_walks ≡ None
+      → find (applies t done n f op) of_place ≡ None → find (applies t done n f op) of_quota ≡ r → refusal t done n f op ≡ r
   unfolding refusal
   refusal-of_quota r a b c d =
-      find-later test of_paths (of_walks ++ of_place ++ of_quota) a ∙ find-later test of_walks (of_place ++ of_quota) b ∙ find-later test of_place of_quota c ∙ d
+      find-later test of_paths (of_walks ++ of_place ++ of_quota) a ∙ find-later test of_walks (of_place ++ of_quota) b
+      ∙ find-later test of_place of_quota c ∙ d
 
   -- the condition of the refusal holds
   pub refusal-applies : (r : Why) → refusal t done n f op ≡ Some r → applies t done n f op r ≡ true
@@ -89,9 +94,12 @@ module _ (t : Tree) (done n : ℕ) (f : Form) (op : Operation) where
   refusal-none why.IsDir h = find-none test (of_paths ++ why.NotFound ∷ why.NotDir ∷ []) why.IsDir (why.IsRoot ∷ of_place ++ of_quota) h
   refusal-none why.IsRoot h = find-none test (of_paths ++ why.NotFound ∷ why.NotDir ∷ why.IsDir ∷ []) why.IsRoot (of_place ++ of_quota) h
   refusal-none why.Exists h = find-none test (of_paths ++ of_walks) why.Exists (why.NotEmpty ∷ why.IntoItself ∷ why.BeyondEnd ∷ why.FileBig ∷ of_quota) h
-  refusal-none why.NotEmpty h = find-none test (of_paths ++ of_walks ++ why.Exists ∷ []) why.NotEmpty (why.IntoItself ∷ why.BeyondEnd ∷ why.FileBig ∷ of_quota) h
-  refusal-none why.IntoItself h = find-none test (of_paths ++ of_walks ++ why.Exists ∷ why.NotEmpty ∷ []) why.IntoItself (why.BeyondEnd ∷ why.FileBig ∷ of_quota) h
-  refusal-none why.BeyondEnd h = find-none test (of_paths ++ of_walks ++ why.Exists ∷ why.NotEmpty ∷ why.IntoItself ∷ []) why.BeyondEnd (why.FileBig ∷ of_quota) h
+  refusal-none why.NotEmpty h =
+      find-none test (of_paths ++ of_walks ++ why.Exists ∷ []) why.NotEmpty (why.IntoItself ∷ why.BeyondEnd ∷ why.FileBig ∷ of_quota) h
+  refusal-none why.IntoItself h =
+      find-none test (of_paths ++ of_walks ++ why.Exists ∷ why.NotEmpty ∷ []) why.IntoItself (why.BeyondEnd ∷ why.FileBig ∷ of_quota) h
+  refusal-none why.BeyondEnd h =
+      find-none test (of_paths ++ of_walks ++ why.Exists ∷ why.NotEmpty ∷ why.IntoItself ∷ []) why.BeyondEnd (why.FileBig ∷ of_quota) h
   refusal-none why.FileBig h = find-none test (of_paths ++ of_walks ++ why.Exists ∷ why.NotEmpty ∷ why.IntoItself ∷ why.BeyondEnd ∷ []) why.FileBig of_quota h
   refusal-none why.NoNodes h = find-none test (of_paths ++ of_walks ++ of_place) why.NoNodes (why.NoSpace ∷ why.Spent ∷ []) h
   refusal-none why.NoSpace h = find-none test (of_paths ++ of_walks ++ of_place ++ why.NoNodes ∷ []) why.NoSpace (why.Spent ∷ []) h

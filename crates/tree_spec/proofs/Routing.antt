@@ -29,7 +29,8 @@ at_most_none a b h = omega arith
 upto : (P : ℕ → Type 0) (n : ℕ) → ((k : ℕ) → k < n → P k) → P n → (k : ℕ) → k < suc n → P k
 upto P n h here k lt = below_more P n h here k (omega arith)
 
-here_wins : (paths : Paths) (n : ℕ) (p : List (List ℕ)) (r : Option ℕ) → caught_by paths p r < caught p (paths n) → Routed paths n p r → IsRoute paths (suc n) p n
+here_wins : (paths : Paths) (n : ℕ) (p : List (List ℕ)) (r : Option ℕ) → caught_by paths p r < caught p (paths n) → Routed paths n p r
+    → IsRoute paths (suc n) p n
 here_wins paths n p None lt h = record {
   slot = omega arith;
   catches = omega arith;
@@ -46,7 +47,8 @@ here_wins paths n p (Some s) lt h = record {
 
 stays : (paths : Paths) (n : ℕ) (p : List (List ℕ)) (r : Option ℕ) → caught p (paths n) ≤ caught_by paths p r → Routed paths n p r → Routed paths (suc n) p r
 stays paths n p None le h = upto (λ k. caught p (paths k) ≡ 0) n h (none _ le)
-stays paths n p (Some s) le h = record { slot = later _ _ h.slot; catches = h.catches; longest = upto (λ k. caught p (paths k) ≤ caught p (paths s)) n h.longest le }
+stays paths n p (Some s) le h =
+    record { slot = later _ _ h.slot; catches = h.catches; longest = upto (λ k. caught p (paths k) ≤ caught p (paths s)) n h.longest le }
   where
     later : (a b : ℕ) → a < b → a < suc b
     later a b h = omega arith
@@ -59,7 +61,8 @@ route-Routed paths zero p = λ k h. absurd (nothing k h)
     nothing : (k : ℕ) → k < 0 → ⊥
     nothing k h = omega arith
 route-Routed paths (suc n) p =
-    elim (nat_lt (caught_by paths p (route paths n p)) (caught p (paths n))) as (λ b. nat_lt (caught_by paths p (route paths n p)) (caught p (paths n)) ≡ b → Routed paths (suc n) p (cond b (Some n) (route paths n p))) [
+    elim (nat_lt (caught_by paths p (route paths n p)) (caught p (paths n))) as (λ b. nat_lt (caught_by paths p (route paths n p))
+    (caught p (paths n)) ≡ b → Routed paths (suc n) p (cond b (Some n) (route paths n p))) [
       | true ↦ λ e. here_wins paths n p (route paths n p) (below _ _ e) (route-Routed paths n p)
       | false ↦ λ e. stays paths n p (route paths n p) (not_below _ _ e) (route-Routed paths n p)
     ] refl
@@ -94,7 +97,8 @@ caught_prefix p q h =
     nothing h = omega arith
 
 -- two longest prefixes are the same path, so that there is one slot where the paths differ
-pub IsRoute-same : (paths : Paths) (n : ℕ) (p q r : List (List ℕ)) (s k : ℕ) → IsRoute paths n p s → IsRoute paths n p k → paths s ≡ Some q → paths k ≡ Some r → q ≡ r
+pub IsRoute-same : (paths : Paths) (n : ℕ) (p q r : List (List ℕ)) (s k : ℕ) → IsRoute paths n p s → IsRoute paths n p k → paths s ≡ Some q
+    → paths k ≡ Some r → q ≡ r
 IsRoute-same paths n p q r s k a b e g =
     let x = caught_prefix p q (subst (λ o. 0 < caught p o) e a.catches) in
     let y = caught_prefix p r (subst (λ o. 0 < caught p o) g b.catches) in

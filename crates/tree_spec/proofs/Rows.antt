@@ -54,10 +54,12 @@ empty = Dir Nil
 -- ---- files: a write past the end, reads, truncation, and what is refused of files and directories
 
 files : replies empty (
-    Make (f ∷ []) ∷ Write (f ∷ []) 0 (0 ∷ 255 ∷ []) ∷ Write (f ∷ []) 2 [] ∷ Write (f ∷ []) 3 (0 ∷ []) ∷ Read (f ∷ []) 2 5 ∷ Read (f ∷ []) 1 9 ∷ Read (f ∷ []) 3 0 ∷
+    Make (f ∷ []) ∷ Write (f ∷ []) 0 (0 ∷ 255 ∷ []) ∷ Write (f ∷ []) 2 [] ∷ Write (f ∷ []) 3 (0 ∷ []) ∷ Read (f ∷ []) 2 5 ∷ Read
+    (f ∷ []) 1 9 ∷ Read (f ∷ []) 3 0 ∷
     Trunc (f ∷ []) 3 ∷ Trunc (f ∷ []) 1 ∷ Stat (f ∷ []) ∷ Stat [] ∷ Read [] 0 1 ∷ ListDir (f ∷ []) ∷ Make (f ∷ []) ∷ Make (f ∷ g ∷ []) ∷ [])
     ≡ ok ∷ ok ∷ ok ∷ Err (Because why.BeyondEnd) ∷ Ok (Bytes []) ∷ Ok (Bytes (255 ∷ [])) ∷ Err (Because why.BeyondEnd) ∷
-    Err (Because why.BeyondEnd) ∷ ok ∷ Ok (value.File 1) ∷ Ok (value.Dir 1) ∷ Err (Because why.IsDir) ∷ Err (Because why.NotDir) ∷ Err (Because why.Exists) ∷ Err (Because why.NotDir) ∷ []
+    Err (Because why.BeyondEnd) ∷ ok ∷ Ok (value.File 1) ∷ Ok (value.Dir 1) ∷ Err (Because why.IsDir) ∷ Err (Because why.NotDir) ∷ Err
+    (Because why.Exists) ∷ Err (Because why.NotDir) ∷ []
 unfolding refusal
 files = refl
 
@@ -74,7 +76,8 @@ written_in_the_middle = refl
 -- ---- renames: into itself, onto itself, across directories
 
 renames : replies empty (
-    Make (f ∷ []) ∷ Mkdir (d ∷ []) ∷ Rename (d ∷ []) (d ∷ e ∷ []) ∷ Rename (d ∷ []) (d ∷ []) ∷ Rename (f ∷ []) (d ∷ f ∷ []) ∷ Remove (d ∷ []) ∷ Rename (f ∷ []) (g ∷ []) ∷ [])
+    Make (f ∷ []) ∷ Mkdir (d ∷ []) ∷ Rename (d ∷ []) (d ∷ e ∷ []) ∷ Rename (d ∷ []) (d ∷ []) ∷ Rename (f ∷ []) (d ∷ f ∷ []) ∷ Remove
+    (d ∷ []) ∷ Rename (f ∷ []) (g ∷ []) ∷ [])
     ≡ ok ∷ ok ∷ Err (Because why.IntoItself) ∷ ok ∷ ok ∷ Err (Because why.NotEmpty) ∷ Err (Because why.NotFound) ∷ []
 unfolding refusal
 renames = refl
@@ -95,7 +98,8 @@ whole_trees_move = refl
 
 -- several refusals at once: the lowest number is answered
 lowest : replies empty (Make (f ∷ []) ∷ Mkdir (d ∷ []) ∷ Rename [] (f ∷ []) ∷ Rename [] [] ∷ Rename (d ∷ []) (g ∷ e ∷ []) ∷ Rename (f ∷ []) (f ∷ e ∷ []) ∷ Rename (d ∷ []) (f ∷ e ∷ []) ∷ Mkdir [] ∷ Remove [] ∷ Remove (g ∷ f ∷ []) ∷ Remove (f ∷ g ∷ []) ∷ [])
-    ≡ ok ∷ ok ∷ Err (Because why.IsRoot) ∷ Err (Because why.IsRoot) ∷ Err (Because why.NotFound) ∷ Err (Because why.NotDir) ∷ Err (Because why.NotDir) ∷ Err (Because why.IsRoot) ∷ Err (Because why.IsRoot) ∷ Err (Because why.NotFound) ∷ Err (Because why.NotDir) ∷ []
+    ≡ ok ∷ ok ∷ Err (Because why.IsRoot) ∷ Err (Because why.IsRoot) ∷ Err (Because why.NotFound) ∷ Err (Because why.NotDir) ∷ Err
+    (Because why.NotDir) ∷ Err (Because why.IsRoot) ∷ Err (Because why.IsRoot) ∷ Err (Because why.NotFound) ∷ Err (Because why.NotDir) ∷ []
 unfolding refusal
 lowest = refl
 
@@ -278,6 +282,7 @@ after_two = refl
 
 -- ---- the rows of a world with one cube, in slot 1 of 3
 
-world_rows : (c : Cube) → cube_rows (record { slots = 3; groups = 9; cube = λ s. if nat_eq s 1 then Some c else None }) ≡ record { slot = 1; groups = c.groups; state = c.state; path = c.path } ∷ []
+world_rows : (c : Cube)
+    → cube_rows (record { slots = 3; groups = 9; cube = λ s. if nat_eq s 1 then Some c else None }) ≡ record { slot = 1; groups = c.groups; state = c.state; path = c.path } ∷ []
 unfolding cube_rows
 world_rows c = refl

@@ -22,13 +22,17 @@ some_same t u e = cc
 -- an entry put over another leaves as many
 pub length-over : (c : List ℕ) (g : Tree → Tree) (es : Entries) → length (rows (over_entry c g es)) ≡ length (rows es)
 length-over c g Nil = refl
-length-over c g (Entry d t es) = elim (is_same_name c d) as (λ b. length (rows (cond b (Entry d (g t) es) (Entry d t (over_entry c g es)))) ≡ suc (length (rows es))) [ true ↦ refl | false ↦ ap suc (length-over c g es) ]
+length-over c g (Entry d t es) =
+    elim (is_same_name c d) as (λ b. length (rows (cond b (Entry d (g t) es) (Entry d t (over_entry c g es)))) ≡ suc
+    (length (rows es))) [ true ↦ refl | false ↦ ap suc (length-over c g es) ]
 
 -- a new name is one entry more
-pub length-with_new : (c : List ℕ) (s : Tree) (es : Entries) → find by_bytes c (rows es) ≡ None → length (rows (from_rows (put by_bytes c s (rows es)))) ≡ length (rows es) + 1
+pub length-with_new : (c : List ℕ) (s : Tree) (es : Entries) → find by_bytes c (rows es) ≡ None
+    → length (rows (from_rows (put by_bytes c s (rows es)))) ≡ length (rows es) + 1
 length-with_new c s Nil h = refl
 length-with_new c s (Entry d t es) h =
-    elim (by_bytes c d) as (λ r. cond (is_eq r) (Some t) (find by_bytes c (rows es)) ≡ None → length (rows (from_rows (by_order r ((c, s) ∷ (d, t) ∷ rows es) ((d, s) ∷ rows es) ((d, t) ∷ put by_bytes c s (rows es))))) ≡ suc (length (rows es)) + 1) [
+    elim (by_bytes c d) as (λ r. cond (is_eq r) (Some t) (find by_bytes c (rows es)) ≡ None
+    → length (rows (from_rows (by_order r ((c, s) ∷ (d, t) ∷ rows es) ((d, s) ∷ rows es) ((d, t) ∷ put by_bytes c s (rows es))))) ≡ suc (length (rows es)) + 1) [
       | Less ↦ λ is. omega (arith, ap (λ x. length (rows x)) (from_rows-rows es))
       | Equal ↦ λ is. absurd (subst T (ap is_some is) tt)
       | Greater ↦ λ is. omega (arith, length-with_new c s es is)
@@ -36,11 +40,14 @@ length-with_new c s (Entry d t es) h =
 
 -- ---- heights
 
-height_in-over : (c : List ℕ) (g : Tree → Tree) (es : Entries) (u : Tree) → find by_bytes c (rows es) ≡ Some u → height_in (over_entry c g es) ≤ max (height_in es) (height (g u) + 1)
+height_in-over : (c : List ℕ) (g : Tree → Tree) (es : Entries) (u : Tree) → find by_bytes c (rows es) ≡ Some u
+    → height_in (over_entry c g es) ≤ max (height_in es) (height (g u) + 1)
 height_in-over c g Nil u h = absurd (subst T (sym (ap is_some h)) tt)
 height_in-over c g (Entry d t es) u h =
-    elim (is_same_name c d) as (λ b. cond b (Some t) (find by_bytes c (rows es)) ≡ Some u → height_in (cond b (Entry d (g t) es) (Entry d t (over_entry c g es))) ≤ max (max (height t + 1) (height_in es)) (height (g u) + 1)) [
-      | true ↦ λ is. subst (λ x. max (height (g t) + 1) (height_in es) ≤ max (max (height t + 1) (height_in es)) (height (g x) + 1)) (some_same _ _ is) (omega arith)
+    elim (is_same_name c d) as (λ b. cond b (Some t) (find by_bytes c (rows es)) ≡ Some u
+    → height_in (cond b (Entry d (g t) es) (Entry d t (over_entry c g es))) ≤ max (max (height t + 1) (height_in es)) (height (g u) + 1)) [
+      | true ↦ λ is.
+          subst (λ x. max (height (g t) + 1) (height_in es) ≤ max (max (height t + 1) (height_in es)) (height (g x) + 1)) (some_same _ _ is) (omega arith)
       | false ↦ λ is. omega (arith, height_in-over c g es u is)
     ] h
 
@@ -91,7 +98,9 @@ height-at (c ∷ p) g (Dir es) s h =
 pub height-with : (c : List ℕ) (s : Tree) (es : Entries) → height_in (from_rows (put by_bytes c s (rows es))) ≤ max (height_in es) (height s + 1)
 height-with c s Nil = omega arith
 height-with c s (Entry d t es) =
-    elim (by_bytes c d) as (λ r. height_in (from_rows (by_order r ((c, s) ∷ (d, t) ∷ rows es) ((d, s) ∷ rows es) ((d, t) ∷ put by_bytes c s (rows es)))) ≤ max (max (height t + 1) (height_in es)) (height s + 1)) [
+    elim (by_bytes c d) as (λ r. height_in (from_rows
+    (by_order r ((c, s) ∷ (d, t) ∷ rows es) ((d, s) ∷ rows es) ((d, t) ∷ put by_bytes c s (rows es)))) ≤ max (max (height t + 1)
+    (height_in es)) (height s + 1)) [
       | Less ↦ omega (arith, ap height_in (from_rows-rows es))
       | Equal ↦ omega (arith, ap height_in (from_rows-rows es))
       | Greater ↦ omega (arith, height-with c s es)
@@ -101,7 +110,9 @@ height-with c s (Entry d t es) =
 pub height-without : (c : List ℕ) (es : Entries) → height_in (without c es) ≤ height_in es
 height-without c Nil = omega arith
 height-without c (Entry d t es) =
-    elim (is_same_name c d) as (λ b. height_in (from_rows (cond (not b) ((d, t) ∷ filter (λ e. not (is_same_name c e.0)) (rows es)) (filter (λ e. not (is_same_name c e.0)) (rows es)))) ≤ max (height t + 1) (height_in es)) [
+    elim (is_same_name c d) as (λ b. height_in (from_rows
+    (cond (not b) ((d, t) ∷ filter (λ e. not (is_same_name c e.0)) (rows es))
+    (filter (λ e. not (is_same_name c e.0)) (rows es)))) ≤ max (height t + 1) (height_in es)) [
       | true ↦ omega (arith, height-without c es)
       | false ↦ omega (arith, height-without c es)
     ]
@@ -109,25 +120,32 @@ height-without c (Entry d t es) =
 -- ---- sums
 
 module _ (file : List ℕ → ℕ) (dir : ℕ → ℕ) where
-  total_in-with_new : (c : List ℕ) (s : Tree) (es : Entries) → find by_bytes c (rows es) ≡ None → total_in file dir (from_rows (put by_bytes c s (rows es))) ≡ total file dir s + total_in file dir es
+  total_in-with_new : (c : List ℕ) (s : Tree) (es : Entries) → find by_bytes c (rows es) ≡ None
+      → total_in file dir (from_rows (put by_bytes c s (rows es))) ≡ total file dir s + total_in file dir es
   total_in-with_new c s Nil h = refl
   total_in-with_new c s (Entry d t es) h =
-      elim (by_bytes c d) as (λ r. cond (is_eq r) (Some t) (find by_bytes c (rows es)) ≡ None → total_in file dir (from_rows (by_order r ((c, s) ∷ (d, t) ∷ rows es) ((d, s) ∷ rows es) ((d, t) ∷ put by_bytes c s (rows es)))) ≡ total file dir s + (total file dir t + total_in file dir es)) [
+      elim (by_bytes c d) as (λ r. cond (is_eq r) (Some t) (find by_bytes c (rows es)) ≡ None
+      → total_in file dir (from_rows (by_order r ((c, s) ∷ (d, t) ∷ rows es) ((d, s) ∷ rows es) ((d, t) ∷ put by_bytes c s (rows es)))) ≡ total file dir s + (total file dir t + total_in file dir es)) [
         | Less ↦ λ is. ap (λ x. total file dir s + (total file dir t + total_in file dir x)) (from_rows-rows es)
         | Equal ↦ λ is. absurd (subst T (ap is_some is) tt)
         | Greater ↦ λ is. omega (arith, total_in-with_new c s es is)
       ] h
 
-  total_in-over : (c : List ℕ) (g : Tree → Tree) (es : Entries) (u : Tree) → find by_bytes c (rows es) ≡ Some u → total_in file dir (over_entry c g es) + total file dir u ≡ total file dir (g u) + total_in file dir es
+  total_in-over : (c : List ℕ) (g : Tree → Tree) (es : Entries) (u : Tree) → find by_bytes c (rows es) ≡ Some u
+      → total_in file dir (over_entry c g es) + total file dir u ≡ total file dir (g u) + total_in file dir es
   total_in-over c g Nil u h = absurd (subst T (sym (ap is_some h)) tt)
   total_in-over c g (Entry d t es) u h =
-      elim (is_same_name c d) as (λ b. cond b (Some t) (find by_bytes c (rows es)) ≡ Some u → total_in file dir (cond b (Entry d (g t) es) (Entry d t (over_entry c g es))) + total file dir u ≡ total file dir (g u) + (total file dir t + total_in file dir es)) [
-        | true ↦ λ is. subst (λ x. (total file dir (g t) + total_in file dir es) + total file dir x ≡ total file dir (g x) + (total file dir t + total_in file dir es)) (some_same _ _ is) (omega arith)
+      elim (is_same_name c d) as (λ b. cond b (Some t) (find by_bytes c (rows es)) ≡ Some u
+      → total_in file dir (cond b (Entry d (g t) es) (Entry d t (over_entry c g es))) + total file dir u ≡ total file dir (g u) + (total file dir t + total_in file dir es)) [
+        | true ↦ λ is.
+            subst (λ x. (total file dir (g t) + total_in file dir es) + total file dir x ≡ total file dir
+            (g x) + (total file dir t + total_in file dir es)) (some_same _ _ is) (omega arith)
         | false ↦ λ is. omega (arith, total_in-over c g es u is)
       ] h
 
   -- a change at a path moves the sum as the tree there moves
-  pub total-at : (p : List (List ℕ)) (g : Tree → Tree) (t s : Tree) → walk p t ≡ Found s → total file dir (at p g t) + total file dir s ≡ total file dir (g s) + total file dir t
+  pub total-at : (p : List (List ℕ)) (g : Tree → Tree) (t s : Tree) → walk p t ≡ Found s
+      → total file dir (at p g t) + total file dir s ≡ total file dir (g s) + total file dir t
   total-at [] g t s h = subst (λ x. total file dir (g t) + total file dir x ≡ total file dir (g x) + total file dir t) (found_same _ _ h) refl
   total-at (c ∷ p) g (File bytes) s h = dir_found s h
   total-at (c ∷ p) g (Dir es) s h =
@@ -163,11 +181,13 @@ other c d x e h = ap (λ y. is_same_name y x) (same_name c d e) ∙ less_differs
 pub no_later : (c d : List ℕ) (es : Entries) → is_same_name c d ≡ true → T (below_all by_bytes d (rows es)) → without c es ≡ es
 no_later c d Nil e h = refl
 no_later c d (Entry x t es) e h =
-    ap (λ b. from_rows (cond (not b) ((x, t) ∷ filter (λ e. not (is_same_name c e.0)) (rows es)) (filter (λ e. not (is_same_name c e.0)) (rows es)))) (other c d x e (left _ _ h))
+    ap (λ b. from_rows (cond (not b) ((x, t) ∷ filter (λ e. not (is_same_name c e.0)) (rows es)) (filter (λ e. not (is_same_name c e.0)) (rows es))))
+    (other c d x e (left _ _ h))
     ∙ ap (λ y. Entry x t y) (no_later c d es e (right _ _ h))
 
 module _ (file : List ℕ → ℕ) (dir : ℕ → ℕ) where
-  total_in-without : (c : List ℕ) (v : Tree) (es : Entries) → T (is_sorted by_bytes (rows es)) → find by_bytes c (rows es) ≡ Some v → total_in file dir (without c es) + total file dir v ≡ total_in file dir es
+  total_in-without : (c : List ℕ) (v : Tree) (es : Entries) → T (is_sorted by_bytes (rows es)) → find by_bytes c (rows es) ≡ Some v
+      → total_in file dir (without c es) + total file dir v ≡ total_in file dir es
   total_in-without c v Nil o h = absurd (subst T (sym (ap is_some h)) tt)
   total_in-without c v (Entry d t es) o h =
       elim (is_same_name c d) as (λ b. is_same_name c d ≡ b → cond b (Some t) (find by_bytes c (rows es)) ≡ Some v
@@ -177,7 +197,8 @@ module _ (file : List ℕ → ℕ) (dir : ℕ → ℕ) where
       ] refl h
 
 -- the entry that goes is one less
-pub length-without : (c : List ℕ) (v : Tree) (es : Entries) → T (is_sorted by_bytes (rows es)) → find by_bytes c (rows es) ≡ Some v → length (rows (without c es)) + 1 ≡ length (rows es)
+pub length-without : (c : List ℕ) (v : Tree) (es : Entries) → T (is_sorted by_bytes (rows es)) → find by_bytes c (rows es) ≡ Some v
+    → length (rows (without c es)) + 1 ≡ length (rows es)
 length-without c v Nil o h = absurd (subst T (sym (ap is_some h)) tt)
 length-without c v (Entry d t es) o h =
     elim (is_same_name c d) as (λ b. is_same_name c d ≡ b → cond b (Some t) (find by_bytes c (rows es)) ≡ Some v
@@ -187,7 +208,8 @@ length-without c v (Entry d t es) o h =
     ] refl h
 
 -- the entry that goes takes its tree's sum, and the directory's own part moves by one entry
-pub total-without_at : (file : List ℕ → ℕ) (dir : ℕ → ℕ) (p : List (List ℕ)) (c : List ℕ) (v t : Tree) (es : Entries) → walk p t ≡ Found (Dir es) → T (is_sorted by_bytes (rows es)) → find by_bytes c (rows es) ≡ Some v
+pub total-without_at : (file : List ℕ → ℕ) (dir : ℕ → ℕ) (p : List (List ℕ)) (c : List ℕ) (v t : Tree) (es : Entries)
+    → walk p t ≡ Found (Dir es) → T (is_sorted by_bytes (rows es)) → find by_bytes c (rows es) ≡ Some v
     → total file dir (at p (without_entry c) t) + total file dir v + dir (length (rows es)) ≡ total file dir t + dir (length (rows (without c es)))
 total-without_at file dir p c v t es h o is =
     omega (arith, total-at file dir p (without_entry c) t (Dir es) h, total_in-without file dir c v es o is)

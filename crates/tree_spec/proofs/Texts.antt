@@ -77,7 +77,8 @@ length-le-with_slashes (c ∷ names) = omega (arith, length-le-with_slashes name
 
 pub length-with_slashes-more : (names : List (List ℕ)) (c : List ℕ) → length (with_slashes (names ++ c ∷ [])) ≡ length (with_slashes names) + (length c + 1)
 length-with_slashes-more [] c = omega (arith, length-append c [])
-length-with_slashes-more (d ∷ names) c = omega (arith, length-with_slashes-more names c, length-append d (with_slashes names), length-append d (with_slashes (names ++ c ∷ [])))
+length-with_slashes-more (d ∷ names) c =
+    omega (arith, length-with_slashes-more names c, length-append d (with_slashes names), length-append d (with_slashes (names ++ c ∷ [])))
 
 text_of-more : (names : List (List ℕ)) (c : List ℕ) → text_of (names ++ c ∷ []) ≡ with_slashes (names ++ c ∷ [])
 text_of-more [] c = refl
@@ -94,15 +95,19 @@ text_of-some (c ∷ names) h = refl
 pub text_grows : (new middle old bytes name : List ℕ) → new ≡ middle ++ bytes → middle ≡ old ++ 47 ∷ [] → bytes ≡ name → new ≡ old ++ 47 ∷ name
 text_grows new middle old bytes name a b e = a ∙ ap (λ x. x ++ bytes) b ∙ append_assoc old (47 ∷ []) bytes ∙ ap (λ x. old ++ 47 ∷ x) e
 
-pub too_long : (names : List (List ℕ)) (c : List ℕ) (len : ℕ) → length (with_slashes names) ≡ len → longest_text < len + (length c + 1) → false ≡ nat_le (length (text_of (names ++ c ∷ []))) longest_text
+pub too_long : (names : List (List ℕ)) (c : List ℕ) (len : ℕ) → length (with_slashes names) ≡ len → longest_text < len + (length c + 1)
+    → false ≡ nat_le (length (text_of (names ++ c ∷ []))) longest_text
 too_long names c len e h = rw (length-text_of-more names c) (grind (arith, nat_tests))
 
-pub fits : (names : List (List ℕ)) (c : List ℕ) (len : ℕ) → length (with_slashes names) ≡ len → len + (length c + 1) ≤ longest_text → true ≡ nat_le (length (text_of (names ++ c ∷ []))) longest_text
+pub fits : (names : List (List ℕ)) (c : List ℕ) (len : ℕ) → length (with_slashes names) ≡ len → len + (length c + 1) ≤ longest_text
+    → true ≡ nat_le (length (text_of (names ++ c ∷ []))) longest_text
 fits names c len e h = rw (length-text_of-more names c) (grind (arith, nat_tests))
 
 -- the length of the text is that of its names
-pub length-with_slashes : (names : List (List ℕ)) (text : List ℕ) (len : ℕ) → names_of (take len text) ≡ names → BeginsAtSlash (take len text) → len ≤ length text → length (with_slashes names) ≡ len
-length-with_slashes names text len is begins h = ap (λ x. length (with_slashes x)) (sym is) ∙ ap length (with_slashes-names_of (take len text) begins) ∙ omega (arith, length-take len text)
+pub length-with_slashes : (names : List (List ℕ)) (text : List ℕ) (len : ℕ) → names_of (take len text) ≡ names
+    → BeginsAtSlash (take len text) → len ≤ length text → length (with_slashes names) ≡ len
+length-with_slashes names text len is begins h =
+    ap (λ x. length (with_slashes x)) (sym is) ∙ ap length (with_slashes-names_of (take len text) begins) ∙ omega (arith, length-take len text)
 
 -- no slash stands before the place
 pub record IsSplitAt (text : List ℕ) (i : ℕ) : Type 0 where
@@ -195,6 +200,7 @@ name_short c h =
     grind (arith, nat_tests)
 
 -- a path's text is not too long
-pub short_text : (names : List (List ℕ)) (text : List ℕ) (len : ℕ) → names_of (take len text) ≡ names → BeginsAtSlash (take len text) → len ≤ longest_text → len ≤ length text → length (text_of names) ≤ longest_text
+pub short_text : (names : List (List ℕ)) (text : List ℕ) (len : ℕ) → names_of (take len text) ≡ names → BeginsAtSlash (take len text)
+    → len ≤ longest_text → len ≤ length text → length (text_of names) ≤ longest_text
 short_text [] text len is begins most within = lit≤ tt
 short_text (c ∷ names) text len is begins most within = omega (arith, length-with_slashes (c ∷ names) text len is begins within)

@@ -24,9 +24,11 @@ from_rows-rows Nil = refl
 from_rows-rows (Entry c t es) = ap (λ xs. Entry c t xs) (from_rows-rows es)
 
 -- directories that have the same tree under each name are equal
-pub same_look_ups : (es fs : Entries) → T (is_sorted by_bytes (rows es)) → T (is_sorted by_bytes (rows fs)) → ((c : List ℕ) → find by_bytes c (rows es) ≡ find by_bytes c (rows fs)) → es ≡ fs
+pub same_look_ups : (es fs : Entries) → T (is_sorted by_bytes (rows es)) → T (is_sorted by_bytes (rows fs))
+    → ((c : List ℕ) → find by_bytes c (rows es) ≡ find by_bytes c (rows fs)) → es ≡ fs
 same_look_ups es fs g h is =
-    sym (from_rows-rows es) ∙ ap from_rows (same_entries by_bytes nat_list_cmp_total (slice_cmp-IsAntisymmetric nat_cmp-IsAntisymmetric) (rows es) (rows fs) g h is) ∙ from_rows-rows fs
+    sym (from_rows-rows es) ∙ ap from_rows
+    (same_entries by_bytes nat_list_cmp_total (slice_cmp-IsAntisymmetric nat_cmp-IsAntisymmetric) (rows es) (rows fs) g h is) ∙ from_rows-rows fs
 
 -- ---- names
 
@@ -57,7 +59,8 @@ turned true x = refl
 turned false x = refl
 
 -- what a directory has under the name d after c got the tree s
-pub find-with : (c d : List ℕ) (s : Tree) (es : Entries) → find by_bytes d (rows (from_rows (put by_bytes c s (rows es)))) ≡ cond (is_same_name d c) (Some s) (find by_bytes d (rows es))
+pub find-with : (c d : List ℕ) (s : Tree) (es : Entries)
+    → find by_bytes d (rows (from_rows (put by_bytes c s (rows es)))) ≡ cond (is_same_name d c) (Some s) (find by_bytes d (rows es))
 find-with c d s es = ap (find by_bytes d) (rows-from_rows (put by_bytes c s (rows es))) ∙ find-put by_bytes nat_list_cmp_total d c s (rows es)
 
 -- what a directory has under the name d after the entry of c went
@@ -96,7 +99,8 @@ and_on-same NotDir go on h = refl
 -- a walk goes name by name
 pub walk-append : (p q : List (List ℕ)) (t : Tree) → walk (p ++ q) t ≡ and_on (walk p t) (λ u. walk q u)
 walk-append [] q t = refl
-walk-append (c ∷ p) q t = and_on-same (child c t) (λ u. walk (p ++ q) u) (λ u. and_on (walk p u) (λ v. walk q v)) (λ u. walk-append p q u) ∙ and_on-walk (child c t) p q
+walk-append (c ∷ p) q t =
+    and_on-same (child c t) (λ u. walk (p ++ q) u) (λ u. and_on (walk p u) (λ v. walk q v)) (λ u. walk-append p q u) ∙ and_on-walk (child c t) p q
 
 -- a walk that found a tree goes on from there
 pub walk-on : (p q : List (List ℕ)) (t s : Tree) → walk p t ≡ Found s → walk (p ++ q) t ≡ walk q s
@@ -114,17 +118,26 @@ on_some g None = None
 on_some g (Some t) = Some (g t)
 
 -- what a directory has under the name d after g changed the tree of c
-pub find-over : (c d : List ℕ) (g : Tree → Tree) (es : Entries) → find by_bytes d (rows (over_entry c g es)) ≡ cond (is_same_name c d) (on_some g (find by_bytes d (rows es))) (find by_bytes d (rows es))
-find-over c d g Nil = elim (is_same_name c d) as (λ b. find by_bytes d (rows Nil) ≡ cond b (on_some g (find by_bytes d (rows Nil))) (find by_bytes d (rows Nil))) [ true ↦ refl | false ↦ refl ]
+pub find-over : (c d : List ℕ) (g : Tree → Tree) (es : Entries)
+    → find by_bytes d (rows (over_entry c g es)) ≡ cond (is_same_name c d) (on_some g (find by_bytes d (rows es))) (find by_bytes d (rows es))
+find-over c d g Nil =
+    elim (is_same_name c d) as (λ b. find by_bytes d (rows Nil) ≡ cond b (on_some g (find by_bytes d (rows Nil)))
+    (find by_bytes d (rows Nil))) [ true ↦ refl | false ↦ refl ]
 find-over c d g (Entry x t es) =
-    elim (is_same_name c x) as (λ b. is_same_name c x ≡ b → find by_bytes d (rows (cond b (Entry x (g t) es) (Entry x t (over_entry c g es)))) ≡ cond (is_same_name c d) (on_some g (cond (is_same_name d x) (Some t) (find by_bytes d (rows es)))) (cond (is_same_name d x) (Some t) (find by_bytes d (rows es)))) [
+    elim (is_same_name c x) as (λ b. is_same_name c x ≡ b
+    → find by_bytes d (rows (cond b (Entry x (g t) es) (Entry x t (over_entry c g es)))) ≡ cond (is_same_name c d) (on_some g (cond (is_same_name d x) (Some t) (find by_bytes d (rows es)))) (cond (is_same_name d x) (Some t) (find by_bytes d (rows es)))) [
       | true ↦ λ e.
-          elim (is_same_name d x) as (λ y. is_same_name d x ≡ y → cond y (Some (g t)) (find by_bytes d (rows es)) ≡ cond (is_same_name c d) (on_some g (cond y (Some t) (find by_bytes d (rows es)))) (cond y (Some t) (find by_bytes d (rows es)))) [
-            | true ↦ λ i. ap (λ b. cond b (Some (g t)) (Some t)) (sym (is_same_name-refl d) ∙ ap (λ z. is_same_name z d) (same_name d x i ∙ sym (same_name c x e)))
-            | false ↦ λ i. ap (λ b. cond b (on_some g (find by_bytes d (rows es))) (find by_bytes d (rows es))) (sym i ∙ ap (λ z. is_same_name d z) (sym (same_name c x e)) ∙ is_same_name-sym d c)
+          elim (is_same_name d x) as (λ y. is_same_name d x ≡ y
+          → cond y (Some (g t)) (find by_bytes d (rows es)) ≡ cond (is_same_name c d) (on_some g (cond y (Some t) (find by_bytes d (rows es)))) (cond y (Some t) (find by_bytes d (rows es)))) [
+            | true ↦ λ i.
+                ap (λ b. cond b (Some (g t)) (Some t)) (sym (is_same_name-refl d) ∙ ap (λ z. is_same_name z d) (same_name d x i ∙ sym (same_name c x e)))
+            | false ↦ λ i.
+                ap (λ b. cond b (on_some g (find by_bytes d (rows es))) (find by_bytes d (rows es)))
+                (sym i ∙ ap (λ z. is_same_name d z) (sym (same_name c x e)) ∙ is_same_name-sym d c)
           ] refl
       | false ↦ λ e.
-          elim (is_same_name d x) as (λ y. is_same_name d x ≡ y → cond y (Some t) (find by_bytes d (rows (over_entry c g es))) ≡ cond (is_same_name c d) (on_some g (cond y (Some t) (find by_bytes d (rows es)))) (cond y (Some t) (find by_bytes d (rows es)))) [
+          elim (is_same_name d x) as (λ y. is_same_name d x ≡ y
+          → cond y (Some t) (find by_bytes d (rows (over_entry c g es))) ≡ cond (is_same_name c d) (on_some g (cond y (Some t) (find by_bytes d (rows es)))) (cond y (Some t) (find by_bytes d (rows es)))) [
             | true ↦ λ i. ap (λ b. cond b (Some (g t)) (Some t)) (sym e ∙ ap (λ z. is_same_name c z) (sym (same_name d x i)))
             | false ↦ λ i. find-over c d g es
           ] refl
@@ -134,7 +147,8 @@ find-over c d g (Entry x t es) =
 pub find-over_same : (c : List ℕ) (g : Tree → Tree) (es : Entries) → find by_bytes c (rows (over_entry c g es)) ≡ on_some g (find by_bytes c (rows es))
 find-over_same c g es = find-over c c g es ∙ ap (λ b. cond b (on_some g (find by_bytes c (rows es))) (find by_bytes c (rows es))) (is_same_name-refl c)
 
-step_at : (o : Option Tree) (h : Tree → Tree) (go on : Tree → Walk) → ((u : Tree) → go (h u) ≡ on u) → and_on (found_or_not (on_some h o)) go ≡ and_on (found_or_not o) on
+step_at : (o : Option Tree) (h : Tree → Tree) (go on : Tree → Walk) → ((u : Tree) → go (h u) ≡ on u)
+    → and_on (found_or_not (on_some h o)) go ≡ and_on (found_or_not o) on
 step_at None h go on is = refl
 step_at (Some u) h go on is = is u
 
@@ -177,7 +191,8 @@ walk-beside (c ∷ p) [] g t h k = absurd (subst T k tt)
 walk-beside (c ∷ p) (d ∷ q) g (File bytes) h k = refl
 walk-beside (c ∷ p) (d ∷ q) g (Dir es) h k =
     ap (λ o. and_on (found_or_not o) (λ u. walk q u)) (find-over c d (λ u. at p g u) es)
-    ∙ elim (is_same_name c d) as (λ b. is_same_name c d ≡ b → and_on (found_or_not (cond b (on_some (λ u. at p g u) (find by_bytes d (rows es))) (find by_bytes d (rows es)))) (λ u. walk q u) ≡ and_on (found_or_not (find by_bytes d (rows es))) (λ u. walk q u)) [
+    ∙ elim (is_same_name c d) as (λ b. is_same_name c d ≡ b
+    → and_on (found_or_not (cond b (on_some (λ u. at p g u) (find by_bytes d (rows es))) (find by_bytes d (rows es)))) (λ u. walk q u) ≡ and_on (found_or_not (find by_bytes d (rows es))) (λ u. walk q u)) [
       | true ↦ λ e. step_at (find by_bytes d (rows es)) (λ u. at p g u) (λ u. walk q u) (λ u. walk q u)
           (λ u. walk-beside p q g u (not_both (is_same_name c d) _ h e) (not_both (is_same_name d c) _ k (is_same_name-sym d c ∙ e)))
       | false ↦ λ e. refl
@@ -197,7 +212,8 @@ outline_on (Found u) go on h = h u
 outline_on NotFound go on h = refl
 outline_on NotDir go on h = refl
 
-outline_step : (o : Option Tree) (h : Tree → Tree) (go on : Tree → Walk) → ((u : Tree) → outline (go (h u)) ≡ outline (on u)) → outline (and_on (found_or_not (on_some h o)) go) ≡ outline (and_on (found_or_not o) on)
+outline_step : (o : Option Tree) (h : Tree → Tree) (go on : Tree → Walk) → ((u : Tree) → outline (go (h u)) ≡ outline (on u))
+    → outline (and_on (found_or_not (on_some h o)) go) ≡ outline (and_on (found_or_not o) on)
 outline_step None h go on is = refl
 outline_step (Some u) h go on is = is u
 
@@ -206,7 +222,8 @@ false_of true h = h
 false_of false h = refl
 
 -- every walk that isn't through the entry that goes ends as before, but for the entries of the directory found
-pub outline-without : (p : List (List ℕ)) (c : List ℕ) (q : List (List ℕ)) (t : Tree) → is_prefix (p ++ c ∷ []) q ≡ false → outline (walk q (at p (without_entry c) t)) ≡ outline (walk q t)
+pub outline-without : (p : List (List ℕ)) (c : List ℕ) (q : List (List ℕ)) (t : Tree) → is_prefix (p ++ c ∷ []) q ≡ false
+    → outline (walk q (at p (without_entry c) t)) ≡ outline (walk q t)
 outline-without [] c [] (File bytes) h = refl
 outline-without [] c [] (Dir es) h = refl
 outline-without [] c (d ∷ q) (File bytes) h = refl
@@ -217,7 +234,8 @@ outline-without (x ∷ p) c [] (Dir es) h = refl
 outline-without (x ∷ p) c (d ∷ q) (File bytes) h = refl
 outline-without (x ∷ p) c (d ∷ q) (Dir es) h =
     ap (λ o. outline (and_on (found_or_not o) (λ u. walk q u))) (find-over x d (λ u. at p (without_entry c) u) es)
-    ∙ elim (is_same_name x d) as (λ b. is_same_name x d ≡ b → outline (and_on (found_or_not (cond b (on_some (λ u. at p (without_entry c) u) (find by_bytes d (rows es))) (find by_bytes d (rows es)))) (λ u. walk q u)) ≡ outline (and_on (found_or_not (find by_bytes d (rows es))) (λ u. walk q u))) [
+    ∙ elim (is_same_name x d) as (λ b. is_same_name x d ≡ b
+    → outline (and_on (found_or_not (cond b (on_some (λ u. at p (without_entry c) u) (find by_bytes d (rows es))) (find by_bytes d (rows es)))) (λ u. walk q u)) ≡ outline (and_on (found_or_not (find by_bytes d (rows es))) (λ u. walk q u))) [
       | true ↦ λ e. outline_step (find by_bytes d (rows es)) (λ u. at p (without_entry c) u) (λ u. walk q u) (λ u. walk q u)
           (λ u. outline-without p c q u (not_both (is_same_name x d) _ h e))
       | false ↦ λ e. refl
