@@ -17,7 +17,8 @@ after_push t m [] s = refl
 after_push t m (x ∷ steps) s = after_push t (if nat_lt (call_number x) t then applied m x else m) steps s
 
 pub after_more : (t : ℕ) (m : Moment) (steps : List Step) (i : ℕ) (d : Step) → i < length steps
-    → after t m (take (i + 1) steps) ≡ (if nat_lt (call_number (slice_index_or steps i d)) t then applied (after t m (take i steps)) (slice_index_or steps i d) else after t m (take i steps))
+    → after t m (take (i + 1) steps)
+    ≡ (if nat_lt (call_number (slice_index_or steps i d)) t then applied (after t m (take i steps)) (slice_index_or steps i d) else after t m (take i steps))
 after_more t m steps i d less = ap (λ (x : List Step). after t m x) (take_more steps i d less) ∙ after_push t m (take i steps) (slice_index_or steps i d)
 
 -- the first bytes of two parts, past the first part
@@ -57,11 +58,13 @@ grows first steps steps' s calls is e = record {
 }
   where
     not_yet : (u : ℕ) → u ≤ calls
-        → (if nat_lt (call_number s) u then applied (after u (fresh_state first) steps) s else after u (fresh_state first) steps) ≡ after u (fresh_state first) steps
+        → (if nat_lt (call_number s) u then applied (after u (fresh_state first) steps) s else after u (fresh_state first) steps)
+        ≡ after u (fresh_state first) steps
     not_yet u le = grind (arith, nat_tests, is)
 
     already : (u : ℕ) → calls < u
-        → (if nat_lt (call_number s) u then applied (after u (fresh_state first) steps) s else after u (fresh_state first) steps) ≡ applied (after u (fresh_state first) steps) s
+        → (if nat_lt (call_number s) u then applied (after u (fresh_state first) steps) s else after u (fresh_state first) steps)
+        ≡ applied (after u (fresh_state first) steps) s
     already u less = grind (arith, nat_tests, is)
 
 pub block_set_same : (image : Image) (at : ℕ) (bytes : List ℕ) → at < length image → block (slice_set image at bytes) at ≡ bytes

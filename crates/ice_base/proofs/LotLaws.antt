@@ -174,7 +174,8 @@ home_not_body lot a i l h k e = ⊎_elim (λ s. omega arith) (λ s. omega arith)
 
 -- the journal's blocks differ
 pub journal_apart : (lot : LotView) (i j : ℕ)
-    → (gate_place lot ≢ header_place lot) × (gate_place lot ≢ body_place lot i) × (header_place lot ≢ body_place lot i) × (body_place lot i ≡ body_place lot j → i ≡ j)
+    → (gate_place lot ≢ header_place lot) × (gate_place lot ≢ body_place lot i) × (header_place lot ≢ body_place lot i)
+    × (body_place lot i ≡ body_place lot j → i ≡ j)
 journal_apart lot i j = ((λ e. omega arith), (λ e. omega arith), (λ e. omega arith), (λ e. omega arith))
 
 -- where a block of a lot lies: in its slot's area, or in one of its groups

@@ -64,6 +64,7 @@ pub record MovesFrom {D T X : Type 0} (state : D → DiskState) (left : D → �
   pub done : Settled from (state old) → before (state old).now → OnOk result (Settled on (state new) × after (state new).now)
 
 -- one step between settled states
-abbrev pub Moves : {D T X : Type 0} (state : D → DiskState) (left : D → ℕ → Image → List ℕ → Type 0) (on : ℕ → Type 0) (result : Result T X) (before P after : Image → Type 0) (old new : D)
+abbrev pub Moves : {D T X : Type 0} (state : D → DiskState) (left : D → ℕ → Image → List ℕ → Type 0) (on : ℕ → Type 0)
+    (result : Result T X) (before P after : Image → Type 0) (old new : D)
     → Type 0
 Moves state left on result before P after old new = MovesFrom state left on on result before P after old new

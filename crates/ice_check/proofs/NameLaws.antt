@@ -203,7 +203,8 @@ none_taken c (r ∷ rs) (suc k) h =
     rw (h 0 r (omega arith) refl) (none_taken c rs k (λ i s lt at. h (suc i) s (omega arith) at))
 
 module _ (lot : LotView) (m : Map) (dir count : ℕ) (names cut : List (List ℕ))
-    (is : count ≡ length (rows_in form_one (own form_one m dir))) (long : length cut ≡ count) (same : (k : ℕ) → k < count → get_or cut k [] ≡ get_or names k []) (read : AreRead m dir count names) where
+    (is : count ≡ length (rows_in form_one (own form_one m dir))) (long : length cut ≡ count)
+    (same : (k : ℕ) → k < count → get_or cut k [] ≡ get_or names k []) (read : AreRead m dir count names) where
   abbrev rs : List DirRow
   rs = rows_in form_one (own form_one m dir)
 

@@ -28,7 +28,8 @@ dir_kind lot i inode (inr h) other = h
 
 module _ (lot : LotView) (m : Map) (i : ℕ) (inode : Inode) (is : inode ≡ inode_of m i) (kind : KindFits form_one lot i inode)
     (pointers : List ℕ) (count : ℕ) (long : count ≡ map_length form_one inode)
-    (same : 12 < map_length form_one inode → pointers ≡ m inode.single) (fits : PointersFit form_one lot (own_of (λ _. pointers) inode (map_length form_one inode))) where
+    (same : 12 < map_length form_one inode → pointers ≡ m inode.single)
+    (fits : PointersFit form_one lot (own_of (λ _. pointers) inode (map_length form_one inode))) where
   pub sound_here : used_inode m i ≡ true → IsSound form_one lot m i
   sound_here used = record { marked = used; kind = kind_here lot m i inode is kind; pointers = fits_here lot m i inode is pointers same fits }
 

@@ -398,7 +398,8 @@ looked_record c h op (Some r) still = refl
 looked_record c h op None still = rw still refl
 
 module _ {D : Type 0} (state : D → DiskState) (left : D → ℕ → Image → List ℕ → Type 0) (lot : LotView) (v w : SetView) (a b : D)
-    (held : HeldBack state left lot v a w b) (homes : AreHomes (lot_places lot) v.entries) (n : ℕ) (c : Cube) (holds : HoldsRecord (record { lot = lot; set = v.entries; done = n; stopped = false }) (state a) c) where
+    (held : HeldBack state left lot v a w b) (homes : AreHomes (lot_places lot) v.entries) (n : ℕ) (c : Cube)
+    (holds : HoldsRecord (record { lot = lot; set = v.entries; done = n; stopped = false }) (state a) c) where
   -- what the record has
   now : Tree
   now = tree_now holds.history
@@ -610,7 +611,8 @@ module _ {D : Type 0} (state : D → DiskState) (left : D → ℕ → Image → 
 
   -- A check of a sound tree names no damage.
   pub check_sound : (result : Result Summary CheckFault)
-      → ((f : Form) (mode k : ℕ) (t : Tree) → f ≡ form_of f.version → (state a).tells ≡ true → MapRecovers f mode lot (shown_by lot v (state a)) t k → IfErr result IsDisk)
+      → ((f : Form) (mode k : ℕ) (t : Tree) → f ≡ form_of f.version → (state a).tells ≡ true
+      → MapRecovers f mode lot (shown_by lot v (state a)) t k → IfErr result IsDisk)
       → (r : Rule) → result ≡ Err (check.Damaged r) → ⊥
   check_sound result exact r is =
       subst (λ (x : Result Summary CheckFault). IfErr x IsDisk) is

@@ -160,7 +160,8 @@ module _ {D : Type 0} (state : D → DiskState) (left : D → ℕ → Image → 
 
   -- Each crash of a commit leaves what the history has.
   pub commit_step : (f : Form) (mode : Mode) (h : History) (c : CubeView) (a b : D) → c.stopped ≡ false → Holds f mode h c (state a)
-      → ((map : ℕ → List ℕ) → Sure (RestsLot c.lot) (LotAtRest c.lot map) (state a) → CrashStep state left (JournalExtent (lot_places c.lot) 240) (BlocksEither c.lot c.set map) a b)
+      → ((map : ℕ → List ℕ) → Sure (RestsLot c.lot) (LotAtRest c.lot map) (state a)
+      → CrashStep state left (JournalExtent (lot_places c.lot) 240) (BlocksEither c.lot c.set map) a b)
       → CrashStep state left (extent c.lot) (HasHistory c.lot f mode h) a b
   commit_step f mode h c a b live holds step =
       let r = holds.runs live in

@@ -80,7 +80,8 @@ place-fits entry k e = rw e (let b = mod_below k 16 (omega arith) in omega (arit
 -- a block of a map was put, in which one row was written
 module _ (lot : LotView) (entry : ℕ) (m0 m1 m2 : ℕ → List ℕ) (x y : Inode) (c d k at : ℕ) (old new bytes : List ℕ) (sixty : entry ≡ 64)
     (reached : HadBlock lot m0 m1 x y c (k / entries_in entry) at) (few : length lot.groups ≤ 64)
-    (wide : max c (k / entries_in entry + 1) ≡ d) (had : k / entries_in entry < c → old ≡ content_of m0 x (k / entries_in entry)) (long : length old ≡ 1024) (now_long : length new ≡ 1024) (beside : SameBeside (place_of entry k) entry old new)
+    (wide : max c (k / entries_in entry + 1) ≡ d) (had : k / entries_in entry < c → old ≡ content_of m0 x (k / entries_in entry))
+    (long : length old ≡ 1024) (now_long : length new ≡ 1024) (beside : SameBeside (place_of entry k) entry old new)
     (here : row_bytes entry new (place_of entry k) ≡ bytes) (put : m2 at ≡ new) (only : (b : ℕ) → b ≢ at → m2 b ≡ m1 b) where
   moved-one : Moved lot m0 m1 x y c d
   moved-one = subst (λ n. Moved lot m0 m1 x y c n) wide reached.moved
@@ -135,7 +136,8 @@ texts-sized f entry m number same = ap (λ n. map (entry_bytes n m (inode_of m n
 -- the entries of a directory to which one was added
 module _ (lot : LotView) (f : Form) (entry : ℕ) (m0 m1 m2 : ℕ → List ℕ) (x y z : Inode) (number : ℕ) (bytes : List ℕ) (one : f ≡ form_one)
     (same : entry_size f ≡ entry) (e : entry ≡ 64) (put : RowPut lot entry m0 m1 x y (blocks_sized entry x.size) (blocks_sized entry (x.size + 1)) x.size bytes)
-    (before : inode_of m0 number ≡ x) (after : inode_of m2 number ≡ z) (more : z.size ≡ x.size + 1) (content : (n : ℕ) → n < blocks_sized entry (x.size + 1) → content_of m2 z n ≡ content_of m1 y n) where
+    (before : inode_of m0 number ≡ x) (after : inode_of m2 number ≡ z) (more : z.size ≡ x.size + 1)
+    (content : (n : ℕ) → n < blocks_sized entry (x.size + 1) → content_of m2 z n ≡ content_of m1 y n) where
   entry-now : (j : ℕ) → j < x.size + 1 → entry_bytes entry m2 z j ≡ entry_bytes entry m1 y j
   entry-now j h = ap (λ (b : List ℕ). row_bytes entry b (place_of entry j)) (content (j / entries_in entry) (row-inside entry (x.size + 1) j e h))
 
@@ -166,8 +168,10 @@ dir-map f entry x same k = ap (λ n. blocks_for (cond (n == 2) (entry_size f * x
 
 -- a directory to which a row was added and which was then put
 module _ (lot : LotView) (f : Form) (entry : ℕ) (m0 m1 m2 : ℕ → List ℕ) (x y : Inode) (number : ℕ) (row : DirRow) (bytes : List ℕ)
-    (one : f ≡ form_one) (same : entry_size f ≡ entry) (e : entry ≡ 64) (is : IsDirectory lot x) (room : x.size + 1 < 64 * length lot.groups) (before : inode_of m0 number ≡ x)
-    (put : RowPut lot entry m0 m1 x y (blocks_sized entry x.size) (blocks_sized entry (x.size + 1)) x.size bytes) (text : IsText row bytes) (set : InodeSet m1 m2 number (resized y (y.size + 1)))
+    (one : f ≡ form_one) (same : entry_size f ≡ entry) (e : entry ≡ 64) (is : IsDirectory lot x)
+    (room : x.size + 1 < 64 * length lot.groups) (before : inode_of m0 number ≡ x)
+    (put : RowPut lot entry m0 m1 x y (blocks_sized entry x.size) (blocks_sized entry (x.size + 1)) x.size bytes) (text : IsText row bytes)
+    (set : InodeSet m1 m2 number (resized y (y.size + 1)))
     (only : (b : ℕ) → b ≢ inode_address number → m2 b ≡ m1 b) where
   kind-put : y.kind ≡ 2
   kind-put = put.moved.kind ∙ is.kind
@@ -239,7 +243,8 @@ module _ {X : Type 0} (none : X) where
 module _ (lot : LotView) (f : Form) (entry : ℕ) (m0 m1 m2 m3 : ℕ → List ℕ) (x y : Inode) (number k : ℕ) (one : f ≡ form_one)
     (same : entry_size f ≡ entry) (e : entry ≡ 64) (is : IsDirectory lot x) (below : k < x.size) (before : inode_of m0 number ≡ x)
     (put : RowPut lot entry m0 m1 x x (blocks_sized entry x.size) (blocks_sized entry x.size) k (entry_bytes entry m0 x (x.size - 1)))
-    (moved : Moved lot m1 m2 x y (blocks_sized entry x.size) (blocks_sized entry (x.size - 1))) (contents : (n : ℕ) → n < blocks_sized entry (x.size - 1) → content_of m2 y n ≡ content_of m1 x n)
+    (moved : Moved lot m1 m2 x y (blocks_sized entry x.size) (blocks_sized entry (x.size - 1)))
+    (contents : (n : ℕ) → n < blocks_sized entry (x.size - 1) → content_of m2 y n ≡ content_of m1 x n)
     (set : InodeSet m2 m3 number (resized y (x.size - 1))) (only : (b : ℕ) → b ≢ inode_address number → m3 b ≡ m2 b) where
   kind-left : y.kind ≡ 2
   kind-left = moved.kind ∙ is.kind

@@ -77,8 +77,10 @@ cut-six count rest h = grind (arith, nat_tests)
 -- a directory of which row k was taken
 module _ (lot : LotView) (f : Form) (entry : ℕ) (m0 m1 m2 m3 : ℕ → List ℕ) (x y : Inode) (number k count rest : ℕ) (one : f ≡ form_one)
     (same : entry_size f ≡ entry) (e : entry ≡ 64) (is : IsDirectory lot x) (below : k < x.size) (before : inode_of m0 number ≡ x)
-    (put : RowPut lot entry m0 m1 x x (blocks_sized entry x.size) (blocks_sized entry x.size) k (entry_bytes entry m0 x (x.size - 1))) (c : count ≡ blocks_sized entry x.size) (r : rest ≡ blocks_sized entry (x.size - 1))
-    (was : Cut lot m1 m2 x y count rest) (stay : Stays lot m1 m2 []) (fields : y ≡ shortened x rest) (set : InodeSet m2 m3 number (resized y (x.size - 1))) (only : (b : ℕ) → b ≢ inode_address number → m3 b ≡ m2 b) where
+    (put : RowPut lot entry m0 m1 x x (blocks_sized entry x.size) (blocks_sized entry x.size) k (entry_bytes entry m0 x (x.size - 1)))
+    (c : count ≡ blocks_sized entry x.size) (r : rest ≡ blocks_sized entry (x.size - 1))
+    (was : Cut lot m1 m2 x y count rest) (stay : Stays lot m1 m2 []) (fields : y ≡ shortened x rest)
+    (set : InodeSet m2 m3 number (resized y (x.size - 1))) (only : (b : ℕ) → b ≢ inode_address number → m3 b ≡ m2 b) where
   order : blocks_sized entry (x.size - 1) ≤ blocks_sized entry x.size
   order = blocks-fall entry x.size e
 
@@ -214,8 +216,10 @@ short-lost lot m1 m2 m3 x y rest s n h fields same stays lost =
 -- a directory from which an entry was taken, whatever its blocks held
 module _ (lot : LotView) (f : Form) (m0 m1 m2 m3 : ℕ → List ℕ) (x y : Inode) (number k count rest : ℕ) (one : f ≡ form_one)
     (few : length lot.groups ≤ 64) (is : IsDirectory lot x) (below : k < x.size) (before : inode_of m0 number ≡ x)
-    (beside : (b : ℕ) → is_data lot b ≡ false → m1 b ≡ m0 b) (c : count ≡ entry_blocks f x.size) (r : rest ≡ entry_blocks f (x.size - 1)) (was : Cut lot m1 m2 x y count rest) (stay : Stays lot m1 m2 [])
-    (placed : (b : ℕ) → has (cut_off m1 x count rest) b ≡ true → is_data lot b ≡ true) (fields : y ≡ shortened x rest) (set : InodeSet m2 m3 number (resized y (x.size - 1))) (only : (b : ℕ) → b ≢ inode_address number → m3 b ≡ m2 b) where
+    (beside : (b : ℕ) → is_data lot b ≡ false → m1 b ≡ m0 b) (c : count ≡ entry_blocks f x.size) (r : rest ≡ entry_blocks f (x.size - 1))
+    (was : Cut lot m1 m2 x y count rest) (stay : Stays lot m1 m2 [])
+    (placed : (b : ℕ) → has (cut_off m1 x count rest) b ≡ true → is_data lot b ≡ true) (fields : y ≡ shortened x rest)
+    (set : InodeSet m2 m3 number (resized y (x.size - 1))) (only : (b : ℕ) → b ≢ inode_address number → m3 b ≡ m2 b) where
   gone-bitmaps : (o : ℕ) → m3 (256 * o) ≡ m2 (256 * o)
   gone-bitmaps o = only (256 * o) (λ e. inode_not_bitmap number o (sym e))
 

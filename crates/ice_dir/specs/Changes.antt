@@ -69,8 +69,10 @@ pub record EntryGone (lot : LotView) (f : Form) (old new : ℕ → List ℕ) (nu
   pub kind : (inode_of new number).kind ≡ 2
   pub size : (inode_of new number).size + 1 ≡ (inode_of old number).size
   pub others : (k : ℕ) → k ≢ number → inode_of new k ≡ inode_of old k
-  pub free : free_count false lot new + uses_of (entry_blocks f (inode_of new number).size) ≡ free_count false lot old + uses_of (entry_blocks f (inode_of old number).size)
-  pub counts : counted false new ≡ counted false old - (uses_of (entry_blocks f (inode_of old number).size) - uses_of (entry_blocks f (inode_of new number).size))
+  pub free : free_count false lot new + uses_of (entry_blocks f (inode_of new number).size)
+      ≡ free_count false lot old + uses_of (entry_blocks f (inode_of old number).size)
+  pub counts : counted false new
+      ≡ counted false old - (uses_of (entry_blocks f (inode_of old number).size) - uses_of (entry_blocks f (inode_of new number).size))
   pub sub : SameBeside (count_place false) 4 (old sub_address) (new sub_address)
   pub places : (b : ℕ) → is_data lot b ≡ false → used_block new b ≡ used_block old b
   pub inodes : (i : ℕ) → used_inode new i ≡ used_inode old i

@@ -25,7 +25,8 @@ written-none lot m x c at bytes made = record {
 
 module _ (lot : LotView) (m0 m1 m2 : ℕ → List ℕ) (x y z : Inode) (c d k at done start : ℕ) (bytes part : List ℕ)
     (w : Written lot m0 m1 x y c d at done bytes) (p : PutPiece lot m1 m2 y z d k start part)
-    (wide : c ≤ d) (below : done ≤ 1024 * d) (place : 1024 * k + start ≡ done) (fit : start + length part ≤ 1024) (after : at ≤ done) (what : (j : ℕ) → j < length part → slice_index part j ≡ slice_index bytes (done + j - at)) where
+    (wide : c ≤ d) (below : done ≤ 1024 * d) (place : 1024 * k + start ≡ done) (fit : start + length part ≤ 1024) (after : at ≤ done)
+    (what : (j : ℕ) → j < length part → slice_index part j ≡ slice_index bytes (done + j - at)) where
   byte-kept : (i : ℕ) → i < 1024 * d → (i < done) ⊎ (done + length part ≤ i) → byte_of m2 z i ≡ byte_of m1 y i
   byte-kept i h side =
       let q = div-add-mod' i 1024 in

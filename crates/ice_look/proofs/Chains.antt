@@ -27,7 +27,8 @@ by_paths long deep = if long then Some why.NameLong else (if deep then Some why.
 -- ---- over plain tests
 
 stat_by : (long deep : Bool) (w : Walk)
-    → lowest long (deep || false) (is_not_found w || false) ((is_not_dir w || false) || false) false false false false false false false false false false ≡ or_else (by_paths long deep) (walk_refusal w)
+    → lowest long (deep || false) (is_not_found w || false) ((is_not_dir w || false) || false) false false false false false false false false false false
+    ≡ or_else (by_paths long deep) (walk_refusal w)
 stat_by true deep w = refl
 stat_by false true w = refl
 stat_by false false (Found t) = refl
@@ -65,6 +66,7 @@ module _ (t : Tree) (k n : ℕ) (f : Form) where
   refusal_list p = list_by (has_long_name f (ListDir p)) (has_deep_path (ListDir p)) (walk p t)
 
   pub refusal_read : (p : Names) (at len : ℕ)
-      → refusal t k n f (Read p at len) ≡ or_else (paths_refusal f (p ∷ [])) (or_else (file_refusal (walk p t)) (if nat_lt (length (bytes_found (walk p t))) at then Some why.BeyondEnd else None))
+      → refusal t k n f (Read p at len)
+      ≡ or_else (paths_refusal f (p ∷ [])) (or_else (file_refusal (walk p t)) (if nat_lt (length (bytes_found (walk p t))) at then Some why.BeyondEnd else None))
   unfolding refusal
   refusal_read p at len = read_by (has_long_name f (Read p at len)) (has_deep_path (Read p at len)) (walk p t) (nat_lt (length (bytes_found (walk p t))) at)

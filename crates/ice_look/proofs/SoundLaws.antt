@@ -233,7 +233,8 @@ module _ (mode : ℕ) (lot : LotView) (m : Map) (t : Tree) (k : ℕ) (r : MapRec
   no-twice : ¬ TwiceUsed form_one lot m
   no-twice x = by x.twice
     where
-      by : ((x.one ≡ x.other) × (2 ≤ times (node_uses form_one m x.one) x.block)) ⊎ ((x.one ≢ x.other) × (has (node_uses form_one m x.one) x.block ≡ true) × (has (node_uses form_one m x.other) x.block ≡ true)) → ⊥
+      by : ((x.one ≡ x.other) × (2 ≤ times (node_uses form_one m x.one) x.block))
+          ⊎ ((x.one ≢ x.other) × (has (node_uses form_one m x.one) x.block ≡ true) × (has (node_uses form_one m x.other) x.block ≡ true)) → ⊥
       by (inl two) =
           omega (
             arith,

@@ -61,7 +61,8 @@ module _ (form : Form) (m : ℕ → List ℕ) where
 
   module _ (levels number k : ℕ) (row : DirRow) (is : slice_get (dir_rows_of form m number) k ≡ Some row) where
     -- one row more
-    pub rows-more : sum_by (by_row levels) (take (k + 1) (dir_rows_of form m number)) ≡ sum_by (by_row levels) (take k (dir_rows_of form m number)) + by_row levels row
+    pub rows-more : sum_by (by_row levels) (take (k + 1) (dir_rows_of form m number))
+        ≡ sum_by (by_row levels) (take k (dir_rows_of form m number)) + by_row levels row
     rows-more =
         sum_by_more (by_row levels) (dir_rows_of form m number) k row (slice_get_within (dir_rows_of form m number) k row is)
         ∙ ap (λ r. sum_by (by_row levels) (take k (dir_rows_of form m number)) + by_row levels r)

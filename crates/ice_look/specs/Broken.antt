@@ -58,7 +58,8 @@ pub record TwiceUsed (form : Form) (lot : LotView) (m : ℕ → List ℕ) : Type
   pub reached_too : IsReached form lot m other
   pub node : IsNode lot (inode_of m one)
   pub node_too : IsNode lot (inode_of m other)
-  pub twice : ((one ≡ other) × (2 ≤ times (node_uses form m one) block)) ⊎ ((one ≢ other) × (has (node_uses form m one) block ≡ true) × (has (node_uses form m other) block ≡ true))
+  pub twice : ((one ≡ other) × (2 ≤ times (node_uses form m one) block))
+      ⊎ ((one ≢ other) × (has (node_uses form m one) block ≡ true) × (has (node_uses form m other) block ≡ true))
 
 -- ---- entries
 

@@ -239,7 +239,8 @@ pub cut-run-last : (m : ℕ → List ℕ) (b : List ℕ) (inode : Inode) (count 
 cut-run-last m b inode count rest h l e = cut-last m inode count rest h l ∙ ap (λ xs. xs ++ inode.single ∷ []) (same-run m b inode rest count e)
 
 -- the indirect block is the last that is given back
-pub last-puts : {V D : Type 0} (g : view.Ghosts V D) (lot : LotView) (ok : Bool) (m : ℕ → List ℕ) (b : List ℕ) (inode : Inode) (count rest : ℕ) (v : V) (d : D) (w : V) (e : D) (x : V) (f : D)
+pub last-puts : {V D : Type 0} (g : view.Ghosts V D) (lot : LotView) (ok : Bool) (m : ℕ → List ℕ)
+    (b : List ℕ) (inode : Inode) (count rest : ℕ) (v : V) (d : D) (w : V) (e : D) (x : V) (f : D)
     → 12 < count → rest ≤ 12 → (12 < count → b ≡ m inode.single)
     → Puts g lot true (given_puts (blocks_between (λ _. b) inode rest count)) v d w e
     → Puts g lot ok (sub_address ∷ bitmap_of false inode.single ∷ []) w e x f → Puts g lot ok (given_puts (cut_off m inode count rest)) v d x f
@@ -291,10 +292,12 @@ rest-stays m0 m1 old rest l same k h =
 
 -- what a map uses: what it uses after the cut, and what was cut off
 indirect-cut : (old : Inode) (count rest : ℕ) → rest ≤ count → (b : ℕ)
-    → times (indirect_of old count) b ≡ times (indirect_of (shortened old rest) rest) b + times (cond (nat_lt 12 count && nat_le rest 12) (old.single ∷ []) []) b
+    → times (indirect_of old count) b
+    ≡ times (indirect_of (shortened old rest) rest) b + times (cond (nat_lt 12 count && nat_le rest 12) (old.single ∷ []) []) b
 indirect-cut old count rest h b =
     elim (ltb 12 count) as (λ t. ltb 12 count ≡ t
-    → times (indirect_of old count) b ≡ times (indirect_of (shortened old rest) rest) b + times (cond (nat_lt 12 count && nat_le rest 12) (old.single ∷ []) []) b) [
+    → times (indirect_of old count) b
+    ≡ times (indirect_of (shortened old rest) rest) b + times (cond (nat_lt 12 count && nat_le rest 12) (old.single ∷ []) []) b) [
       | false ↦ λ t.
           let x : indirect_of old count ≡ [] = grind (arith, nat_tests) in
           let y : indirect_of (shortened old rest) rest ≡ [] = grind (arith, nat_tests) in

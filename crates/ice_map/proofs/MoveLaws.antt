@@ -113,7 +113,8 @@ widened-single x y c a e ne =
 
 -- a map that grew
 module _ (lot : LotView) (m0 m1 : ℕ → List ℕ) (x y : Inode) (c a : ℕ) (made : MadeOf lot m0 x c) (grown : Grown lot m0 m1 x y c a)
-    (stay : Stays lot m0 m1 (indirect_of x c)) (place : is_data lot a ≡ true) (place_single : 12 ≤ c → is_data lot y.single ≡ true) (fields : y ≡ widened x c a y.single) where
+    (stay : Stays lot m0 m1 (indirect_of x c)) (place : is_data lot a ≡ true) (place_single : 12 ≤ c → is_data lot y.single ≡ true)
+    (fields : y ≡ widened x c a y.single) where
   growth-data : (b : ℕ) → has (growth c a y.single) b ≡ true → is_data lot b ≡ true
   growth-data b h =
       elim (c == 12) as (λ t. (c == 12) ≡ t → is_data lot b ≡ true) [

@@ -202,11 +202,13 @@ module _ (f : Form) (o p : Table) (mine yours : ℕ → List ℕ) (alike : (k : 
     (adds : (xs ys : List ℕ) → measure (xs ++ ys) ≡ measure xs + measure ys) where
   uses_in-over : (rs : List DirRow) (c : List ℕ) (g : Tree → Tree) (es : Entries) (u : Tree) → find by_bytes c (rows es) ≡ Some u
       → SameOutside o p (used_inodes f o (inode_named c rs) u) (inodes_in f o rs es)
-      → measure (entries_use f p yours rs (over_entry c g es)) + measure (tree_uses f o mine (inode_named c rs) u) ≡ measure (tree_uses f p yours (inode_named c rs) (g u)) + measure (entries_use f o mine rs es)
+      → measure (entries_use f p yours rs (over_entry c g es)) + measure (tree_uses f o mine (inode_named c rs) u)
+      ≡ measure (tree_uses f p yours (inode_named c rs) (g u)) + measure (entries_use f o mine rs es)
   uses_in-over rs c g Nil u is same = absurd (None≢Some u is)
   uses_in-over rs c g (Entry d t es) u is same =
       elim (eq_by_cmp by_bytes c d) as (λ b. eq_by_cmp by_bytes c d ≡ b → cond b (Some t) (find by_bytes c (rows es)) ≡ Some u
-      → measure (entries_use f p yours rs (cond b (Entry d (g t) es) (Entry d t (over_entry c g es)))) + measure (tree_uses f o mine (inode_named c rs) u) ≡ measure (tree_uses f p yours (inode_named c rs) (g u)) + measure (tree_uses f o mine (inode_named d rs) t ++ entries_use f o mine rs es)) [
+      → measure (entries_use f p yours rs (cond b (Entry d (g t) es) (Entry d t (over_entry c g es)))) + measure (tree_uses f o mine (inode_named c rs) u)
+      ≡ measure (tree_uses f p yours (inode_named c rs) (g u)) + measure (tree_uses f o mine (inode_named d rs) t ++ entries_use f o mine rs es)) [
         | true ↦ λ e is.
             let k = same_name c d e in
             let v = same_Some _ _ is in
@@ -233,7 +235,8 @@ module _ (f : Form) (o p : Table) (mine yours : ℕ → List ℕ) (alike : (k : 
   -- where the part at a walk's end changed, the whole tree uses more or less by what that part does
   pub uses-at : (q : List (List ℕ)) (i : ℕ) (g : Tree → Tree) (t s : Tree) → walk q t ≡ Found s
       → SameOutside o p (used_inodes f o (inode_on f o i q) s) (used_inodes f o i t)
-      → measure (tree_uses f p yours i (at q g t)) + measure (tree_uses f o mine (inode_on f o i q) s) ≡ measure (tree_uses f p yours (inode_on f o i q) (g s)) + measure (tree_uses f o mine i t)
+      → measure (tree_uses f p yours i (at q g t)) + measure (tree_uses f o mine (inode_on f o i q) s)
+      ≡ measure (tree_uses f p yours (inode_on f o i q) (g s)) + measure (tree_uses f o mine i t)
   uses-at [] i g t s is same =
       subst (λ x. measure (tree_uses f p yours i (g t)) + measure (tree_uses f o mine i x) ≡ measure
       (tree_uses f p yours i (g x)) + measure (tree_uses f o mine i t)) (same_Found _ _ is) refl

@@ -128,7 +128,8 @@ module _ (f : Form) (lot : LotView) (o p : Table) (i h : ℕ) (c : List ℕ) (v 
       → ((xs ys : List ℕ) → measure (xs ++ ys) ≡ measure xs + measure ys)
       → T (is_sorted by_bytes (rows es)) → find by_bytes c (rows es) ≡ Some v → LosesRow f lot (o i) (p i) i h c
       → SameAt o p (inodes_in f o (rows_in f (o i)) (without c es))
-      → measure (tree_uses f p yours i (without_entry c (Dir es))) + measure (tree_uses f o mine (inode_named c (rows_in f (o i))) v) + measure (mine i) ≡ measure (tree_uses f o mine i (Dir es)) + measure (yours i)
+      → measure (tree_uses f p yours i (without_entry c (Dir es))) + measure (tree_uses f o mine (inode_named c (rows_in f (o i))) v) + measure (mine i)
+      ≡ measure (tree_uses f o mine i (Dir es)) + measure (yours i)
   uses-loses mine yours like measure adds sorted is a same =
       omega (
         arith,

@@ -19,7 +19,8 @@ one i = i ∷ []
 
 module _ (f : Form) (lot : LotView) (o p : Table) (q : List (List ℕ)) (c : List ℕ) (v t : Tree) (es : Entries)
     (r : Reads f lot o 0 0 t) (found : walk q t ≡ Found (Dir es)) (is : find by_bytes c (rows es) ≡ Some v) (once : IsOnce (used_inodes f o 0 t))
-    (same : SameBut o p (inode_on f o 0 q) (used_inodes f o 0 t)) (a : LosesRow f lot (o (inode_on f o 0 q)) (p (inode_on f o 0 q)) (inode_on f o 0 q) (length q) c) where
+    (same : SameBut o p (inode_on f o 0 q) (used_inodes f o 0 t))
+    (a : LosesRow f lot (o (inode_on f o 0 q)) (p (inode_on f o 0 q)) (inode_on f o 0 q) (length q) c) where
   abbrev pub here : ℕ
   here = inode_on f o 0 q
 
@@ -46,7 +47,8 @@ module _ (f : Form) (lot : LotView) (o p : Table) (q : List (List ℕ)) (c : Lis
   -- the tree uses less by what the entry's tree used, and more or less by what the directory's own inode does
   pub uses-without_entry : (mine yours : ℕ → List ℕ) → ((k : ℕ) → p k ≡ o k → yours k ≡ mine k) → (measure : List ℕ → ℕ)
       → ((xs ys : List ℕ) → measure (xs ++ ys) ≡ measure xs + measure ys)
-      → measure (tree_uses f p yours 0 (at q (without_entry c) t)) + measure (tree_uses f o mine gone v) + measure (mine here) ≡ measure (tree_uses f o mine 0 t) + measure (yours here)
+      → measure (tree_uses f p yours 0 (at q (without_entry c) t)) + measure (tree_uses f o mine gone v) + measure (mine here)
+      ≡ measure (tree_uses f o mine 0 t) + measure (yours here)
   uses-without_entry mine yours like measure adds =
       omega (
         arith,
@@ -75,7 +77,8 @@ module _ (f : Form) (lot : LotView) (o p : Table) (q : List (List ℕ)) (c : Lis
   module _ (z : Table) (to : List (List ℕ)) (d : List ℕ) (fs : Entries) (there : walk to (at q (without_entry c) t) ≡ Found (Dir fs))
       (free : find by_bytes d (rows fs) ≡ None) (name : IsNameOf f d)
       (second : SameBut p z (inode_on f p 0 to) (used_inodes f p 0 (at q (without_entry c) t) ++ used_inodes f p gone v))
-      (adds : AddsRow f lot (p (inode_on f p 0 to)) (z (inode_on f p 0 to)) (inode_on f p 0 to) (length to) d gone) (fits : length to + 1 + height v ≤ deepest) where
+      (adds : AddsRow f lot (p (inode_on f p 0 to)) (z (inode_on f p 0 to)) (inode_on f p 0 to) (length to) d gone)
+      (fits : length to + 1 + height v ≤ deepest) where
     left_once : IsOnce (used_inodes f p 0 (at q (without_entry c) t))
     left_once k = omega (arith, apart k)
 

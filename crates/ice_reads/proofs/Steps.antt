@@ -74,11 +74,13 @@ module _ (f : Form) (o : Table) (mine : ℕ → List ℕ) (rs : List DirRow) (me
     (adds : (xs ys : List ℕ) → measure (xs ++ ys) ≡ measure xs + measure ys) where
   -- entries to which a new name was put use what they used, and what the tree of the name uses
   pub uses_in-put : (c : List ℕ) (v : Tree) (es : Entries) → find by_bytes c (rows es) ≡ None
-      → measure (entries_use f o mine rs (from_rows (put by_bytes c v (rows es)))) ≡ measure (tree_uses f o mine (inode_named c rs) v) + measure (entries_use f o mine rs es)
+      → measure (entries_use f o mine rs (from_rows (put by_bytes c v (rows es))))
+      ≡ measure (tree_uses f o mine (inode_named c rs) v) + measure (entries_use f o mine rs es)
   uses_in-put c v Nil none = adds (tree_uses f o mine (inode_named c rs) v) []
   uses_in-put c v (Entry d t es) none =
       elim (by_bytes c d) as (λ x. cond (is_eq x) (Some t) (find by_bytes c (rows es)) ≡ None
-      → measure (entries_use f o mine rs (from_rows (by_order x ((c, v) ∷ (d, t) ∷ rows es) ((d, v) ∷ rows es) ((d, t) ∷ put by_bytes c v (rows es))))) ≡ measure (tree_uses f o mine (inode_named c rs) v) + measure (tree_uses f o mine (inode_named d rs) t ++ entries_use f o mine rs es)) [
+      → measure (entries_use f o mine rs (from_rows (by_order x ((c, v) ∷ (d, t) ∷ rows es) ((d, v) ∷ rows es) ((d, t) ∷ put by_bytes c v (rows es)))))
+      ≡ measure (tree_uses f o mine (inode_named c rs) v) + measure (tree_uses f o mine (inode_named d rs) t ++ entries_use f o mine rs es)) [
         | Less ↦ λ e. adds (tree_uses f o mine (inode_named c rs) v) (tree_uses f o mine (inode_named d rs) t ++ entries_use f o mine rs (from_rows (rows es)))
             ∙ ap (λ x. measure (tree_uses f o mine (inode_named c rs) v) + measure
             (tree_uses f o mine (inode_named d rs) t ++ entries_use f o mine rs x)) (from_rows-rows es)
@@ -178,7 +180,8 @@ module _ (f : Form) (lot : LotView) (o p : Table) (i h : ℕ) (c : List ℕ) (j 
   pub uses-gains : (mine yours : ℕ → List ℕ) → ((k : ℕ) → p k ≡ o k → yours k ≡ mine k) → (measure : List ℕ → ℕ)
       → ((xs ys : List ℕ) → measure (xs ++ ys) ≡ measure xs + measure ys)
       → IsDirInode f lot (o i) es → find by_bytes c (rows es) ≡ None → AddsRow f lot (o i) (p i) i h c j → SameAt o p (inodes_in f o (rows_in f (o i)) es)
-      → measure (tree_uses f p yours i (with_entry c v (Dir es))) + measure (mine i) ≡ measure (tree_uses f o mine i (Dir es)) + (measure (yours i) + measure (tree_uses f p yours j v))
+      → measure (tree_uses f p yours i (with_entry c v (Dir es))) + measure (mine i)
+      ≡ measure (tree_uses f o mine i (Dir es)) + (measure (yours i) + measure (tree_uses f p yours j v))
   uses-gains mine yours like measure adds d none a same =
       omega (
         arith,
@@ -238,7 +241,8 @@ module _ (f : Form) (lot : LotView) (o p : Table) (q : List (List ℕ)) (c : Lis
       → ((xs ys : List ℕ) → measure (xs ++ ys) ≡ measure xs + measure ys)
       → Reads f lot o 0 0 t → walk q t ≡ Found (Dir es) → find by_bytes c (rows es) ≡ None → IsOnce (used_inodes f o 0 t)
       → SameBut o p (inode_on f o 0 q) (used_inodes f o 0 t) → AddsRow f lot (o (inode_on f o 0 q)) (p (inode_on f o 0 q)) (inode_on f o 0 q) (length q) c j
-      → measure (tree_uses f p yours 0 (at q (with_entry c v) t)) + measure (mine (inode_on f o 0 q)) ≡ measure (tree_uses f o mine 0 t) + (measure (yours (inode_on f o 0 q)) + measure (tree_uses f p yours j v))
+      → measure (tree_uses f p yours 0 (at q (with_entry c v) t)) + measure (mine (inode_on f o 0 q))
+      ≡ measure (tree_uses f o mine 0 t) + (measure (yours (inode_on f o 0 q)) + measure (tree_uses f p yours j v))
   uses-with_entry mine yours like measure adds r found none once same a =
       omega (
         arith,

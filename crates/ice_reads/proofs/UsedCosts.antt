@@ -31,11 +31,13 @@ length-indirect x c = by (nat_lt 12 c)
     by false = refl
 
 length-double : (m : Map) (x : Inode) (c : ℕ)
-    → length (if nat_lt longest c then x.double ∷ map (λ j. word_at (m x.double) (4 * j)) (range_with_len 0 (rounded_up (c - longest) 256)) else []) ≡ cond (nat_lt longest c) (1 + rounded_up (c - longest) 256) 0
+    → length (if nat_lt longest c then x.double ∷ map (λ j. word_at (m x.double) (4 * j)) (range_with_len 0 (rounded_up (c - longest) 256)) else [])
+    ≡ cond (nat_lt longest c) (1 + rounded_up (c - longest) 256) 0
 length-double m x c = by (nat_lt longest c)
   where
     by : (b : Bool)
-        → length (if b then x.double ∷ map (λ j. word_at (m x.double) (4 * j)) (range_with_len 0 (rounded_up (c - longest) 256)) else []) ≡ cond b (1 + rounded_up (c - longest) 256) 0
+        → length (if b then x.double ∷ map (λ j. word_at (m x.double) (4 * j)) (range_with_len 0 (rounded_up (c - longest) 256)) else [])
+        ≡ cond b (1 + rounded_up (c - longest) 256) 0
     by true = omega (arith, length-map-range_with_len (λ j. word_at (m x.double) (4 * j)) 0 (rounded_up (c - longest) 256))
     by false = refl
 
@@ -96,7 +98,8 @@ module _ (f : Form) (lot : LotView) (o : Table)
         omega (arith, dir i es r.1, length-append (o i).uses (entries_use f o (λ i. (o i).uses) (rows_in f (o i)) es), used-each (rows_in f (o i)) (h + 1) es r.2)
 
     used-each : (rs : List DirRow) (h : ℕ) (es : Entries) → ReadsEach f lot o rs h es
-        → length (entries_use f o (λ i. (o i).uses) rs es) ≡ total_in (λ bytes. map_cost (file_blocks (length bytes))) (λ entries. map_cost (dir_blocks f entries)) es
+        → length (entries_use f o (λ i. (o i).uses) rs es)
+        ≡ total_in (λ bytes. map_cost (file_blocks (length bytes))) (λ entries. map_cost (dir_blocks f entries)) es
     used-each rs h Nil r = refl
     used-each rs h (Entry c t es) r =
         omega (arith, length-append (used_blocks f o (inode_named c rs) t) (entries_use f o (λ i. (o i).uses) rs es), used-tree (inode_named c rs) h t r.0, used-each rs h es r.1)

@@ -30,8 +30,10 @@ use Rattle.ice_steps.proofs.Takes.{took_inode, gave_inode, took_stays}
 -- a new inode was taken and put, and a row for it added
 module _ (mode : ℕ) (lot : LotView) (m0 m1 m2 m3 : Map) (t : Tree) (k : ℕ) (q : List (List ℕ)) (c : List ℕ) (j : ℕ) (es : Entries)
     (inode : Inode) (few : length lot.groups ≤ 64)
-    (r : MapRecovers form_one mode lot m0 t k) (took : TookInode m0 m1 j) (small : j < 64 * length lot.groups) (taken : OnlyAt (sub_address ∷ bitmap_of true j ∷ []) m0 m1)
-    (put : InodeSet m1 m2 j inode) (there : OnlyAt (inode_address j ∷ []) m1 m2) (found : walk q t ≡ Found (Dir es)) (free : find by_bytes c (rows es) ≡ None) (name : IsNameOf form_one c) (deep : length q + 1 ≤ deepest)
+    (r : MapRecovers form_one mode lot m0 t k) (took : TookInode m0 m1 j) (small : j < 64 * length lot.groups)
+    (taken : OnlyAt (sub_address ∷ bitmap_of true j ∷ []) m0 m1)
+    (put : InodeSet m1 m2 j inode) (there : OnlyAt (inode_address j ∷ []) m1 m2) (found : walk q t ≡ Found (Dir es))
+    (free : find by_bytes c (rows es) ≡ None) (name : IsNameOf form_one c) (deep : length q + 1 ≤ deepest)
     (set : DirSet lot form_one m2 m3 (inode_on form_one (own form_one m0) 0 q) (dir_rows_of form_one m2 (inode_on form_one (own form_one m0) 0 q) ++ (c, j) ∷ [])) where
   b1 : Beside form_one mode lot m1 t k [] (j ∷ [])
   b1 = took_inode mode lot m0 m1 t k [] j few (recovers_beside form_one mode lot m0 t k r) took small taken

@@ -68,7 +68,8 @@ module _ (mode : ℕ) (lot : LotView) (m : Map) (t : Tree) (k : ℕ) (few : leng
       -- a row can be counted, and given back
       module _ (es : Entries) (found : walk q t ≡ Found (Dir es)) where
         -- with one row more the count of used blocks stays below 2 ^ 32
-        pub add_counts : ¬ (2 ^ 32 + uses_of (entry_blocks form_one (inode_of m here).size) ≤ counted false m + uses_of (entry_blocks form_one ((inode_of m here).size + 1)))
+        pub add_counts : ¬ (2 ^ 32 + uses_of (entry_blocks form_one (inode_of m here).size)
+            ≤ counted false m + uses_of (entry_blocks form_one ((inode_of m here).size + 1)))
         add_counts h =
             let c = (beside_counts mode lot m t k xs is b).0 in
             let s = (beside_dir mode lot m t k xs is b q es found).is.few in
@@ -77,7 +78,8 @@ module _ (mode : ℕ) (lot : LotView) (m : Map) (t : Tree) (k : ℕ) (few : leng
             omega arith
 
         -- the count of used blocks is not below what one row less gives back
-        pub take_counts : ¬ (counted false m + uses_of (entry_blocks form_one ((inode_of m here).size - 1)) < uses_of (entry_blocks form_one (inode_of m here).size))
+        pub take_counts : ¬ (counted false m + uses_of (entry_blocks form_one ((inode_of m here).size - 1))
+            < uses_of (entry_blocks form_one (inode_of m here).size))
         take_counts h =
             let c = beside_counted mode lot m t k xs is b q (Dir es) found in
             let u = dir_uses m here (beside_dir mode lot m t k xs is b q es found).is.kind in
@@ -132,7 +134,8 @@ module _ (mode : ℕ) (lot : LotView) (m : Map) (t : Tree) (k : ℕ) (few : leng
     -- there is room for a row that names the loose tree where the next tree meets the quota
     pub add_fits : (q : List (List ℕ)) (c : List ℕ) (es : Entries) → walk q t ≡ Found (Dir es) → find by_bytes c (rows es) ≡ None
         → blocks form_one (at q (with_entry c v) t) ≤ block_quota (length lot.groups)
-        → ¬ (free_count false lot m + uses_of (entry_blocks form_one (inode_of m (inode_on form_one (own form_one m) 0 q)).size) < uses_of (entry_blocks form_one ((inode_of m (inode_on form_one (own form_one m) 0 q)).size + 1)))
+        → ¬ (free_count false lot m + uses_of (entry_blocks form_one (inode_of m (inode_on form_one (own form_one m) 0 q)).size)
+        < uses_of (entry_blocks form_one ((inode_of m (inode_on form_one (own form_one m) 0 q)).size + 1)))
     add_fits q c es found none fits l =
         let d = beside_dir mode lot m t k (used_blocks form_one (own form_one m) j v) is b q es found in
         let s = d.size in

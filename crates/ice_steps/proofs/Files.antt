@@ -65,7 +65,8 @@ module _ (mode : ℕ) (lot : LotView) (m m' : Map) (t : Tree) (k : ℕ) (q : Lis
       (set-inode lot m m' here (length q) set.set r.0, set-file lot m m' here now set short)
 
   moves : (mine yours : ℕ → List ℕ) → ((x : ℕ) → own form_one m' x ≡ own form_one m x → yours x ≡ mine x) → (measure : List ℕ → ℕ) → Adds measure
-      → measure (tree_uses form_one (own form_one m') yours 0 (at q change t)) + measure (mine here) ≡ measure (tree_uses form_one (own form_one m) mine 0 t) + measure (yours here)
+      → measure (tree_uses form_one (own form_one m') yours 0 (at q change t)) + measure (mine here)
+      ≡ measure (tree_uses form_one (own form_one m) mine 0 t) + measure (yours here)
   moves mine yours alike measure adds =
       let e = uses-at form_one (own form_one m) (own form_one m') mine yours alike measure adds q 0 change t (File bytes) found outside in
       omega arith

@@ -21,7 +21,8 @@ use Rattle.ice_steps.proofs.Others.{Loose, loose-tree, all, all-apart, tree-once
 use Rattle.ice_steps.proofs.Sets.{Adds, set-inode, dir-after, beside-set}
 
 module _ (mode : ℕ) (lot : LotView) (m m' : Map) (t : Tree) (k : ℕ) (q : List (List ℕ)) (c : List ℕ) (j : ℕ) (v : Tree) (es : Entries)
-    (b : Beside form_one mode lot m t k (used_blocks form_one (own form_one m) j v) (used_inodes form_one (own form_one m) j v)) (found : walk q t ≡ Found (Dir es)) (free : find by_bytes c (rows es) ≡ None)
+    (b : Beside form_one mode lot m t k (used_blocks form_one (own form_one m) j v) (used_inodes form_one (own form_one m) j v))
+    (found : walk q t ≡ Found (Dir es)) (free : find by_bytes c (rows es) ≡ None)
     (name : IsNameOf form_one c) (r : Reads form_one lot (own form_one m) j (length q + 1) v)
     (set : DirSet lot form_one m m' (inode_on form_one (own form_one m) 0 q) (dir_rows_of form_one m (inode_on form_one (own form_one m) 0 q) ++ (c, j) ∷ [])) where
   abbrev here : ℕ
@@ -65,7 +66,8 @@ module _ (mode : ℕ) (lot : LotView) (m m' : Map) (t : Tree) (k : ℕ) (q : Lis
       (set-inode lot m m' here (length q) set.set) set.is.kind set.is.few c j set.rows
 
   moves : (mine yours : ℕ → List ℕ) → ((x : ℕ) → own form_one m' x ≡ own form_one m x → yours x ≡ mine x) → (measure : List ℕ → ℕ) → Adds measure
-      → measure (tree_uses form_one (own form_one m') yours 0 (at q (with_entry c v) t) ++ []) + measure (mine here) ≡ measure (tree_uses form_one (own form_one m) mine 0 t ++ tree_uses form_one (own form_one m) mine j v) + measure (yours here)
+      → measure (tree_uses form_one (own form_one m') yours 0 (at q (with_entry c v) t) ++ []) + measure (mine here)
+      ≡ measure (tree_uses form_one (own form_one m) mine 0 t ++ tree_uses form_one (own form_one m) mine j v) + measure (yours here)
   moves mine yours alike measure sums =
       let e = uses-with_entry form_one lot (own form_one m) (own form_one m') q c j v t es mine yours alike measure sums b.reads found free
       (tree-once mode lot m t k blocks inodes b) tree-but adds in

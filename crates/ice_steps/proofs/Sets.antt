@@ -41,7 +41,8 @@ dir-after (c ∷ q) g (File bytes) s found d keep = d
 dir-after (c ∷ q) g (Dir es) s found d keep = refl
 
 module _ (mode : ℕ) (lot : LotView) (m m' : Map) (t t' : Tree) (k : ℕ) (xs ys is js : List ℕ) (p : ℕ)
-    (b : Beside form_one mode lot m t k xs is) (l : Loose lot m xs is) (here : 0 < times (all mode lot m t k xs is b) p) (set : OwnSet lot form_one m m' p) where
+    (b : Beside form_one mode lot m t k xs is) (l : Loose lot m xs is) (here : 0 < times (all mode lot m t k xs is b) p)
+    (set : OwnSet lot form_one m m' p) where
   not-in : (us : List ℕ) (a : ℕ) → ((b : ℕ) → has us b ≡ true → is_data lot b ≡ true) → a % 256 < 9 → times us a ≡ 0
   not-in us a places low = times-none us a (elim (has us a) as (λ u. has us a ≡ u → u ≡ false) [
     | true ↦ λ u. let d = data_place lot a (places a u) in absurd (omega arith)
@@ -58,8 +59,11 @@ module _ (mode : ℕ) (lot : LotView) (m m' : Map) (t t' : Tree) (k : ℕ) (xs y
   }
 
   pub beside-set : is_dir t' ≡ true → Reads form_one lot (own form_one m') 0 0 t'
-      → ((measure : List ℕ → ℕ) → Adds measure → measure (used_blocks form_one (own form_one m') 0 t' ++ ys) + measure (own form_one m p).uses ≡ measure (used_blocks form_one (own form_one m) 0 t ++ xs) + measure (own form_one m' p).uses)
-      → ((measure : List ℕ → ℕ) → Adds measure → measure (used_inodes form_one (own form_one m') 0 t' ++ js) ≡ measure (used_inodes form_one (own form_one m) 0 t ++ is))
+      → ((measure : List ℕ → ℕ) → Adds measure
+      → measure (used_blocks form_one (own form_one m') 0 t' ++ ys) + measure (own form_one m p).uses
+      ≡ measure (used_blocks form_one (own form_one m) 0 t ++ xs) + measure (own form_one m' p).uses)
+      → ((measure : List ℕ → ℕ) → Adds measure
+      → measure (used_inodes form_one (own form_one m') 0 t' ++ js) ≡ measure (used_inodes form_one (own form_one m) 0 t ++ is))
       → ((a : ℕ) → has ys a ≡ true → is_data lot a ≡ true) → ((i : ℕ) → has js i ≡ true → i < 64 * length lot.groups) → Beside form_one mode lot m' t' k ys js
   beside-set dir reads blocks inodes more others = record {
     sub = says-beside form_one mode lot m m' k set.marks.sub b.sub;

@@ -77,11 +77,13 @@ abbrev seen : Option (ℕ → List ℕ) → ℕ → List ℕ
 seen None a = []
 seen (Some m) a = m a
 
-closed_lot : (seen (effective_of lot (image 0)) sub_address ≡ 288 ∷ []) × (seen (effective_of lot (image 0)) 9 ≡ 553 ∷ []) × (seen (effective_of lot (image 0)) 256 ≡ [])
+closed_lot : (seen (effective_of lot (image 0)) sub_address ≡ 288 ∷ []) × (seen (effective_of lot (image 0)) 9 ≡ 553 ∷ [])
+    × (seen (effective_of lot (image 0)) 256 ≡ [])
 unfolding effective_of is_open slot_targets word_at is_address place has inside block
 closed_lot = (refl, refl, refl)
 
-open_lot : (seen (effective_of lot (image 1)) sub_address ≡ 291 ∷ []) × (seen (effective_of lot (image 1)) 9 ≡ 292 ∷ []) × (seen (effective_of lot (image 1)) 10 ≡ 554 ∷ [])
+open_lot : (seen (effective_of lot (image 1)) sub_address ≡ 291 ∷ []) × (seen (effective_of lot (image 1)) 9 ≡ 292 ∷ [])
+    × (seen (effective_of lot (image 1)) 10 ≡ 554 ∷ [])
 unfolding effective_of is_open slot_targets word_at is_address place has inside block
 open_lot = (refl, refl, refl)
 
@@ -90,6 +92,7 @@ closed_by_2 : seen (effective_of lot (image 2)) 9 ≡ 553 ∷ []
 unfolding effective_of is_open slot_targets word_at is_address place has inside block
 closed_by_2 = refl
 
-open_tables : (seen (table_blocks (image 1)) 12 ≡ 3 ∷ []) × (seen (table_blocks (image 1)) 11 ≡ 11 ∷ []) × (seen (table_blocks (image 0)) 12 ≡ 12 ∷ []) × (seen (table_blocks (image 0)) 19 ≡ [])
+open_tables : (seen (table_blocks (image 1)) 12 ≡ 3 ∷ []) × (seen (table_blocks (image 1)) 11 ≡ 11 ∷ [])
+    × (seen (table_blocks (image 0)) 12 ≡ 12 ∷ []) × (seen (table_blocks (image 0)) 19 ≡ [])
 unfolding table_blocks is_open system_targets word_at has block
 open_tables = (refl, refl, refl, refl)

@@ -236,8 +236,10 @@ module _ (f : Form) (one : f ≡ form_one) (form : Form) (sized : form ≡ form_
         (subst (λ s. FileSet lot s m m' number (overwritten (file_bytes (own s m number)) off bytes)) sized set))
 
     pub write-sound : (e : OpFault) → IsWriteFault e
-        → (e ≡ NoSpace → free_count false lot m + uses_of (blocks_for (inode_of m number).size) < uses_of (blocks_with (inode_of m number).size (off + length bytes)))
-        → (e ≡ Damaged Counts → 2 ^ 32 + uses_of (blocks_for (inode_of m number).size) ≤ counted false m + uses_of (blocks_with (inode_of m number).size (off + length bytes)))
+        → (e ≡ NoSpace → free_count false lot m + uses_of (blocks_for (inode_of m number).size)
+        < uses_of (blocks_with (inode_of m number).size (off + length bytes)))
+        → (e ≡ Damaged Counts → 2 ^ 32 + uses_of (blocks_for (inode_of m number).size)
+        ≤ counted false m + uses_of (blocks_with (inode_of m number).size (off + length bytes)))
         → (e ≡ Damaged Kind → ¬ ReachesTo form off (inode_of m number)) → (e ≡ Damaged Pointer → ¬ WellMade lot form m number)
         → (e ≡ Damaged Bitmap → ¬ Reserved lot m) → e ≡ Disk
     write-sound e h none full kind pointer unreserved =

@@ -160,7 +160,8 @@ module _ (form : Form) (lot : LotView) (m0 m1 : ℕ → List ℕ) (dir : ℕ) (r
           (subst (λ (i : Inode). Misleads lot m1 i (blocks_for i.size)) same bad))
 
       file-unused : (12 < blocks_for (inode_of m1 number).size → is_data lot (inode_of m1 number).single ≡ true)
-          → UsesUnmarked m1 (inode_of m1 number) (blocks_for (inode_of m1 number).size) ⊎ HasTwice (uses m1 (inode_of m1 number) (blocks_for (inode_of m1 number).size))
+          → UsesUnmarked m1 (inode_of m1 number) (blocks_for (inode_of m1 number).size)
+          ⊎ HasTwice (uses m1 (inode_of m1 number) (blocks_for (inode_of m1 number).size))
           → FreeBlock form lot m0 ⊎ TwiceUsed form lot m0
       file-unused placed bad =
           ⊎_elim
@@ -170,7 +171,8 @@ module _ (form : Form) (lot : LotView) (m0 m1 : ℕ → List ℕ) (dir : ℕ) (r
           (subst (λ (i : Inode). 12 < blocks_for i.size → is_data lot i.single ≡ true) same placed))
         where
           by : uses m1 (inode_of m0 number) (blocks_for (inode_of m0 number).size) ≡ uses m0 (inode_of m0 number) (blocks_for (inode_of m0 number).size)
-              → UsesUnmarked m1 (inode_of m0 number) (blocks_for (inode_of m0 number).size) ⊎ HasTwice (uses m1 (inode_of m0 number) (blocks_for (inode_of m0 number).size))
+              → UsesUnmarked m1 (inode_of m0 number) (blocks_for (inode_of m0 number).size)
+              ⊎ HasTwice (uses m1 (inode_of m0 number) (blocks_for (inode_of m0 number).size))
               → FreeBlock form lot m0 ⊎ TwiceUsed form lot m0
           by e (inr t) =
               inr (twice-used form lot m0 number (blocks_for (inode_of m0 number).size) there node length-is (t.0, subst (λ xs. 2 ≤ times xs t.0) e t.1))

@@ -163,8 +163,10 @@ module _ (mode : ℕ) (lot : LotView) (m0 : Map) (t : Tree) (k : ℕ) (p : Names
 
     -- no row can be added, or none can be counted
     add_fault : (e : OpFault) → IsAddFault e
-        → (e ≡ NoSpace → free_count false lot m2 + uses_of (entry_blocks form_one (inode_of m2 spot.number).size) < uses_of (entry_blocks form_one ((inode_of m2 spot.number).size + 1)))
-        → (e ≡ Damaged Counts → 2 ^ 32 + uses_of (entry_blocks form_one (inode_of m2 spot.number).size) ≤ counted false m2 + uses_of (entry_blocks form_one ((inode_of m2 spot.number).size + 1)))
+        → (e ≡ NoSpace → free_count false lot m2 + uses_of (entry_blocks form_one (inode_of m2 spot.number).size)
+        < uses_of (entry_blocks form_one ((inode_of m2 spot.number).size + 1)))
+        → (e ≡ Damaged Counts → 2 ^ 32 + uses_of (entry_blocks form_one (inode_of m2 spot.number).size)
+        ≤ counted false m2 + uses_of (entry_blocks form_one ((inode_of m2 spot.number).size + 1)))
         → (e ≡ Damaged Kind → ¬ HasEntryRoom lot (inode_of m2 spot.number))
         → (e ≡ Damaged Pointer → ¬ WellMade lot form_one m2 spot.number) → (e ≡ Damaged Bitmap → ¬ Reserved lot m2) → e ≡ Disk
     add_fault e h none full kind pointer unreserved = add-fails e h
@@ -225,8 +227,10 @@ module _ (f : Form) (one : f ≡ form_one) (form : Form) (sized : form ≡ form_
     spot_well = subst (λ s. WellMade lot s m2 spot.number) (sym sized) (spot_made mode lot m0 t k p dir spot name few as_one m1 m2 j n)
 
     pub add_sound : (e : OpFault) → IsAddFault e
-        → (e ≡ NoSpace → free_count false lot m2 + uses_of (entry_blocks form (inode_of m2 spot.number).size) < uses_of (entry_blocks form ((inode_of m2 spot.number).size + 1)))
-        → (e ≡ Damaged Counts → 2 ^ 32 + uses_of (entry_blocks form (inode_of m2 spot.number).size) ≤ counted false m2 + uses_of (entry_blocks form ((inode_of m2 spot.number).size + 1)))
+        → (e ≡ NoSpace → free_count false lot m2 + uses_of (entry_blocks form (inode_of m2 spot.number).size)
+        < uses_of (entry_blocks form ((inode_of m2 spot.number).size + 1)))
+        → (e ≡ Damaged Counts → 2 ^ 32 + uses_of (entry_blocks form (inode_of m2 spot.number).size)
+        ≤ counted false m2 + uses_of (entry_blocks form ((inode_of m2 spot.number).size + 1)))
         → (e ≡ Damaged Kind → ¬ HasEntryRoom lot (inode_of m2 spot.number)) → (e ≡ Damaged Pointer → ¬ WellMade lot form m2 spot.number)
         → (e ≡ Damaged Bitmap → ¬ Reserved lot m2) → e ≡ Disk
     add_sound e h none full kind pointer unreserved = add_fault mode lot m0 t k p dir spot name few as_one m1 m2 j n e h

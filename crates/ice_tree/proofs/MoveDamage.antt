@@ -138,7 +138,8 @@ module _ (form : Form) (e64 : form ≡ form_one) (lot : LotView) (few : length l
 
   pub add-blamed : (e : OpFault) → IsAddFault e
       → (e ≡ NoSpace → free_count false lot m1 + uses_of (entry_blocks form (inode_of m1 to).size) < uses_of (entry_blocks form ((inode_of m1 to).size + 1)))
-      → (e ≡ Damaged Counts → 2 ^ 32 + uses_of (entry_blocks form (inode_of m1 to).size) ≤ counted false m1 + uses_of (entry_blocks form ((inode_of m1 to).size + 1)))
+      → (e ≡ Damaged Counts → 2 ^ 32 + uses_of (entry_blocks form (inode_of m1 to).size)
+      ≤ counted false m1 + uses_of (entry_blocks form ((inode_of m1 to).size + 1)))
       → (e ≡ Damaged Kind → ¬ HasEntryRoom lot (inode_of m1 to)) → (e ≡ Damaged Bitmap → ¬ Reserved lot m1)
       → (e ≡ Damaged Pointer → Misleads lot m1 (inode_of m1 to) (entry_blocks form (inode_of m1 to).size))
       → IsBrokenBy form lot m0 e

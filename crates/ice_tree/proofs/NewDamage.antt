@@ -66,8 +66,10 @@ module _ (form : Form) (e64 : form ≡ form_one) (lot : LotView) (few : length l
 
     -- no entry can be added
     pub add-blamed : (e : OpFault) → IsAddFault e
-        → (e ≡ NoSpace → free_count false lot m2 + uses_of (entry_blocks form (inode_of m2 spot.number).size) < uses_of (entry_blocks form ((inode_of m2 spot.number).size + 1)))
-        → (e ≡ Damaged Counts → 2 ^ 32 + uses_of (entry_blocks form (inode_of m2 spot.number).size) ≤ counted false m2 + uses_of (entry_blocks form ((inode_of m2 spot.number).size + 1)))
+        → (e ≡ NoSpace → free_count false lot m2 + uses_of (entry_blocks form (inode_of m2 spot.number).size)
+        < uses_of (entry_blocks form ((inode_of m2 spot.number).size + 1)))
+        → (e ≡ Damaged Counts → 2 ^ 32 + uses_of (entry_blocks form (inode_of m2 spot.number).size)
+        ≤ counted false m2 + uses_of (entry_blocks form ((inode_of m2 spot.number).size + 1)))
         → (e ≡ Damaged Kind → ¬ HasEntryRoom lot (inode_of m2 spot.number))
         → (e ≡ Damaged Pointer → Misleads lot m2 (inode_of m2 spot.number) (entry_blocks form (inode_of m2 spot.number).size))
         → (e ≡ Damaged Bitmap → ¬ Reserved lot m2) → IsBrokenBy form lot m0 e

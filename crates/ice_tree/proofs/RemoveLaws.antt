@@ -214,7 +214,8 @@ module _ (mode : ℕ) (lot : LotView) (few : length lot.groups ≤ 64) (m : Map)
 
   -- and can lose it
   pub can-take : (e : OpFault) → IsRemovalFault e
-      → (e ≡ Damaged Counts → counted false m + uses_of (entry_blocks form_one ((inode_of m here).size - 1)) < uses_of (entry_blocks form_one (inode_of m here).size))
+      → (e ≡ Damaged Counts → counted false m + uses_of (entry_blocks form_one ((inode_of m here).size - 1))
+      < uses_of (entry_blocks form_one (inode_of m here).size))
       → (e ≡ Damaged Kind → ¬ IsDirectory lot (inode_of m here)) → (e ≡ Damaged Pointer → ¬ WellMade lot form_one m here)
       → (e ≡ Damaged Bitmap → ¬ WellMade lot form_one m here) → e ≡ Disk
   can-take e is zero kind pointer unused =
@@ -267,7 +268,8 @@ module _ (f : Form) (one : f ≡ form_one) (mode : ℕ) (lot : LotView) (few : l
       subst T (ap is_some (sym s ∙ e)) tt
 
   pub spot-takes : (e : OpFault) → IsRemovalFault e
-      → (e ≡ Damaged Counts → counted false m + uses_of (entry_blocks form ((inode_of m gone.spot.number).size - 1)) < uses_of (entry_blocks form (inode_of m gone.spot.number).size))
+      → (e ≡ Damaged Counts → counted false m + uses_of (entry_blocks form ((inode_of m gone.spot.number).size - 1))
+      < uses_of (entry_blocks form (inode_of m gone.spot.number).size))
       → (e ≡ Damaged Kind → ¬ IsDirectory lot (inode_of m gone.spot.number))
       → (e ≡ Damaged Pointer → ¬ WellMade lot form m gone.spot.number) → (e ≡ Damaged Bitmap → ¬ WellMade lot form m gone.spot.number) → e ≡ Disk
   spot-takes e is zero kind pointer unused =

@@ -97,7 +97,8 @@ module _ (form : Form) (lot : LotView) (m : ℕ → List ℕ) where
   -- the blocks that a rename needs are free
   pub row-fits : (f : Form) → f ≡ form_one → form ≡ form_one → (step : Move) (need : Need) → step.from.entries < 4096
       → step.to.entries < 4096 → (step.from.number ≢ step.to.number → step.from.entries + step.to.entries < 64 * length lot.groups)
-      → (step.same ≡ false → step.from.number ≢ step.to.number → (need.blocks ≡ map_cost (tree.dir_blocks f (step.to.entries + 1)) + map_cost (tree.dir_blocks f (step.from.entries - 1)))
+      → (step.same ≡ false → step.from.number ≢ step.to.number
+      → (need.blocks ≡ map_cost (tree.dir_blocks f (step.to.entries + 1)) + map_cost (tree.dir_blocks f (step.from.entries - 1)))
       × (need.freed ≡ map_cost (tree.dir_blocks f step.to.entries) + map_cost (tree.dir_blocks f step.from.entries)))
       → HasFree lot m need → RowFits form lot m step
   row-fits f one e64 step need from to few costs free = record {

@@ -106,7 +106,8 @@ count-left (x ∷ p) c (d ∷ q) (File bytes) ne h = refl
 count-left (x ∷ p) c (d ∷ q) (Dir es) ne h =
     ap (λ o. count (and_on (found_or_not o) (λ u. walk q u))) (find-over x d (λ u. at p (without_entry c) u) es)
     ∙ elim (is_same_name x d) as (λ b. is_same_name x d ≡ b
-    → count (and_on (found_or_not (cond b (on_some (λ u. at p (without_entry c) u) (find by_bytes d (rows es))) (find by_bytes d (rows es)))) (λ u. walk q u)) ≡ count (and_on (found_or_not (find by_bytes d (rows es))) (λ u. walk q u))) [
+    → count (and_on (found_or_not (cond b (on_some (λ u. at p (without_entry c) u) (find by_bytes d (rows es))) (find by_bytes d (rows es)))) (λ u. walk q u))
+    ≡ count (and_on (found_or_not (find by_bytes d (rows es))) (λ u. walk q u))) [
       | true ↦ λ e. count_step (find by_bytes d (rows es)) (λ u. at p (without_entry c) u) (λ u. walk q u)
           (λ u. count-left p c q u (λ z. ne (λ j. same_name x d e j ∷ z j)) (not_both (is_same_name x d) _ h e))
       | false ↦ λ e. refl

@@ -86,7 +86,8 @@ module _ (mode : ℕ) (lot : LotView) (m0 : Map) (t : Tree) (k : ℕ) (p q : Nam
   from_dir = subst (λ i. IsDirectory lot (inode_of m0 i)) from-here (walk_dir mode lot m0 t k x.recovers (parent p) moves.entry.entries moves.entry.there).is
 
   take_fault : (e : OpFault) → IsRemovalFault e
-      → (e ≡ Damaged Counts → counted false m0 + uses_of (entry_blocks form_one ((inode_of m0 step.from.number).size - 1)) < uses_of (entry_blocks form_one (inode_of m0 step.from.number).size))
+      → (e ≡ Damaged Counts → counted false m0 + uses_of (entry_blocks form_one ((inode_of m0 step.from.number).size - 1))
+      < uses_of (entry_blocks form_one (inode_of m0 step.from.number).size))
       → (e ≡ Damaged Kind → ¬ IsDirectory lot (inode_of m0 step.from.number))
       → (e ≡ Damaged Bitmap → ¬ WellMade lot form_one m0 step.from.number) → (e ≡ Damaged Pointer → ¬ WellMade lot form_one m0 step.from.number) → e ≡ Disk
   take_fault e h zero kind unused pointer = take-fails e h
@@ -163,8 +164,10 @@ module _ (mode : ℕ) (lot : LotView) (m0 : Map) (t : Tree) (k : ℕ) (p q : Nam
         subst (λ u. blocks form_one u ≤ block_quota (length lot.groups)) made (blocks-next t k (length lot.groups) form_one (Rename p q) x.accepted refl)
 
     add_fault : (e : OpFault) → IsAddFault e
-        → (e ≡ NoSpace → free_count false lot m1 + uses_of (entry_blocks form_one (inode_of m1 step.to.number).size) < uses_of (entry_blocks form_one ((inode_of m1 step.to.number).size + 1)))
-        → (e ≡ Damaged Counts → 2 ^ 32 + uses_of (entry_blocks form_one (inode_of m1 step.to.number).size) ≤ counted false m1 + uses_of (entry_blocks form_one ((inode_of m1 step.to.number).size + 1)))
+        → (e ≡ NoSpace → free_count false lot m1 + uses_of (entry_blocks form_one (inode_of m1 step.to.number).size)
+        < uses_of (entry_blocks form_one ((inode_of m1 step.to.number).size + 1)))
+        → (e ≡ Damaged Counts → 2 ^ 32 + uses_of (entry_blocks form_one (inode_of m1 step.to.number).size)
+        ≤ counted false m1 + uses_of (entry_blocks form_one ((inode_of m1 step.to.number).size + 1)))
         → (e ≡ Damaged Kind → ¬ HasEntryRoom lot (inode_of m1 step.to.number))
         → (e ≡ Damaged Pointer → ¬ WellMade lot form_one m1 step.to.number) → (e ≡ Damaged Bitmap → ¬ Reserved lot m1) → e ≡ Disk
     add_fault e h none full kind pointer unreserved = add-fails e h
@@ -215,7 +218,8 @@ module _ (f : Form) (one : f ≡ form_one) (form : Form) (sized : form ≡ form_
   from_well = subst (λ s. WellMade lot s m0 step.from.number) (sym sized) (from_made mode lot m0 t k p q step name new few as_one differ)
 
   pub take_sound : (e : OpFault) → IsRemovalFault e
-      → (e ≡ Damaged Counts → counted false m0 + uses_of (entry_blocks form ((inode_of m0 step.from.number).size - 1)) < uses_of (entry_blocks form (inode_of m0 step.from.number).size))
+      → (e ≡ Damaged Counts → counted false m0 + uses_of (entry_blocks form ((inode_of m0 step.from.number).size - 1))
+      < uses_of (entry_blocks form (inode_of m0 step.from.number).size))
       → (e ≡ Damaged Kind → ¬ IsDirectory lot (inode_of m0 step.from.number))
       → (e ≡ Damaged Bitmap → ¬ WellMade lot form m0 step.from.number) → (e ≡ Damaged Pointer → ¬ WellMade lot form m0 step.from.number) → e ≡ Disk
   take_sound e h zero kind unused pointer = take_fault mode lot m0 t k p q step name new few as_one differ e h
@@ -244,8 +248,10 @@ module _ (f : Form) (one : f ≡ form_one) (form : Form) (sized : form ≡ form_
     to_well = subst (λ s. WellMade lot s m1 step.to.number) (sym sized) (to_made mode lot m0 t k p q step name new few as_one differ m1 j found-one set-one)
 
     pub add_sound : (e : OpFault) → IsAddFault e
-        → (e ≡ NoSpace → free_count false lot m1 + uses_of (entry_blocks form (inode_of m1 step.to.number).size) < uses_of (entry_blocks form ((inode_of m1 step.to.number).size + 1)))
-        → (e ≡ Damaged Counts → 2 ^ 32 + uses_of (entry_blocks form (inode_of m1 step.to.number).size) ≤ counted false m1 + uses_of (entry_blocks form ((inode_of m1 step.to.number).size + 1)))
+        → (e ≡ NoSpace → free_count false lot m1 + uses_of (entry_blocks form (inode_of m1 step.to.number).size)
+        < uses_of (entry_blocks form ((inode_of m1 step.to.number).size + 1)))
+        → (e ≡ Damaged Counts → 2 ^ 32 + uses_of (entry_blocks form (inode_of m1 step.to.number).size)
+        ≤ counted false m1 + uses_of (entry_blocks form ((inode_of m1 step.to.number).size + 1)))
         → (e ≡ Damaged Kind → ¬ HasEntryRoom lot (inode_of m1 step.to.number))
         → (e ≡ Damaged Pointer → ¬ WellMade lot form m1 step.to.number) → (e ≡ Damaged Bitmap → ¬ Reserved lot m1) → e ≡ Disk
     add_sound e h none full kind pointer unreserved = add_fault mode lot m0 t k p q step name new few as_one differ m1 j found-one set-one e h

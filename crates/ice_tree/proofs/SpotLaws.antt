@@ -90,7 +90,8 @@ chained None (Some r) c d = refl
 chained None None c d = refl
 
 pub new-stages : (dir : Bool) (t : Tree) (k n : ℕ) (f : Form) (p : Names)
-    → refusal t k n f (new_operation dir p) ≡ or_else (paths_refusal f (p ∷ [])) (or_else (new_refusal p t) (quota_refusal n f k (next_tree (new_operation dir p) t)))
+    → refusal t k n f (new_operation dir p)
+    ≡ or_else (paths_refusal f (p ∷ [])) (or_else (new_refusal p t) (quota_refusal n f k (next_tree (new_operation dir p) t)))
 new-stages true t k n f p =
     refusal_mkdir t k n f p
     ∙ ap (or_else (paths_refusal f (p ∷ [])))

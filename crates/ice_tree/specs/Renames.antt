@@ -80,5 +80,6 @@ pub record MoveIs (form : Form) (lot : LotView) (m : ℕ → List ℕ) (name : L
 pub record RowFits (form : Form) (lot : LotView) (m : ℕ → List ℕ) (step : Move) : Type 0 where
   pub room : step.from.number ≢ step.to.number → step.from.entries + step.to.entries < 64 * length lot.groups
   pub blocks : step.same ≡ false → step.from.number ≢ step.to.number
-      → uses_of (entry_blocks form (step.to.entries + 1)) + uses_of (entry_blocks form (step.from.entries - 1)) ≤ uses_of (entry_blocks form step.to.entries) + uses_of (entry_blocks form step.from.entries) + free_count false lot m
+      → uses_of (entry_blocks form (step.to.entries + 1)) + uses_of (entry_blocks form (step.from.entries - 1))
+      ≤ uses_of (entry_blocks form step.to.entries) + uses_of (entry_blocks form step.from.entries) + free_count false lot m
   pub done : CanCount m

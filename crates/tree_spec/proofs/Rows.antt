@@ -64,12 +64,14 @@ unfolding refusal
 files = refl
 
 -- a write that reaches past the end replaces bytes and extends the file
-written_over_the_end : ends empty (Make (f ∷ []) ∷ Write (f ∷ []) 0 (1 ∷ 2 ∷ 3 ∷ []) ∷ Write (f ∷ []) 2 (8 ∷ 9 ∷ []) ∷ []) ≡ Dir (Entry f (File (1 ∷ 2 ∷ 8 ∷ 9 ∷ [])) Nil)
+written_over_the_end : ends empty (Make (f ∷ []) ∷ Write (f ∷ []) 0 (1 ∷ 2 ∷ 3 ∷ []) ∷ Write (f ∷ []) 2 (8 ∷ 9 ∷ []) ∷ [])
+    ≡ Dir (Entry f (File (1 ∷ 2 ∷ 8 ∷ 9 ∷ [])) Nil)
 unfolding refusal
 written_over_the_end = refl
 
 -- a write in the middle keeps what stands behind it
-written_in_the_middle : ends empty (Make (f ∷ []) ∷ Write (f ∷ []) 0 (1 ∷ 2 ∷ 3 ∷ []) ∷ Write (f ∷ []) 1 (8 ∷ []) ∷ []) ≡ Dir (Entry f (File (1 ∷ 8 ∷ 3 ∷ [])) Nil)
+written_in_the_middle : ends empty (Make (f ∷ []) ∷ Write (f ∷ []) 0 (1 ∷ 2 ∷ 3 ∷ []) ∷ Write (f ∷ []) 1 (8 ∷ []) ∷ [])
+    ≡ Dir (Entry f (File (1 ∷ 8 ∷ 3 ∷ [])) Nil)
 unfolding refusal
 written_in_the_middle = refl
 
@@ -82,7 +84,8 @@ renames : replies empty (
 unfolding refusal
 renames = refl
 
-across : ends empty (Make (f ∷ []) ∷ Mkdir (d ∷ []) ∷ Write (f ∷ []) 0 (7 ∷ []) ∷ Rename (f ∷ []) (d ∷ g ∷ []) ∷ []) ≡ Dir (Entry d (Dir (Entry g (File (7 ∷ [])) Nil)) Nil)
+across : ends empty (Make (f ∷ []) ∷ Mkdir (d ∷ []) ∷ Write (f ∷ []) 0 (7 ∷ []) ∷ Rename (f ∷ []) (d ∷ g ∷ []) ∷ [])
+    ≡ Dir (Entry d (Dir (Entry g (File (7 ∷ [])) Nil)) Nil)
 unfolding refusal
 across = refl
 
@@ -283,6 +286,7 @@ after_two = refl
 -- ---- the rows of a world with one cube, in slot 1 of 3
 
 world_rows : (c : Cube)
-    → cube_rows (record { slots = 3; groups = 9; cube = λ s. if nat_eq s 1 then Some c else None }) ≡ record { slot = 1; groups = c.groups; state = c.state; path = c.path } ∷ []
+    → cube_rows (record { slots = 3; groups = 9; cube = λ s. if nat_eq s 1 then Some c else None })
+    ≡ record { slot = 1; groups = c.groups; state = c.state; path = c.path } ∷ []
 unfolding cube_rows
 world_rows c = refl

@@ -32,7 +32,8 @@ pub length-with_new : (c : List ℕ) (s : Tree) (es : Entries) → find by_bytes
 length-with_new c s Nil h = refl
 length-with_new c s (Entry d t es) h =
     elim (by_bytes c d) as (λ r. cond (is_eq r) (Some t) (find by_bytes c (rows es)) ≡ None
-    → length (rows (from_rows (by_order r ((c, s) ∷ (d, t) ∷ rows es) ((d, s) ∷ rows es) ((d, t) ∷ put by_bytes c s (rows es))))) ≡ suc (length (rows es)) + 1) [
+    → length (rows (from_rows (by_order r ((c, s) ∷ (d, t) ∷ rows es) ((d, s) ∷ rows es) ((d, t) ∷ put by_bytes c s (rows es)))))
+    ≡ suc (length (rows es)) + 1) [
       | Less ↦ λ is. omega (arith, ap (λ x. length (rows x)) (from_rows-rows es))
       | Equal ↦ λ is. absurd (subst T (ap is_some is) tt)
       | Greater ↦ λ is. omega (arith, length-with_new c s es is)
@@ -125,7 +126,8 @@ module _ (file : List ℕ → ℕ) (dir : ℕ → ℕ) where
   total_in-with_new c s Nil h = refl
   total_in-with_new c s (Entry d t es) h =
       elim (by_bytes c d) as (λ r. cond (is_eq r) (Some t) (find by_bytes c (rows es)) ≡ None
-      → total_in file dir (from_rows (by_order r ((c, s) ∷ (d, t) ∷ rows es) ((d, s) ∷ rows es) ((d, t) ∷ put by_bytes c s (rows es)))) ≡ total file dir s + (total file dir t + total_in file dir es)) [
+      → total_in file dir (from_rows (by_order r ((c, s) ∷ (d, t) ∷ rows es) ((d, s) ∷ rows es) ((d, t) ∷ put by_bytes c s (rows es))))
+      ≡ total file dir s + (total file dir t + total_in file dir es)) [
         | Less ↦ λ is. ap (λ x. total file dir s + (total file dir t + total_in file dir x)) (from_rows-rows es)
         | Equal ↦ λ is. absurd (subst T (ap is_some is) tt)
         | Greater ↦ λ is. omega (arith, total_in-with_new c s es is)
@@ -136,7 +138,8 @@ module _ (file : List ℕ → ℕ) (dir : ℕ → ℕ) where
   total_in-over c g Nil u h = absurd (subst T (sym (ap is_some h)) tt)
   total_in-over c g (Entry d t es) u h =
       elim (is_same_name c d) as (λ b. cond b (Some t) (find by_bytes c (rows es)) ≡ Some u
-      → total_in file dir (cond b (Entry d (g t) es) (Entry d t (over_entry c g es))) + total file dir u ≡ total file dir (g u) + (total file dir t + total_in file dir es)) [
+      → total_in file dir (cond b (Entry d (g t) es) (Entry d t (over_entry c g es))) + total file dir u
+      ≡ total file dir (g u) + (total file dir t + total_in file dir es)) [
         | true ↦ λ is.
             subst (λ x. (total file dir (g t) + total_in file dir es) + total file dir x ≡ total file dir
             (g x) + (total file dir t + total_in file dir es)) (some_same _ _ is) (omega arith)

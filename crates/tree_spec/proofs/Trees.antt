@@ -125,10 +125,12 @@ find-over c d g Nil =
     (find by_bytes d (rows Nil))) [ true ↦ refl | false ↦ refl ]
 find-over c d g (Entry x t es) =
     elim (is_same_name c x) as (λ b. is_same_name c x ≡ b
-    → find by_bytes d (rows (cond b (Entry x (g t) es) (Entry x t (over_entry c g es)))) ≡ cond (is_same_name c d) (on_some g (cond (is_same_name d x) (Some t) (find by_bytes d (rows es)))) (cond (is_same_name d x) (Some t) (find by_bytes d (rows es)))) [
+    → find by_bytes d (rows (cond b (Entry x (g t) es) (Entry x t (over_entry c g es))))
+    ≡ cond (is_same_name c d) (on_some g (cond (is_same_name d x) (Some t) (find by_bytes d (rows es)))) (cond (is_same_name d x) (Some t) (find by_bytes d (rows es)))) [
       | true ↦ λ e.
           elim (is_same_name d x) as (λ y. is_same_name d x ≡ y
-          → cond y (Some (g t)) (find by_bytes d (rows es)) ≡ cond (is_same_name c d) (on_some g (cond y (Some t) (find by_bytes d (rows es)))) (cond y (Some t) (find by_bytes d (rows es)))) [
+          → cond y (Some (g t)) (find by_bytes d (rows es))
+          ≡ cond (is_same_name c d) (on_some g (cond y (Some t) (find by_bytes d (rows es)))) (cond y (Some t) (find by_bytes d (rows es)))) [
             | true ↦ λ i.
                 ap (λ b. cond b (Some (g t)) (Some t)) (sym (is_same_name-refl d) ∙ ap (λ z. is_same_name z d) (same_name d x i ∙ sym (same_name c x e)))
             | false ↦ λ i.
@@ -137,7 +139,8 @@ find-over c d g (Entry x t es) =
           ] refl
       | false ↦ λ e.
           elim (is_same_name d x) as (λ y. is_same_name d x ≡ y
-          → cond y (Some t) (find by_bytes d (rows (over_entry c g es))) ≡ cond (is_same_name c d) (on_some g (cond y (Some t) (find by_bytes d (rows es)))) (cond y (Some t) (find by_bytes d (rows es)))) [
+          → cond y (Some t) (find by_bytes d (rows (over_entry c g es)))
+          ≡ cond (is_same_name c d) (on_some g (cond y (Some t) (find by_bytes d (rows es)))) (cond y (Some t) (find by_bytes d (rows es)))) [
             | true ↦ λ i. ap (λ b. cond b (Some (g t)) (Some t)) (sym e ∙ ap (λ z. is_same_name c z) (sym (same_name d x i)))
             | false ↦ λ i. find-over c d g es
           ] refl
@@ -192,7 +195,8 @@ walk-beside (c ∷ p) (d ∷ q) g (File bytes) h k = refl
 walk-beside (c ∷ p) (d ∷ q) g (Dir es) h k =
     ap (λ o. and_on (found_or_not o) (λ u. walk q u)) (find-over c d (λ u. at p g u) es)
     ∙ elim (is_same_name c d) as (λ b. is_same_name c d ≡ b
-    → and_on (found_or_not (cond b (on_some (λ u. at p g u) (find by_bytes d (rows es))) (find by_bytes d (rows es)))) (λ u. walk q u) ≡ and_on (found_or_not (find by_bytes d (rows es))) (λ u. walk q u)) [
+    → and_on (found_or_not (cond b (on_some (λ u. at p g u) (find by_bytes d (rows es))) (find by_bytes d (rows es)))) (λ u. walk q u)
+    ≡ and_on (found_or_not (find by_bytes d (rows es))) (λ u. walk q u)) [
       | true ↦ λ e. step_at (find by_bytes d (rows es)) (λ u. at p g u) (λ u. walk q u) (λ u. walk q u)
           (λ u. walk-beside p q g u (not_both (is_same_name c d) _ h e) (not_both (is_same_name d c) _ k (is_same_name-sym d c ∙ e)))
       | false ↦ λ e. refl
