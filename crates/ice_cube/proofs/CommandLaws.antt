@@ -547,8 +547,8 @@ module _ {D : Type 0} (state : D → DiskState) (left : D → ℕ → Image → 
         | inr low ↦ low
         | inl high ↦ absurd (elim (high_refusal r (grind (arith, nat_tests, high)) few) [
           | inl fault ↦ answer-no_fault (tree_now holds.history) (done holds.history) (length lot.groups) form_one op
-              (sym (subst
-              (λ (x : Refusal). Err (refused_of x) ≡ (answer (tree_now holds.history) (done holds.history) (length lot.groups) form_one op).0) fault model))
+              (sym
+              (subst (λ (x : Refusal). Err (refused_of x) ≡ (answer (tree_now holds.history) (done holds.history) (length lot.groups) form_one op).0) fault model))
           | inr damage ↦ refusal-no_damage (tree_now holds.history) (done holds.history) (length lot.groups) form_one op damage.0
               (refused_by (refusal (tree_now holds.history) (done holds.history) (length lot.groups) form_one op) op
               (tree_now holds.history) (why.Damaged damage.0)

@@ -75,8 +75,8 @@ pub rest_holds : (lot : LotView) (f : Form) (mode : Mode) (b : Tree) (from : ℕ
     → f ≡ form_of f.version → n ≡ from + length sure → Sure (RestsLot lot) (LotAtRest lot map) s → MapRecovers f (mode_byte mode) lot map (tree_after sure b) n
     → Holds f mode (record { base = b; from = from; sure = sure; since = [] }) (record { lot = lot; set = []; done = n; stopped = false }) s
 rest_holds lot f mode b from sure n map s form number rest is =
-    let last : MapRecovers f (mode_byte mode) lot map (tree_after sure b) (from + length sure + 0) = subst
-    (λ (x : ℕ). MapRecovers f (mode_byte mode) lot map (tree_after sure b) x) (omega (arith, number)) is in
+    let last : MapRecovers f (mode_byte mode) lot map (tree_after sure b) (from + length sure + 0) =
+    subst (λ (x : ℕ). MapRecovers f (mode_byte mode) lot map (tree_after sure b) x) (omega (arith, number)) is in
     record {
       lasts = λ i agrees.
           let there : LotAtRest lot map i = rest_rests lot map s.now i
@@ -125,8 +125,8 @@ holds_cut f mode h j c s few holds =
         → MapRecovers f (mode_byte mode) c.lot m (tree_at (fresh (tree_at h j) (floor h + j)) n) (floor (fresh (tree_at h j) (floor h + j)) + n)
         → MapRecovers f (mode_byte mode) c.lot m (tree_after (h.sure ++ take j h.since) h.base) (floor (cut_to h j) + 0)
     moved m tree number n none r =
-        let first = subst
-        (λ (x : ℕ). MapRecovers f (mode_byte mode) c.lot m (tree_at (fresh (tree_at h j) (floor h + j)) x)
+        let first =
+        subst (λ (x : ℕ). MapRecovers f (mode_byte mode) c.lot m (tree_at (fresh (tree_at h j) (floor h + j)) x)
         (floor (fresh (tree_at h j) (floor h + j)) + x)) none r in
         subst (λ (t : Tree). MapRecovers f (mode_byte mode) c.lot m t (floor (cut_to h j) + 0)) (sym tree)
         (subst (λ (x : ℕ). MapRecovers f (mode_byte mode) c.lot m (tree_at h j) x) (omega (arith, number)) first)

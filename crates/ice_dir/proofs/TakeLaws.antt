@@ -306,8 +306,8 @@ module _ (lot : LotView) (f : Form) (m0 m1 m2 m3 : ℕ → List ℕ) (x y : Inod
       inodes = λ i. used-same true m2 m3 i gone-bitmaps ∙ was.gave.inodes i ∙ used-same true m0 m1 i (beside-bitmaps lot m0 m1 beside);
       blocks = λ b d none. gone-blocks b d (subst (λ (i : Inode). has (uses m0 i (entry_blocks f i.size)) b ≡ false) before none);
       marks =
-          λ b free. subst
-          (λ (i : Inode). (used_block m0 b ≡ false) ⊎ (has (uses m0 i (entry_blocks f i.size)) b ≡ true) ⊎ HasTwice
+          λ b free.
+          subst (λ (i : Inode). (used_block m0 b ≡ false) ⊎ (has (uses m0 i (entry_blocks f i.size)) b ≡ true) ⊎ HasTwice
           (uses m0 i (entry_blocks f i.size))) (sym before) (gone-marks b free);
       leads = λ bad. subst (λ (i : Inode). Confuses lot m0 i (entry_blocks f i.size)) (sym before)
           (gone-leads

@@ -60,8 +60,8 @@ module _ {V D : Type 0} (g : view.Ghosts V D) (lot : LotView) (m : ℕ → List 
       let step = puts-then g lot ok (given_puts (blocks_between m inode rest k)) (sub_address ∷ bitmap_of false at ∷ [])
       (given_puts (blocks_between m inode rest k ++ at ∷ [])) v d w e x f p q
       (given-left (blocks_between m inode rest k) (at ∷ [])) (given-one (blocks_between m inode rest k) at) in
-      let list : blocks_between m inode rest k ++ at ∷ [] ≡ blocks_between m inode rest (k + 1) = ap
-      (λ a. blocks_between m inode rest k ++ a ∷ []) same ∙ sym (between-next m inode rest k h) in
+      let list : blocks_between m inode rest k ++ at ∷ [] ≡ blocks_between m inode rest (k + 1) =
+      ap (λ a. blocks_between m inode rest k ++ a ∷ []) same ∙ sym (between-next m inode rest k h) in
       rw list at step
 
   -- they are among those of the whole run
@@ -134,8 +134,8 @@ pub next-gave : (lot : LotView) (m : ℕ → List ℕ) (inode : Inode) (rest k :
     → Marked lot false m0 m1 (blocks_between m inode rest k) → Gave false m1 m2 a
     → ((b : ℕ) → b ≢ sub_address → b ≢ bitmap_of false a → m2 b ≡ m1 b) → Marked lot false m0 m2 (blocks_between m inode rest (k + 1))
 next-gave lot m inode rest k m0 m1 m2 a h same place marked gave only =
-    let list : blocks_between m inode rest k ++ a ∷ [] ≡ blocks_between m inode rest (k + 1) = ap
-    (λ x. blocks_between m inode rest k ++ x ∷ []) same ∙ sym (between-next m inode rest k h) in
+    let list : blocks_between m inode rest k ++ a ∷ [] ≡ blocks_between m inode rest (k + 1) =
+    ap (λ x. blocks_between m inode rest k ++ x ∷ []) same ∙ sym (between-next m inode rest k h) in
     rw list at (gave-next lot m0 m1 m2 (blocks_between m inode rest k) a place marked gave only)
 
 -- the next block of a run is found free

@@ -33,8 +33,8 @@ placed-none lot m inode rest = data-none lot _ (between-none m inode rest rest (
 pub placed-next : (lot : LotView) (m : ℕ → List ℕ) (inode : Inode) (rest k a : ℕ) → rest ≤ k → a ≡ nth_block m inode k
     → is_data lot a ≡ true → AllData lot (blocks_between m inode rest k) → AllData lot (blocks_between m inode rest (k + 1))
 placed-next lot m inode rest k a h same place all =
-    let next : blocks_between m inode rest k ++ a ∷ [] ≡ blocks_between m inode rest (k + 1) = ap
-    (λ x. blocks_between m inode rest k ++ x ∷ []) same ∙ sym (between-next m inode rest k h) in
+    let next : blocks_between m inode rest k ++ a ∷ [] ≡ blocks_between m inode rest (k + 1) =
+    ap (λ x. blocks_between m inode rest k ++ x ∷ []) same ∙ sym (between-next m inode rest k h) in
     rw next at (data-with lot (blocks_between m inode rest k) a place all)
 
 -- and all that is cut off

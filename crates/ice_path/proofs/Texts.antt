@@ -81,10 +81,10 @@ pub name_fits : (path : List (List ℕ)) (rest text name : List ℕ) (others : L
     → nat_le (length (text_of (path ++ name ∷ []))) longest_text ≡ true
 name_fits path rest text name others is h begins short =
     let all : (path ++ name ∷ []) ++ others ≡ names_of text = names_step path (names_of rest) (names_of text) name others is h in
-    let long : length (text_of (path ++ name ∷ [])) ≡ length (with_slashes (path ++ name ∷ [])) = ap length
-    (text_of-some (path ++ name ∷ []) (omega (arith, length-append path (name ∷ [])))) in
-    yes _ _ (omega
-    (arith, long, ap (λ x. length (with_slashes x)) all, ap length (with_slashes-names_of text begins), length-with_slashes-append (path ++ name ∷ []) others))
+    let long : length (text_of (path ++ name ∷ [])) ≡ length (with_slashes (path ++ name ∷ [])) =
+    ap length (text_of-some (path ++ name ∷ []) (omega (arith, length-append path (name ∷ [])))) in
+    yes _ _
+    (omega (arith, long, ap (λ x. length (with_slashes x)) all, ap length (with_slashes-names_of text begins), length-with_slashes-append (path ++ name ∷ []) others))
   where
     yes : (a b : ℕ) → a ≤ b → nat_le a b ≡ true
     yes a b h = grind (arith, nat_tests)

@@ -138,8 +138,8 @@ module _ (f : Form) (o p : Table) (i : ℕ) (c : List ℕ) (q : List (List ℕ))
   top-outside : find by_bytes c (rows es) ≡ Some u → walk q u ≡ Found s
       → SameOutside o p (used_inodes f o (inode_on f o i (c ∷ q)) s) (used_inodes f o i (Dir es)) → p i ≡ o i
   top-outside e is same =
-      same.at i (omega
-      (arith, times-here i (inodes_in f o (rows_in f (o i)) es), uses-part f o (λ i. i ∷ []) i q (inode_named c (rows_in f (o i))) u s is, uses-entry f o (λ i. i ∷ []) i (rows_in f (o i)) c es u e))
+      same.at i
+      (omega (arith, times-here i (inodes_in f o (rows_in f (o i)) es), uses-part f o (λ i. i ∷ []) i q (inode_named c (rows_in f (o i))) u s is, uses-entry f o (λ i. i ∷ []) i (rows_in f (o i)) c es u e))
 
   below-outside : find by_bytes c (rows es) ≡ Some u
       → SameOutside o p (used_inodes f o (inode_on f o i (c ∷ q)) s) (used_inodes f o i (Dir es))

@@ -183,8 +183,8 @@ marks levels = map (λ i. if nat_lt (8 * i + 7) levels then 255 else if nat_lt l
 abbrev nested : ℕ → Map
 nested levels a =
     if a == sub_address then sub levels (levels + 1)
-    else if a == 0 then 255 ∷ map
-    (λ i. if nat_lt (8 * i + 7) (levels + 1) then 255 else if nat_lt (levels + 1) (8 * i) then 0 else 2 ^ (levels + 1 - 8 * i) - 1)
+    else if a == 0 then 255
+    ∷ map (λ i. if nat_lt (8 * i + 7) (levels + 1) then 255 else if nat_lt (levels + 1) (8 * i) then 0 else 2 ^ (levels + 1 - 8 * i) - 1)
     (range_with_len 0 31) ++ marks levels
     else if nat_lt a 9 then flat_map (λ i. if i == levels then node 2 0 0 else if nat_lt i levels then node 2 1 (9 + i) else [])
     (range_with_len (8 * (a - 1)) 8)

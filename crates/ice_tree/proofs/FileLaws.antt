@@ -245,17 +245,17 @@ module _ (f : Form) (one : f ≡ form_one) (form : Form) (sized : form ≡ form_
     write-sound e h none full kind pointer unreserved =
         let b = whole mode lot m t k p number few write-takes.recovers write-takes.number_is writes.old writes.found in
         write-fails e h
-        (λ q. subst
-        (λ i. ¬ (free_count false lot m + uses_of (blocks_for (inode_of m i).size) < uses_of (blocks_with (inode_of m i).size (off + length bytes))))
+        (λ q.
+        subst (λ i. ¬ (free_count false lot m + uses_of (blocks_for (inode_of m i).size) < uses_of (blocks_with (inode_of m i).size (off + length bytes))))
         (sym write-takes.number_is)
         (write_fits mode lot m t k few [] [] b p writes.old writes.found (written writes.old off bytes) (off + length bytes) long writes.small
         (let l = ap (blocks form_one)
         (at-same p (λ s. File (written writes.old off bytes)) (λ u. File (written (bytes_of u) off bytes)) t (File writes.old) writes.found refl) in
         let q = blocks-next t k (length lot.groups) form_one (Write p off bytes) write-takes.accepted refl in omega arith))
         (none q))
-        (λ q. subst
-        (λ i. ¬ (2 ^ 32 + uses_of (blocks_for (inode_of m i).size) ≤ counted false m + uses_of
-        (blocks_with (inode_of m i).size (off + length bytes)))) (sym write-takes.number_is)
+        (λ q.
+        subst (λ i. ¬ (2 ^ 32 + uses_of (blocks_for (inode_of m i).size) ≤ counted false m
+        + uses_of (blocks_with (inode_of m i).size (off + length bytes)))) (sym write-takes.number_is)
         (write_counts mode lot m t k few [] [] b p writes.old writes.found (off + length bytes) writes.small)
         (full q))
         (λ q. kind q

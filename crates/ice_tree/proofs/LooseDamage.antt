@@ -105,8 +105,8 @@ few-two form lot m one other c d r s x y long long_too apart few = record {
       let p = ap uses_of long in
       let q = ap uses_of long_too in
       let n : (one == other) ≡ false = grind (arith, nat_tests) in
-      let z : cond (one == other) 0 (length (node_uses form m other)) ≡ length (node_uses form m other) = ap
-      (λ t. cond t 0 (length (node_uses form m other))) n in
+      let z : cond (one == other) 0 (length (node_uses form m other)) ≡ length (node_uses form m other) =
+      ap (λ t. cond t 0 (length (node_uses form m other))) n in
       omega arith;
 }
 

@@ -170,15 +170,15 @@ module _ (mode : ℕ) (lot : LotView) (m0 : Map) (t : Tree) (k : ℕ) (p : Names
         → (e ≡ Damaged Kind → ¬ HasEntryRoom lot (inode_of m2 spot.number))
         → (e ≡ Damaged Pointer → ¬ WellMade lot form_one m2 spot.number) → (e ≡ Damaged Bitmap → ¬ Reserved lot m2) → e ≡ Disk
     add_fault e h none full kind pointer unreserved = add-fails e h
-        (λ q. subst
-        (λ i. ¬ (free_count false lot m2 + uses_of (entry_blocks form_one (inode_of m2 i).size) < uses_of
-        (entry_blocks form_one ((inode_of m2 i).size + 1)))) here
+        (λ q.
+        subst (λ i. ¬ (free_count false lot m2 + uses_of (entry_blocks form_one (inode_of m2 i).size)
+        < uses_of (entry_blocks form_one ((inode_of m2 i).size + 1)))) here
         (add_fits mode lot m2 t k few j (length (parent p) + 1) (made dir) (used_inodes form_one (own form_one m2) j (made dir))
         (made-beside mode lot m2 t k j dir beside-put n.put.value) (made-reads lot m2 j (length (parent p) + 1) dir deep n.small n.put.value)
         (parent p) (last_name p) place.entries place.there place.free (blocks_left t k (length lot.groups) p dir x.accepted)) (none q))
-        (λ q. subst
-        (λ i. ¬ (2 ^ 32 + uses_of (entry_blocks form_one (inode_of m2 i).size) ≤ counted false m2 + uses_of
-        (entry_blocks form_one ((inode_of m2 i).size + 1)))) here
+        (λ q.
+        subst (λ i. ¬ (2 ^ 32 + uses_of (entry_blocks form_one (inode_of m2 i).size) ≤ counted false m2
+        + uses_of (entry_blocks form_one ((inode_of m2 i).size + 1)))) here
         (add_counts mode lot m2 t k few [] (j ∷ []) beside-put (parent p) place.entries place.there) (full q))
         (λ q. kind q spot_room)
         (λ q. pointer q spot_made)
@@ -234,12 +234,12 @@ module _ (f : Form) (one : f ≡ form_one) (form : Form) (sized : form ≡ form_
         → (e ≡ Damaged Kind → ¬ HasEntryRoom lot (inode_of m2 spot.number)) → (e ≡ Damaged Pointer → ¬ WellMade lot form m2 spot.number)
         → (e ≡ Damaged Bitmap → ¬ Reserved lot m2) → e ≡ Disk
     add_sound e h none full kind pointer unreserved = add_fault mode lot m0 t k p dir spot name few as_one m1 m2 j n e h
-        (λ q. subst
-        (λ s. free_count false lot m2 + uses_of (entry_blocks s (inode_of m2 spot.number).size) < uses_of
-        (entry_blocks s ((inode_of m2 spot.number).size + 1))) sized (none q))
-        (λ q. subst
-        (λ s. 2 ^ 32 + uses_of (entry_blocks s (inode_of m2 spot.number).size) ≤ counted false m2 + uses_of
-        (entry_blocks s ((inode_of m2 spot.number).size + 1))) sized (full q))
+        (λ q.
+        subst (λ s. free_count false lot m2 + uses_of (entry_blocks s (inode_of m2 spot.number).size)
+        < uses_of (entry_blocks s ((inode_of m2 spot.number).size + 1))) sized (none q))
+        (λ q.
+        subst (λ s. 2 ^ 32 + uses_of (entry_blocks s (inode_of m2 spot.number).size) ≤ counted false m2
+        + uses_of (entry_blocks s ((inode_of m2 spot.number).size + 1))) sized (full q))
         kind
         (λ q. subst (λ s. ¬ WellMade lot s m2 spot.number) sized (pointer q))
         unreserved

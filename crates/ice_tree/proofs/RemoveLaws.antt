@@ -285,8 +285,8 @@ module _ (f : Form) (one : f ≡ form_one) (mode : ℕ) (lot : LotView) (few : l
       → StandsLoose f mode lot m' (next_tree (Remove p) t) k gone.number gone.bytes
   spot-left m' set =
       let P : Form → ℕ → List ℕ → Type 0 = λ w i c. DirSet lot w m m' i (rows_without c (dir_rows_of w m i)) in
-      let here : P form_one (inode_on form_one (own form_one m) 0 (parent p)) (last_name p) = subst
-      (λ c. P form_one (inode_on form_one (own form_one m) 0 (parent p)) c) l.name_is
+      let here : P form_one (inode_on form_one (own form_one m) 0 (parent p)) (last_name p) =
+      subst (λ c. P form_one (inode_on form_one (own form_one m) 0 (parent p)) c) l.name_is
       (subst (λ i. P form_one i name) spot-here (subst (λ w. P w gone.spot.number name) wide set)) in
       let s = entry-left mode lot few m t k recovers-one p goes.gone goes.entry m' here goes.empty in
       subst (λ g. StandsLoose g mode lot m' (next_tree (Remove p) t) k gone.number gone.bytes) (sym one)

@@ -91,8 +91,8 @@ module _ (mode : ℕ) (lot : LotView) (m0 : Map) (t : Tree) (k : ℕ) (p q : Nam
       → (e ≡ Damaged Kind → ¬ IsDirectory lot (inode_of m0 step.from.number))
       → (e ≡ Damaged Bitmap → ¬ WellMade lot form_one m0 step.from.number) → (e ≡ Damaged Pointer → ¬ WellMade lot form_one m0 step.from.number) → e ≡ Disk
   take_fault e h zero kind unused pointer = take-fails e h
-      (λ z. subst
-      (λ i. ¬ (counted false m0 + uses_of (entry_blocks form_one ((inode_of m0 i).size - 1)) < uses_of (entry_blocks form_one (inode_of m0 i).size))) from-here
+      (λ z.
+      subst (λ i. ¬ (counted false m0 + uses_of (entry_blocks form_one ((inode_of m0 i).size - 1)) < uses_of (entry_blocks form_one (inode_of m0 i).size))) from-here
       (take_counts mode lot m0 t k few [] [] whole (parent p) moves.entry.entries moves.entry.there) (zero z))
       (λ z. kind z from_dir)
       (λ z. pointer z from_made)
@@ -171,15 +171,15 @@ module _ (mode : ℕ) (lot : LotView) (m0 : Map) (t : Tree) (k : ℕ) (p q : Nam
         → (e ≡ Damaged Kind → ¬ HasEntryRoom lot (inode_of m1 step.to.number))
         → (e ≡ Damaged Pointer → ¬ WellMade lot form_one m1 step.to.number) → (e ≡ Damaged Bitmap → ¬ Reserved lot m1) → e ≡ Disk
     add_fault e h none full kind pointer unreserved = add-fails e h
-        (λ z. subst
-        (λ i. ¬ (free_count false lot m1 + uses_of (entry_blocks form_one (inode_of m1 i).size) < uses_of
-        (entry_blocks form_one ((inode_of m1 i).size + 1)))) to-here
+        (λ z.
+        subst (λ i. ¬ (free_count false lot m1 + uses_of (entry_blocks form_one (inode_of m1 i).size)
+        < uses_of (entry_blocks form_one ((inode_of m1 i).size + 1)))) to-here
         (add_fits mode lot m1 (removed p t) k few gone (length (parent p) + 1) moves.tree
         (used_inodes form_one (own form_one m1) gone moves.tree) loose.0 loose.1 (parent q)
         (last_name q) moves.place.entries moves.place.there moves.place.free fits-quota) (none z))
-        (λ z. subst
-        (λ i. ¬ (2 ^ 32 + uses_of (entry_blocks form_one (inode_of m1 i).size) ≤ counted false m1 + uses_of
-        (entry_blocks form_one ((inode_of m1 i).size + 1)))) to-here
+        (λ z.
+        subst (λ i. ¬ (2 ^ 32 + uses_of (entry_blocks form_one (inode_of m1 i).size) ≤ counted false m1
+        + uses_of (entry_blocks form_one ((inode_of m1 i).size + 1)))) to-here
         (add_counts mode lot m1 (removed p t) k few (used_blocks form_one (own form_one m1) gone moves.tree)
         (used_inodes form_one (own form_one m1) gone moves.tree) loose.0 (parent q) moves.place.entries moves.place.there) (full z))
         (λ z. kind z to_room)
@@ -223,9 +223,9 @@ module _ (f : Form) (one : f ≡ form_one) (form : Form) (sized : form ≡ form_
       → (e ≡ Damaged Kind → ¬ IsDirectory lot (inode_of m0 step.from.number))
       → (e ≡ Damaged Bitmap → ¬ WellMade lot form m0 step.from.number) → (e ≡ Damaged Pointer → ¬ WellMade lot form m0 step.from.number) → e ≡ Disk
   take_sound e h zero kind unused pointer = take_fault mode lot m0 t k p q step name new few as_one differ e h
-      (λ z. subst
-      (λ s. counted false m0 + uses_of (entry_blocks s ((inode_of m0 step.from.number).size - 1)) < uses_of
-      (entry_blocks s (inode_of m0 step.from.number).size)) sized (zero z))
+      (λ z.
+      subst (λ s. counted false m0 + uses_of (entry_blocks s ((inode_of m0 step.from.number).size - 1))
+      < uses_of (entry_blocks s (inode_of m0 step.from.number).size)) sized (zero z))
       kind
       (λ z. subst (λ s. ¬ WellMade lot s m0 step.from.number) sized (unused z))
       (λ z. subst (λ s. ¬ WellMade lot s m0 step.from.number) sized (pointer z))
@@ -255,12 +255,12 @@ module _ (f : Form) (one : f ≡ form_one) (form : Form) (sized : form ≡ form_
         → (e ≡ Damaged Kind → ¬ HasEntryRoom lot (inode_of m1 step.to.number))
         → (e ≡ Damaged Pointer → ¬ WellMade lot form m1 step.to.number) → (e ≡ Damaged Bitmap → ¬ Reserved lot m1) → e ≡ Disk
     add_sound e h none full kind pointer unreserved = add_fault mode lot m0 t k p q step name new few as_one differ m1 j found-one set-one e h
-        (λ z. subst
-        (λ s. free_count false lot m1 + uses_of (entry_blocks s (inode_of m1 step.to.number).size) < uses_of
-        (entry_blocks s ((inode_of m1 step.to.number).size + 1))) sized (none z))
-        (λ z. subst
-        (λ s. 2 ^ 32 + uses_of (entry_blocks s (inode_of m1 step.to.number).size) ≤ counted false m1 + uses_of
-        (entry_blocks s ((inode_of m1 step.to.number).size + 1))) sized (full z))
+        (λ z.
+        subst (λ s. free_count false lot m1 + uses_of (entry_blocks s (inode_of m1 step.to.number).size)
+        < uses_of (entry_blocks s ((inode_of m1 step.to.number).size + 1))) sized (none z))
+        (λ z.
+        subst (λ s. 2 ^ 32 + uses_of (entry_blocks s (inode_of m1 step.to.number).size) ≤ counted false m1
+        + uses_of (entry_blocks s ((inode_of m1 step.to.number).size + 1))) sized (full z))
         kind
         (λ z. subst (λ s. ¬ WellMade lot s m1 step.to.number) sized (pointer z))
         unreserved

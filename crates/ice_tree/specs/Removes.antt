@@ -80,8 +80,8 @@ pub record RemovalIs (form : Form) (lot : LotView) (m : ℕ → List ℕ) (name 
 -- what is damaged of a file or an empty directory at an inode, whether or not a directory names it, by the rule on counts, pointers or bitmaps
 abbrev pub LooseBroken : LotView → (ℕ → List ℕ) → ℕ → Rule → Type 0
 LooseBroken lot m number rule.Counts =
-    (((inode_of m number).kind ≡ 1) × ((inode_of m number).size ≤ form_one.longest_file) × (counted false m < uses_of
-    (blocks_for (inode_of m number).size))) ⊎ (counted true m ≡ 0)
+    (((inode_of m number).kind ≡ 1) × ((inode_of m number).size ≤ form_one.longest_file) × (counted false m
+    < uses_of (blocks_for (inode_of m number).size))) ⊎ (counted true m ≡ 0)
 LooseBroken lot m number rule.Pointer =
     ((inode_of m number).kind ≡ 1) × ((inode_of m number).size ≤ form_one.longest_file) × Misleads lot m (inode_of m number)
     (blocks_for (inode_of m number).size)
