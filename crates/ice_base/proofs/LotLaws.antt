@@ -109,6 +109,7 @@ sited-few lot n h = grind (arith, nat_tests)
 pub place-sited : (lot : LotView) (n a : ℕ) → is_sited lot n ≡ true → is_address lot a ≡ true → place lot a < n
 place-sited lot n a h k = place-below lot n a (sited-below lot n h) k
 
+-- where the home of an address lies, and that it is the home of no other
 pub ruleset place_laws = (place-sited, place-apart, place-in)
 
 -- each lot has the address of the sub-super block
@@ -128,8 +129,10 @@ bitmap_below a n h = omega (arith, div-add-mod' a 256)
 pub bitmap_address : (lot : LotView) (a : ℕ) → a < 256 * length lot.groups → is_address lot (256 * (a / 256)) ≡ true
 bitmap_address lot a h = is_address_at lot (256 * (a / 256)) (bitmap_below a (256 * length lot.groups) h)
 
+-- which addresses a lot has
 pub ruleset address_laws = (is_address_sub, is_address_at, bitmap_address, bitmap_below)
 
+-- what holds of a lot that fits the disk
 pub ruleset sited_laws = (sited-below, sited-some, sited-few)
 
 -- the 256 blocks of the slot's area are of the extent
@@ -247,4 +250,5 @@ unfolding inside
 inside_same lot m n a h =
     elim (is_address lot a) as (λ b. is_address lot a ≡ b → cond b (n a) [] ≡ cond b (m a) []) [ true ↦ λ e. h e | false ↦ λ e. refl ] refl
 
+-- what a map of a lot's blocks has at the lot's addresses
 pub ruleset inside_laws = (inside_at)

@@ -27,8 +27,10 @@ pub has_second : (a b : ℕ) → has (a ∷ b ∷ []) b ≡ true
 unfolding has
 has_second a b = grind (arith, nat_tests)
 
+-- the room that two addresses may need
 pub ruleset room_laws = (lacks_few)
 
+-- which of two addresses lack, and that a list of them has both
 pub ruleset spare_laws = (lacks_first, lacks_second, has_first, has_second)
 
 -- what an implementation needs: no address stops being held

@@ -186,4 +186,5 @@ unreserved lot map block o i e h p clear r =
     let u : bit_of block i ≡ true = ap (λ x. bit_of x i) e ∙ sym (used-at false map o i (omega arith)) ∙ s in
     absurd (let f : true ≡ false = sym u ∙ clear in cc)
 
+-- where bits, bitmap blocks and data places of a group lie
 pub ruleset group_laws = (group_below, bitmap_not_sub, ordinal_below, bit_below, data_of, data_below, data_place)

@@ -90,4 +90,5 @@ due-less h0 h1 s c g = let l = lacks-grows h0 h1 (sub_address ∷ s ∷ []) g in
 pub due-most : (h : ℕ → Bool) (s c : ℕ) → due h s c ≤ 5
 due-most h s c = let l = lacks_few h sub_address s 2 (omega arith) in grind arith
 
+-- the most that a map may still cost
 pub ruleset due_laws = (due-most)

@@ -37,4 +37,5 @@ pub leads-bad : (lot : LotView) (m : ℕ → List ℕ) (inode : Inode) (n : ℕ)
 unfolding leads
 leads-bad lot m inode n d = grind (arith, nat_tests)
 
+-- what names a block of a map, and when it leads to a data place
 pub ruleset nth_laws = (nth-direct, nth-single, leads-direct, leads-single, leads-lost)

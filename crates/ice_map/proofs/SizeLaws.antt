@@ -6,4 +6,5 @@ use Rattle.tree_spec.specs.Costs.{Form, form_of}
 pub longest-one : (version : ℕ) → version ≡ 1 → (form_of version).longest_file ≡ 274432
 longest-one version e = rw e refl
 
+-- the longest file
 pub ruleset size_laws = (longest-one)

@@ -11,6 +11,7 @@ unfolding holds over
 over_free [] m a h = refl
 over_free (e ∷ entries) m a h = let r = over_free entries m a in grind (arith, nat_tests)
 
+-- what a list of entries leaves of a map
 pub ruleset set_laws = (over_free)
 
 -- what a search finds
