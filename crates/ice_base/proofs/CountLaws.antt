@@ -88,5 +88,5 @@ count_below-not p (suc n) =
     let y = count_below-suc p n in
     grind arith
 
--- how the counted numbers below a bound follow from those below a lower one
+-- how many numbers of a set lie below a bound, one bound after another, and never more than the bound
 pub ruleset count_laws = (count_below-zero, count_below-add_one, count_below-le)

@@ -30,7 +30,7 @@ has_second a b = grind (arith, nat_tests)
 -- the room that two addresses may need
 pub ruleset room_laws = (lacks_few)
 
--- which of two addresses lack, and that a list of them has both
+-- an address that is not held lacks, and a list of two has both
 pub ruleset spare_laws = (lacks_first, lacks_second, has_first, has_second)
 
 -- what an implementation needs: no address stops being held
