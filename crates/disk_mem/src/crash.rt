@@ -75,7 +75,8 @@ impl Replay {
     // Makes the step, if one of the first `moment` calls made it.
     fn make(&mut self, step: &Step, moment: u64)
         ensures { (m : Moment) → ShowsMoment m self.old.blocks.items self.old.settled.items self.old.loose.items
-            → ShowsMoment (if nat_lt (call_number step.now) moment then applied m step.now else m) self.new.blocks.items self.new.settled.items self.new.loose.items }
+            → ShowsMoment (if nat_lt (call_number step.now) moment then applied m step.now else m)
+            self.new.blocks.items self.new.settled.items self.new.loose.items }
     {
         if moment <= step.number() {
             return;
