@@ -92,7 +92,8 @@ impl Replay {
     // Writes a block.
     fn write(&mut self, at: u32, bytes: &Block)
         ensures { (m : Moment) → ShowsMoment m self.old.blocks.items self.old.settled.items self.old.loose.items
-            → ShowsMoment (record m { now = slice_set m.now at bytes.now; loose = loosened m.loose at }) self.new.blocks.items self.new.settled.items self.new.loose.items }
+            → ShowsMoment (record m { now = slice_set m.now at bytes.now; loose = loosened m.loose at })
+            self.new.blocks.items self.new.settled.items self.new.loose.items }
     {
         self.loosen(at);
         let at = at as usize;

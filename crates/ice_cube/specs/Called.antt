@@ -69,5 +69,6 @@ pub record ChangedAs {D : Type 0} (state : D → DiskState) (left : D → ℕ �
     (v : SetView) (a : D) (result : Result ⊤ Refusal) (w : SetView) (b : D) : Type 0 where
   pub called : Called state left lot op v a result w b
   pub answers : IfHeld lot v (state a) (λ mode t k. AsModel (meant_plain result) (answer t k (length lot.groups) form_one op).0)
-  pub changed : IfHeld lot v (state a) (λ mode t k. OnOk result (MapRecovers form_one mode lot (shown_by lot w (state b)) (answer t k (length lot.groups) form_one op).1 (k + 1)))
+  pub changed : IfHeld lot v (state a)
+      (λ mode t k. OnOk result (MapRecovers form_one mode lot (shown_by lot w (state b)) (answer t k (length lot.groups) form_one op).1 (k + 1)))
   pub same : IfErr result (λ r. refusal_number r ≤ 14 → shown_by lot w (state b) ≡ shown_by lot v (state a))

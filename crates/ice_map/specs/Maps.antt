@@ -71,7 +71,8 @@ pub record Marked (lot : LotView) (taken : Bool) (old new : ℕ → List ℕ) (b
   pub used : (b : ℕ) → used_block new b ≡ cond (has blocks b) taken (used_block old b)
   pub inodes : (i : ℕ) → used_inode new i ≡ used_inode old i
   pub rest : (o k : ℕ) → 320 ≤ k → bit_of (new (256 * o)) k ≡ bit_of (old (256 * o)) k
-  pub counts : WordSet (old sub_address) (count_place false) (cond taken (counted false old + length blocks) (counted false old - length blocks)) (new sub_address)
+  pub counts : WordSet (old sub_address) (count_place false) (cond taken (counted false old + length blocks) (counted false old - length blocks))
+      (new sub_address)
   pub free : free_count false lot new + cond taken (length blocks) 0 ≡ free_count false lot old + cond taken 0 (length blocks)
 
 -- Each inode is as it was, and so is each data block that was marked used, but for these.

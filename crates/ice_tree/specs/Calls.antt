@@ -18,7 +18,8 @@ use Rattle.ice_look.specs.Stages.{paths_refusal}
 -- where the lot recovered a tree, it recovers after an accepted operation what the model makes of that tree, and one operation more is counted
 abbrev pub ChangesAs : {A V D : Type 0} → view.Ghosts V D → ℕ → LotView → V → D → V → D → Operation → Result A Refusal → Type 0
 ChangesAs view version lot v e w f op result = (mode k : ℕ) (t : Tree)
-    → AsShown view lot v e w f (λ old new. MapRecovers (form_of version) mode lot old t k → OnOk result (MapRecovers (form_of version) mode lot new (answer t k (length lot.groups) (form_of version) op).1 (k + 1)))
+    → AsShown view lot v e w f (λ old new. MapRecovers (form_of version) mode lot old t k
+    → OnOk result (MapRecovers (form_of version) mode lot new (answer t k (length lot.groups) (form_of version) op).1 (k + 1)))
 
 -- where the names of the paths refuse the call by themselves, neither the keep nor the pool nor the disk is touched
 abbrev pub UntouchedAll : {K P D : Type 0} → ℕ → List (List (List ℕ)) → K → P → D → K → P → D → Type 0
