@@ -1,7 +1,7 @@
 //! Bitmap blocks: 256 bits of blocks in bytes 0 to 31, and 64 bits of inodes in bytes 32 to 39.
 #![tactic(auto)]
 
-ghost use Rattle.std.specs.Prelude.{◌≡◌, ◌<◌, ℕ, true, false, IfSome, IfNone};
+ghost use Rattle.std.specs.Prelude.{◌≡◌, ◌<◌, ◌+◌, ◌*◌, ℕ, true, false, IfSome, IfNone};
 ghost use Rattle.ice_base.specs.Bits.{bit_of, count_below, Inserts, Deletes};
 ghost use Rattle.ice_base.specs.Used.{bit_index, bits_of};
 
@@ -85,16 +85,35 @@ pub fn first_clear(block: &Block, inodes: bool) -> Option<u32>
     None
 }
 
-/// How many bits are set.
+/// How many of the eight bits of a byte are set.
 #[tactic(auto, using(ice_base::proofs::CountLaws::count_laws))]
+fn count_byte(block: &Block, at: usize) -> u32
+    requires { at < 40 }
+    ensures { result ≡ count_below (λ j. bit_of block.now (8 * at + j)) 8 }
+{
+    match block[at] {
+        0 => return 0,
+        255 => return 8,
+        _ => {}
+    }
+    let mut set: u32 = 0;
+    for i in 0..8 {
+        if bit_at(block, 8 * at + i) {
+            set += 1;
+        }
+    }
+    set
+}
+
+/// How many bits are set.
 pub fn count(block: &Block, inodes: bool) -> u32
     ensures { result ≡ count_below (λ j. bit_of block.now (bit_index inodes j)) (bits_of inodes) }
 {
+    let first = index(inodes, 0) / 8;
+    let bytes = bits(inodes) as usize / 8;
     let mut set: u32 = 0;
-    for i in 0..bits(inodes) {
-        if bit(block, inodes, i) {
-            set += 1;
-        }
+    for byte in 0..bytes {
+        set += count_byte(block, first + byte);
     }
     set
 }
