@@ -1,5 +1,5 @@
 -- What is left of the lots of cubes that stay broken.
-use Rattle.std.proofs.Common.{◌≡◌, ◌∙◌, ℕ, List, [], ◌∷◌, sym, ap, subst}
+use Rattle.std.proofs.Common.{◌≡◌, ◌∙◌, ◌≤◌, ℕ, List, [], ◌∷◌, sym, ap, subst}
 use Rattle.ice_base.specs.Disk.{Image, DiskState, AgreesOn, Everywhere, Outside}
 use Rattle.ice_base.specs.Frames.{Kept, Within}
 use Rattle.ice_base.specs.Lots.{LotView, extent}
