@@ -7,14 +7,16 @@ ghost use Rattle.ice_base.specs.Still.{Still};
 ghost use Rattle.ice_base.specs.declared.fault.Rule.{Rule};
 ghost use Rattle.tree_spec.specs.Costs.{Form, form_one};
 ghost use Rattle.tree_spec.specs.Lines.{asked};
-ghost use Rattle.tree_spec.specs.Operations.{Operation, operation, is_change};
+ghost use Rattle.tree_spec.specs.Operations.{Operation, operation, is_change, paths};
 ghost use Rattle.tree_spec.specs.Own.{OnTree};
 ghost use Rattle.tree_spec.specs.Records.{Cube as Record, History, Mode};
 ghost use Rattle.tree_spec.specs.Replies.{Tallies, meant};
+ghost use Rattle.tree_spec.specs.Why.{Why};
 ghost use Rattle.tree_spec.specs.declared.reply.Refusal.TheVariants.{Damaged, Fault, Stopped};
 ghost use Rattle.ice_journal.specs.Rests.{LotAtRest, RestsLot};
 ghost use Rattle.ice_look.specs.Broken.{IsBroken};
 ghost use Rattle.ice_look.specs.Outcomes.{meant_plain};
+ghost use Rattle.ice_look.specs.Stages.{paths_refusal};
 ghost use Rattle.ice_rules.specs.Rules.{rule_number};
 ghost use Rattle.ice_txn.specs.Sets.{over};
 ghost use Rattle.ice_cube.specs.Called.{RestsWith, is_look};
@@ -157,6 +159,8 @@ impl Cube {
             → IsErrOf result (Damaged n) → (r : Rule) × (n ≡ rule_number r) × IsBroken form_one self.old.lot (over self.old.set map) r }
         ensures within { Within D.state D.left (extent self.old.lot) disk.old disk.new }
         ensures early { length self.old.set ≤ 144 → Still D.state D.left disk.old disk.new }
+        ensures names { (op : Operation) (why : Why) → operation depth (asked command.now) ≡ Some op → paths_refusal form_one (paths op) ≡ Some why
+            → (self.new ≡ self.old) × (disk.new ≡ disk.old) }
         ensures own { (c : Record) (op : Operation) → operation depth (asked command.now) ≡ Some op
             → HoldsRecord self.old (D.state disk.old) c
             → AnswersOwn self.new (D.state disk.new) c (OnTree op) (meant_plain result) }
@@ -204,6 +208,9 @@ impl Cube {
         ensures early { length self.old.set ≤ 144 → Still D.state D.left disk.old disk.new }
         ensures looks { (op : Operation) → operation depth (asked command.now) ≡ Some op → is_change op ≡ false
             → Still D.state D.left disk.old disk.new }
+        // A change that its paths alone refuse comes before any commit: nothing happens.
+        ensures names { (op : Operation) (why : Why) → operation depth (asked command.now) ≡ Some op → is_change op ≡ true
+            → paths_refusal form_one (paths op) ≡ Some why → (self.new ≡ self.old) × (disk.new ≡ disk.old) }
         // From each record that it holds, the answer is the record's, and it holds the record after it.
         ensures own { (c : Record) (op : Operation) → operation depth (asked command.now) ≡ Some op
             → HoldsRecord self.old (D.state disk.old) c

@@ -16,8 +16,9 @@ use Rattle.ice_images.specs.Opening.{Opens, closed_state}
 use Rattle.ice_images.specs.Reopening.{ReopensBut}
 use Rattle.ice_volume.specs.Sessions.{Starts}
 use Rattle.ice_run.specs.Crashes as run
-use Rattle.ice_run.specs.Crashes.{Reached, LeftSo}
+use Rattle.ice_run.specs.Crashes.{Reached, LeftSo, SparesAny, SparesBroken}
 use Rattle.ice_run.specs.Runs.{Answered, Runs, end}
+use Rattle.ice_run.proofs.Crashes.{after_more}
 use Rattle.ice_headline.specs.Acknowledged.{acknowledged_from, Includes}
 use Rattle.ice_headline.specs.Later.{Survives, IsFound, Serves, MountsAs, IsOff}
 use Rattle.ice_headline.specs.Headline.{Contains, Keeps, After}
@@ -30,21 +31,6 @@ use Rattle.ice_headline.proofs.Resting.{IsClosed, RestsAs, serves}
 fits_but : (v : World) (image damaged : Image) (s : ℕ) → damaged ≡ image → Fits v image → FitsBut s v damaged
 fits_but v image damaged s same fits =
     subst (FitsBut s v) (sym same) (record { tables = fits.tables; has = fits.has; room = fits.room; shows = fits.shows; cubes = λ x other. fits.cubes x tt })
-
--- what one sense of fitting gives, a weaker one gives too
-after_more : (P Q : World → Type 0) (w : World) (script : List Line) (out : List ℕ) → ((v : World) → P v → Q v) → run.After P w script out
-    → run.After Q w script out
-after_more P Q w script out more a = record {
-  steps = a.steps;
-  runs = a.runs;
-  tail = a.tail;
-  gives = a.gives;
-  count = a.count;
-  front = a.front;
-  world = a.world;
-  reached = a.reached;
-  holds = more a.world a.holds;
-}
 
 -- the floor of a sound cube has reached what the slot's cube acknowledged in the lines that were answered
 pub floor_reached : (x : ℕ) (w : World) (script : List Line) (steps : List Answered) (tail : List ℕ) (v : World) (c : Cube) (h : History)
@@ -111,7 +97,7 @@ ImagesReopen = ((i : Image) (w : World) (s : ℕ) → FitsBut s w i → (u : Wor
     × ((i : Image) (w u : World) (s : ℕ) → FitsBut s w i → Opens i u → ReopensBut s w u)
 
 module _ (law : ImagesReopen) where
-  contains : (w : World) (script : List Line) (out : List ℕ) (s : ℕ) (i : Image) → run.After (λ v. FitsBut s v i) w script out
+  contains : (w : World) (script : List Line) (out : List ℕ) (s : ℕ) (i : Image) → run.After (λ v. FitsBut s v i) (λ steps. SparesAny steps i) w script out
       → Contains w script out s i
   contains w script out s i a = record {
     steps = a.steps;
@@ -137,7 +123,8 @@ module _ (law : ImagesReopen) where
   headline state left later late status last old new before after first second w starts image given crash s damaged harm settled is =
       let keeps = first w starts in
       let aside = (state old).streams.aside in
-      let from : LeftSo (FitsBut s) aside w _ damaged given = ⊎_elim
-      (λ same. let l = keeps.crash image given crash in (l.0, l.1, after_more (λ v. Fits v image) (λ v. FitsBut s v damaged) w _ l.0 (λ v fits. fits_but v image damaged s same fits) l.2))
+      let from : LeftSo (FitsBut s) SparesAny aside w _ damaged given = ⊎_elim
+      (λ same. let l = keeps.crash image given crash in (l.0, l.1, after_more (λ v. Fits v image) (λ v. FitsBut s v damaged) (λ steps. SparesBroken (state old) w steps image) (λ steps. SparesAny steps damaged) w _ l.0
+      (λ v fits. fits_but v image damaged s same fits) (λ steps spares. tt) l.2))
       (λ d. keeps.damage image given crash s damaged d) harm in
       ((from.0, from.1, contains w _ from.0 s damaged from.2), (λ u o. second u (record { settled = settled; opens = subst (λ i. Opens i u) (sym is) o })))

@@ -24,7 +24,7 @@ Harms image damaged s = (damaged ≡ image) ⊎ Damages image damaged s
 pub record Keeps {D : Type 0} (state : D → DiskState) (left : D → ℕ → Image → List ℕ → Type 0) (status : Status) (w : World) (old new : D) : Type 0 where
   pub ends : Ends status w (state old) (state new)
   pub crash : (image : Image) (given : List ℕ) → left new (state old).clock image given
-      → CrashLeaves (state old).streams.aside w (script_lines (state old).streams.intake) image given
+      → CrashLeaves (state old) w (script_lines (state old).streams.intake) image given
   pub damage : (image : Image) (given : List ℕ) → left new (state old).clock image given
       → DamageLeaves (state old).streams.aside w (script_lines (state old).streams.intake) image given
 

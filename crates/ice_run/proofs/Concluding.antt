@@ -1,11 +1,13 @@
 -- The end of a session: every cube is unmounted, or an unmount failed.
 use Rattle.std.proofs.Common.{◌≡◌, ◌∙◌, inl, inr, ⊎_elim, ◌≢◌, ◌<◌, ◌≤◌, ◌+◌, ℕ, List, [], ◌++◌, length, refl, sym, ap, subst, arith}
-use Rattle.ice_base.specs.Disk.{Image, DiskState, Streams, Everywhere, Rose, RoseBy}
-use Rattle.ice_base.specs.Frames.{LeavesOnly, With, Every}
+use Rattle.ice_base.specs.Disk.{Image, DiskState, Streams, Everywhere, Outside, Rose, RoseBy}
+use Rattle.ice_base.specs.Frames.{LeavesOnly, With, Within, Every}
 use Rattle.ice_base.specs.declared.status.Status.{Status}
 use Rattle.ice_base.specs.declared.status.Status.TheVariants.{Done, Usage, Memory, Source, Sink, Disk, Volume, Script, Small}
 use Rattle.tree_spec.specs.World.{World}
 use Rattle.ice_images.specs.Fitting.{Fits}
+use Rattle.ice_system.specs.Systems.{tables_of}
+use Rattle.ice_volume.specs.Lines.{IsOfBroken}
 use Rattle.ice_volume.specs.Sessions.{finished}
 use Rattle.ice_volume.specs.Volumes.{VolumeView, StandsFor}
 use Rattle.ice_volume.proofs.StandLaws.{stands_fits}
@@ -14,6 +16,7 @@ use Rattle.ice_run.specs.Scripts.{script_lines, longest_script}
 use Rattle.ice_run.specs.Servings.{Served, Concluded, AllAnswered}
 use Rattle.ice_run.specs.Sessions.{SoFar, CrashesSo}
 use Rattle.ice_run.proofs.SessionLaws.{between_lines}
+use Rattle.ice_run.proofs.Sparing.{keeps_on, work_spares}
 
 module _ {D : Type 0} (state : D → DiskState) (left : D → ℕ → Image → List ℕ → Type 0) (w : World) (start : D) where
   -- a session that did not come to the end of its script ends as it was served
@@ -29,14 +32,18 @@ module _ {D : Type 0} (state : D → DiskState) (left : D → ℕ → Image → 
   concluded_as Small v new other served = absurd served.reaches
 
   module _ (v : VolumeView) (a b : D) (served : Served state left w start Done v a) (streams : (state b).streams ≡ (state a).streams) (later : (state a).faults ≤ (state b).faults)
-      (leaves : (u : World) → StandsFor v (state a) u → LeavesOnly left a b (With (state a).streams.aside (Fits u))) where
+      (leaves : (u : World) → StandsFor v (state a) u → LeavesOnly left a b (With (state a).streams.aside (Fits u)))
+      (sparing : (u : World) → StandsFor v (state a) u → Within state left (Outside (IsOfBroken (tables_of v.system) u)) a b) where
     abbrev so_far : SoFar state left w (script_lines (state start).streams.intake) v (script_lines served.taken) start a
     so_far = served.reaches.2
 
     crash_finished : CrashesSo state left w (script_lines (state start).streams.intake) start b
     crash_finished = record {
       each = λ t image out l. ⊎_elim (λ before. so_far.crash.each t image out before)
-          (λ here. inr (between_lines w (script_lines (state start).streams.intake) (script_lines served.taken) (state start) (state a) image out so_far.gave (end w so_far.gave.steps) (inl refl) here.0 here.1))
+          (λ here. ⊎_elim (λ before. so_far.crash.each t image out before)
+          (λ agrees. inr (between_lines w (script_lines (state start).streams.intake) (script_lines served.taken) (state start) (state a) image out so_far.gave (end w so_far.gave.steps) (inl refl) here.0 here.1
+          (work_spares state left w v (state start) so_far.gave.steps a b so_far.lots so_far.spares (sparing (end w so_far.gave.steps) so_far.stands) image agrees.0)))
+          ((sparing (end w so_far.gave.steps) so_far.stands).left_new t image out l))
           ((leaves (end w so_far.gave.steps) so_far.stands).each t image out l);
     }
 
@@ -52,6 +59,7 @@ module _ {D : Type 0} (state : D → DiskState) (left : D → ℕ → Image → 
       };
       rose = omega (arith, so_far.gave.faults, rose);
       crash = crash_finished;
+      spares = keeps_on state left w v (state start) so_far.gave.steps a b so_far.lots so_far.spares (sparing (end w so_far.gave.steps) so_far.stands);
     }
 
     took_all : (state start).streams.intake ≡ served.taken ++ (state b).streams.intake

@@ -50,6 +50,7 @@ breaks_more state left w script heard more all start new is Sink cut = record {
   part = cut.part;
   names = cut.names;
   crash = cut.crash;
+  spares = cut.spares;
 }
 breaks_more state left w script heard more all start new is Disk cut = record {
   lines = cut.lines;
@@ -60,6 +61,7 @@ breaks_more state left w script heard more all start new is Disk cut = record {
   order = cut.order;
   faults = cut.faults;
   crash = cut.crash;
+  spares = cut.spares;
 }
 breaks_more state left w script heard more all start new is Done cut = cut
 breaks_more state left w script heard more all start new is Usage cut = cut

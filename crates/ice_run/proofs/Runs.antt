@@ -10,7 +10,7 @@ use Rattle.ice_volume.specs.Lines.{fault_in}
 use Rattle.ice_run.specs.Runs.{Answered, AllNamed, Runs, RunsFirst, end, lines_of, reply_texts, faults_of, IsProperPrefix}
 
 -- one more line
-pub push : List Answered → Line → Response → World → List Answered
+unfoldable pub push : List Answered → Line → Response → World → List Answered
 push steps line r v = steps ++ record { line = line; reply = r; then = v } ∷ []
 
 pub runs-push : (w : World) (steps : List Answered) (line : Line) (r : Response) (v : World) → Runs w steps → Step (end w steps) line r v → Runs w (push steps line r v)

@@ -18,6 +18,7 @@ use Rattle.ice_run.specs.Pieces.{TookOnly, TookPiece}
 use Rattle.ice_run.specs.Sessions.{SoFar, BreaksOff, Serving}
 use Rattle.ice_run.specs.Servings.{Fed, Served}
 use Rattle.ice_run.proofs.SessionLaws.{between_lines}
+use Rattle.ice_run.proofs.Sparing.{keeps_refl, keeps_then, kept_spares, lots_none}
 
 append_nil : (xs : List ℕ) → xs ++ [] ≡ xs
 append_nil [] = refl
@@ -37,6 +38,8 @@ module _ {D : Type 0} (state : D → DiskState) (left : D → ℕ → Image → 
     };
     stands = stands;
     crash = record { each = λ t i o l. inl l };
+    lots = lots_none v (state d) w [] stands;
+    spares = keeps_refl (state d) w [];
   }
 
   -- a take between two lines
@@ -56,9 +59,12 @@ module _ {D : Type 0} (state : D → DiskState) (left : D → ℕ → Image → 
       each = λ t image out l. ⊎_elim
           (λ before. so_far.crash.each t image out before)
           (λ here. inr (between_lines w script lines (state start) (state mid) image out so_far.gave (end w so_far.gave.steps) (inl refl)
-          (stands_fits v (state mid) (end w so_far.gave.steps) so_far.stands image here.0) here.1))
+          (stands_fits v (state mid) (end w so_far.gave.steps) so_far.stands image here.0) here.1
+          (kept_spares (state start) (state mid) w so_far.gave.steps image so_far.spares here.0)))
           (leaves.left_new t image out l);
     };
+    lots = so_far.lots;
+    spares = keeps_then (state start) (state mid) (state new) w so_far.gave.steps so_far.spares (kept_same Everywhere (state mid) (state new) disk);
   }
 
 front_of : (xs ys : List ℕ) (n : ℕ) → length xs ≡ n → take n (xs ++ ys) ≡ xs

@@ -16,6 +16,7 @@ use Rattle.ice_images.specs.Fitting.{Fits}
 use Rattle.ice_volume.specs.Lines.{IsTableOrder}
 use Rattle.ice_volume.specs.Sessions.{finished}
 use Rattle.ice_run.specs.Scripts.{ended_lines, script_lines, longest_script}
+use Rattle.ice_run.specs.Crashes.{KeepsBroken}
 use Rattle.ice_run.specs.Runs.{Answered, RunsFirst, Next, end, lines_of, reply_texts, faults_of, IsProperPrefix}
 use Rattle.ice_run.specs.Alone.{told, AllClean, orders_of, replies_of, said}
 
@@ -118,7 +119,7 @@ pub record AllAlone (w : World) (steps : List Answered) : Type 0 where
 -- ---- the clauses together
 
 -- What a session gave is the text of the replies of a run of the script's first lines, and at Sink the front of a further one.
--- All that is said of its end is said of this run.
+-- All that is said of its end is said of this run. No block is written of a cube that was broken at its start and stayed so.
 pub record Ends (status : Status) (w : World) (old new : DiskState) : Type 0 where
   pub steps : List Answered
   pub runs : RunsFirst w (script_lines old.streams.intake) steps
@@ -129,6 +130,7 @@ pub record Ends (status : Status) (w : World) (old new : DiskState) : Type 0 whe
   pub took : old.streams.intake ≡ taken ++ new.streams.intake
   pub by_status : EndsAt status w steps tail taken new.streams.intake
   pub exit : status ≡ Done → Every Everywhere new (Fits (finished (end w steps)))
+  pub spares : KeepsBroken old w steps new
   pub faults : RoseBy (faults_of steps + fault_at status) old.faults new.faults
   pub complete : NoneRose old new → EndsWell status old × (faults_of steps ≡ 0)
   pub answers : AnswersWell w steps

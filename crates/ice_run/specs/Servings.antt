@@ -11,6 +11,7 @@ use Rattle.ice_images.specs.Fitting.{Fits}
 use Rattle.ice_volume.specs.Sessions.{finished}
 use Rattle.ice_volume.specs.Volumes.{VolumeView}
 use Rattle.ice_run.specs.Clauses.{Heard}
+use Rattle.ice_run.specs.Crashes.{KeepsBroken}
 use Rattle.ice_run.specs.Scripts.{script_lines, ended_lines, longest_script}
 use Rattle.ice_run.specs.Runs.{end, faults_of}
 use Rattle.ice_run.specs.Sessions.{SoFar, BreaksOff, CrashesSo, GaveReplies, Serving}
@@ -64,6 +65,7 @@ module _ {D : Type 0} (state : D → DiskState) (left : D → ℕ → Image → 
     pub gave : GaveReplies w asked_lines (script_lines taken) [] (state start) (state new)
     pub rose : RoseBy (faults_of gave.steps + more) (state start).faults (state new).faults
     pub crash : CrashesSo state left w asked_lines start new
+    pub spares : KeepsBroken (state start) w gave.steps (state new)
 
   -- all lines are answered, nothing is left to take, and each image fits the world in which every cube is unmounted
   pub record EndsDone (taken : List ℕ) (new : D) : Type 0 where

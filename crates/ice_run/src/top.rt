@@ -81,7 +81,7 @@ fn open_and_serve<H: Host>(alloc: Global, host: &mut H, session: &mut Session) -
     // From each world that the image opens: how the session ends, and what each crash leaves.
     ensures ends { (w : World) → Starts (H.state host.old) w → Ends result w (H.state host.old) (H.state host.new) }
     ensures crash { (w : World) → Starts (H.state host.old) w
-        → LeavesOnly H.left host.old host.new (CrashLeaves (H.state host.old).streams.aside w (script_lines (H.state host.old).streams.intake)) }
+        → LeavesOnly H.left host.old host.new (CrashLeaves (H.state host.old) w (script_lines (H.state host.old).streams.intake)) }
 {
     let mut volume = match Volume::attach(alloc, host) {
         Ok(volume) => volume,
@@ -103,7 +103,7 @@ fn run_session<H: Host>(alloc: Global, host: &mut H) -> Status
     ensures ends { (w : World) → Starts (H.state host.old) w → Ends result w (H.state host.old) (H.state host.new) }
     ensures crash { (w : World) → Starts (H.state host.old) w → (crashed : Image) (out : List ℕ)
         → H.left host.new (H.state host.old).clock crashed out
-        → CrashLeaves (H.state host.old).streams.aside w (script_lines (H.state host.old).streams.intake) crashed out }
+        → CrashLeaves (H.state host.old) w (script_lines (H.state host.old).streams.intake) crashed out }
 {
     match Session::new(alloc) {
         Ok(session) => {
@@ -137,7 +137,7 @@ pub fn run<H: Host>(alloc: Global, words: &Words, host: &mut H) -> Status
         → Starts (H.state host.old) w → Ends result w (H.state host.old) (H.state host.new) }
     ensures crash { (image : List ℕ) (w : World) → request_of words.now ≡ Some (Runs image)
         → Starts (H.state host.old) w → (crashed : Image) (out : List ℕ) → H.left host.new (H.state host.old).clock crashed out
-        → CrashLeaves (H.state host.old).streams.aside w (script_lines (H.state host.old).streams.intake) crashed out }
+        → CrashLeaves (H.state host.old) w (script_lines (H.state host.old).streams.intake) crashed out }
     ensures damage { (image : List ℕ) (w : World) → request_of words.now ≡ Some (Runs image)
         → Starts (H.state host.old) w → (crashed : Image) (out : List ℕ) → H.left host.new (H.state host.old).clock crashed out
         → DamageLeaves (H.state host.old).streams.aside w (script_lines (H.state host.old).streams.intake) crashed out }

@@ -78,6 +78,7 @@ module _ (v : VolumeView) (s : DiskState) (u : World) (stands : StandsFor v s u)
     step = subst (λ (z : Aim). Goes u z (Err (refused_of r)) u) (sym aims) (ap (λ (q : reply.Refused). Err q) because, refl);
     stands = stands;
     found = subst (λ (z : Aim). LineFound (tables_of v.system) s.now z (Err (refused_of r)) u u) (sym aims) tt;
+    lots = λ x broken still. refl;
   }
 
   -- a slot without a group is free

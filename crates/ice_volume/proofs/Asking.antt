@@ -44,7 +44,7 @@ use Rattle.ice_volume.specs.declared.cell.Cell.TheVariants.{Closed, Stopped, Ope
 use Rattle.ice_volume.proofs.Entries.{tree_entry, check_entry}
 use Rattle.ice_volume.proofs.Found.{recovers_alike, recovers_first, check_some, check_none}
 use Rattle.ice_volume.proofs.Slots.{carries_has, carries_kept, carries_known}
-use Rattle.ice_volume.proofs.Telling.{IsOpen, open_record, sound_leaves, faults_said}
+use Rattle.ice_volume.proofs.Telling.{IsOpen, open_record, sound_leaves, sound_unbroken, faults_said}
 
 -- ---- a command of a tree
 
@@ -72,6 +72,7 @@ module _ {D : Type 0} (state : D → DiskState) (left : D → ℕ → Image → 
     found = tt;
     leaves = sound_leaves state left e.lot c at.history at.sound a b (s.crash c.form c.mode at.history at.holds);
     frame = command_frame (is_change op) refl;
+    spares = λ broken. absurd (sound_unbroken c.content at.history at.sound broken);
   }
 
   -- a command of an open cube
@@ -131,6 +132,7 @@ module _ {D : Type 0} (state : D → DiskState) (left : D → ℕ → Image → 
         found = subst (λ (z : StateWord). CheckFound z e.lot (state a).now (meant (told_check r) room)) (sym mounted) tt;
         leaves = still_leaves state left e.lot a b s.still (Open e) c rec.carries;
         frame = still_within state left e.lot a b s.still (WritesIn e.lot order.Check (meant (told_check r) room));
+        spares = λ broken. s.still.within;
       }
 
   -- a check of a mounted cube
@@ -249,6 +251,7 @@ module _ {D : Type 0} (state : D → DiskState) (left : D → ℕ → Image → 
       found = found;
       leaves = still_leaves state left lot a b s.still cell c rec.carries;
       frame = still_within state left lot a b s.still (WritesIn lot order.Check q);
+      spares = λ broken. s.still.within;
     }
 
     lot_check_each : (p : Result Summary CheckFault) → r ≡ p → Same (meant (told_check p) room)

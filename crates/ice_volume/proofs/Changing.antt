@@ -35,72 +35,18 @@ use Rattle.ice_system.specs.declared.fault.SystemFault.{SystemFault}
 use Rattle.ice_system.specs.declared.fault.SystemFault.TheVariants.{Before, After}
 use Rattle.ice_volume.specs.Cells.{cell_at, IsSession, EachHas, IsKnown, Rests, HasOpen, Carries}
 use Rattle.ice_volume.specs.Volumes.{VolumeView, AreSessions, StandsFor, IsWritable}
-use Rattle.ice_volume.specs.Lines.{AnswersLine, Answers, IsTableOrder, LineFound, LineWrites, MayFit, OrderFound, OrderWrites, fault_in}
+use Rattle.ice_volume.specs.Lines.{AnswersLine, Answers, IsTableOrder, LineFound, LineWrites, MayFit, OrderFound, OrderWrites, IsOfBroken, SaysBroken, fault_in}
 use Rattle.ice_volume.specs.Told.{told_of, CellBecomes}
 use Rattle.ice_volume.specs.declared.cell.Cell.{Cell}
 use Rattle.ice_volume.specs.declared.cell.Cell.TheVariants.{Closed, Stopped, Open}
+use Rattle.ice_volume.proofs.Slots.{carries_has, carries_kept, carries_none, each_slot, with_here}
 
 -- ---- what a cell and its lot carry
 
-known_kept : (lot : LotView) (i j : Image) (c : Cube) (x : Content) → ((k : ℕ) → extent lot k → block j k ≡ block i k) → IsKnown lot i c x → IsKnown lot j c x
-known_kept lot i j c (Sound h) same known = tt
-known_kept lot i j c (Broken rules) same known = record {
-  nothing = λ f mode t k r.
-      known.nothing f mode t k (record { form = r.form; blocks = r.blocks; effective = sym (lot_blocks_rest lot i j same) ∙ r.effective; recovers = r.recovers });
-  named = named_rests lot rules i j same known.named;
-  form = known.form;
-  mode = known.mode;
-}
-known_kept lot i j c Unread same known = known
-
-rests_kept : (lot : LotView) (a b : DiskState) (state : StateWord) (c : Cube) → Kept (extent lot) a b → Rests lot a state c → Rests lot b state c
-rests_kept lot a b state c kept r = record {
-  each = every_kept (extent lot) (λ i. Has lot i (Some c)) a b kept r.each;
-  known = known_kept lot a.now b.now c c.content kept.same r.known;
-  is = r.is;
-}
-
-open_kept : (lot : LotView) (a b : DiskState) (e : CubeView) (c : Cube) → Kept (extent lot) a b → HasOpen lot a e c → HasOpen lot b e c
-open_kept lot a b e c kept o = record {
-  lot_is = o.lot_is;
-  record_is = record {
-    groups = o.record_is.groups;
-    state = o.record_is.state;
-    history = o.record_is.history;
-    sound = o.record_is.sound;
-    holds = holds_kept c.form c.mode o.record_is.history e a b (subst (λ (l : LotView). Kept (extent l) a b) (sym o.lot_is) kept) o.record_is.holds;
-  };
-}
-
 -- the cell and the lot carry the record still, where the blocks of the lot are kept
-pub carries_kept : (cell : Cell) (lot : LotView) (a b : DiskState) (c : Option Cube) → (IsSome c → Kept (extent lot) a b) → Carries cell lot a c → Carries cell lot b c
-carries_kept Closed lot a b None kept is = is
-carries_kept Closed lot a b (Some c) kept is = rests_kept lot a b _ c (kept refl) is
-carries_kept Stopped lot a b None kept is = is
-carries_kept Stopped lot a b (Some c) kept is = rests_kept lot a b _ c (kept refl) is
-carries_kept (Open e) lot a b None kept is = is
-carries_kept (Open e) lot a b (Some c) kept is = open_kept lot a b e c (kept refl) is
-
--- what an open cube holds, each crash leaves
-pub open_each : (lot : LotView) (s : DiskState) (e : CubeView) (c : Cube) → HasOpen lot s e c → EachHas lot s (Some c)
-open_each lot s e c o =
-    subst (λ (l : LotView). EachHas l s (Some c)) o.lot_is
-    (λ i agrees. subst (λ (x : Content). HasContent e.lot i c.form c.mode x) (sym o.record_is.sound) (o.record_is.holds.lasts i agrees))
-
--- each crash leaves the record that is carried
-pub carries_each : (cell : Cell) (lot : LotView) (s : DiskState) (c : Option Cube) → Carries cell lot s c → EachHas lot s c
-carries_each Closed lot s None is = λ i agrees. tt
-carries_each Closed lot s (Some c) is = is.each
-carries_each Stopped lot s None is = λ i agrees. tt
-carries_each Stopped lot s (Some c) is = is.each
-carries_each (Open e) lot s None is = λ i agrees. tt
-carries_each (Open e) lot s (Some c) is = open_each lot s e c is
-
--- what is known of a lot whose record is carried
-pub carries_known : (cell : Cell) (lot : LotView) (s : DiskState) (c : Cube) → Carries cell lot s (Some c) → IsKnown lot s.now c c.content
-carries_known Closed lot s c is = is.known
-carries_known Stopped lot s c is = is.known
-carries_known (Open e) lot s c is = subst (λ (x : Content). IsKnown lot s.now c x) (sym is.record_is.sound) tt
+pub carries_where : (cell : Cell) (lot : LotView) (a b : DiskState) (c : Option Cube) → (IsSome c → Kept (extent lot) a b) → Carries cell lot a c → Carries cell lot b c
+carries_where cell lot a b None kept is = carries_none cell lot a b is
+carries_where cell lot a b (Some c) kept is = carries_kept lot a b (kept refl) cell (Some c) is
 
 -- where a slot has no record, nothing is said of its lot
 has_where : (lot : LotView) (i : Image) (c : Option Cube) → (IsSome c → Has lot i c) → Has lot i c
@@ -108,19 +54,6 @@ has_where lot i None has = tt
 has_where lot i (Some c) has = has refl
 
 -- ---- a record in its slot
-
-with_here : (w : World) (x : ℕ) (d : Option Cube) → (with_slot w x d).cube x ≡ d
-with_here w x d = let is : nat_eq x x ≡ true = grind arith in ap (λ b. cond b d (w.cube x)) is
-
-with_other : (w : World) (x : ℕ) (d : Option Cube) (y : ℕ) → y ≢ x → (with_slot w x d).cube y ≡ w.cube y
-with_other w x d y other = let is : nat_eq y x ≡ false = grind arith in ap (λ b. cond b d (w.cube y)) is
-
--- what holds of the record in the slot, and of the other slots' records, holds of all
-pub each_slot : (w : World) (x : ℕ) (d : Option Cube) (P : ℕ → Option Cube → Type 0) → P x d → ((y : ℕ) → y ≢ x → P y (w.cube y)) → (y : ℕ) → P y ((with_slot w x d).cube y)
-each_slot w x d P here others y = elim (cases_eq y x) as (λ _. P y ((with_slot w x d).cube y)) [
-  | inl same ↦ subst (λ z. P z ((with_slot w x d).cube z)) (sym same) (subst (P x) (sym (with_here w x d)) here)
-  | inr other ↦ subst (P y) (sym (with_other w x d y other)) (others y other)
-]
 
 -- the world with the record of a slot put there again
 pub put_again : (v : VolumeView) (s : DiskState) (w : World) (x : ℕ) → StandsFor v s w → StandsFor v s (with_slot w x (w.cube x))
@@ -190,6 +123,11 @@ pub record IsSpare (v : VolumeView) (w : World) (P : ℕ → Type 0) : Type 0 wh
   pub high : (k : ℕ) → P k → 32 ≤ k
   pub lots : (y : ℕ) → IsSome (w.cube y) → (k : ℕ) → extent (lot_of (tables_of v.system) y) k → P k → ⊥
 
+-- a broken cube is one
+pub broken_some : (c : Option Cube) → SaysBroken c → IsSome c
+broken_some None broken = absurd broken
+broken_some (Some c) broken = refl
+
 -- no block is spare
 pub none_spare : (v : VolumeView) (w : World) → IsSpare v w (λ k. ⊥)
 none_spare v w = record { high = λ k here. absurd here; lots = λ y live k own here. here }
@@ -206,7 +144,7 @@ module _ {D : Type 0} (state : D → DiskState) (left : D → ℕ → Image → 
     tables = sure_kept IsTable (AtRest (tables_of v.system)) (state a) (state b) (at_rest_rests (tables_of v.system)) table_kept stands.tables;
     room = subst (λ n. total (tables_of v.system) ≤ n) (sym early.size) stands.room;
     shows = stands.shows;
-    cubes = λ y. carries_kept (cell_at v.cells y) (lot_of (tables_of v.system) y) (state a) (state b) (w.cube y)
+    cubes = λ y. carries_where (cell_at v.cells y) (lot_of (tables_of v.system) y) (state a) (state b) (w.cube y)
         (λ live. kept_within state left (extent (lot_of (tables_of v.system) y)) P a b (spare.lots y live) early) (stands.cubes y);
   }
 
@@ -218,7 +156,7 @@ module _ {D : Type 0} (state : D → DiskState) (left : D → ℕ → Image → 
     room = subst (λ n. total (tables_of v.system) ≤ n) (sym agrees.count) stands.room;
     shows = stands.shows;
     cubes = λ y here. has_where (lot_of (tables_of v.system) y) i (w.cube y)
-        (λ live. carries_each (cell_at v.cells y) (lot_of (tables_of v.system) y) (state a) (w.cube y) (stands.cubes y) i
+        (λ live. carries_has (cell_at v.cells y) (lot_of (tables_of v.system) y) (state a) (w.cube y) (stands.cubes y) i
         (record { count = agrees.count; same = λ k own. agrees.same k (spare.lots y live k own) }));
   }
 
@@ -238,6 +176,7 @@ pub record Becomes (v : VolumeView) (x : ℕ) (row : Option Row) (groups : List 
   pub shows : entry_with groups row ≡ option_map cube_entry then
   pub each : EachHas (lot_with (tables_of v.system) x groups) s then
   pub carries : Done → Carries cell (lot_with (tables_of v.system) x groups) t then
+  pub same : SaysBroken (u.cube x) → SaysBroken then → groups ≡ groups_of (tables_of v.system) x
 
 -- nothing is to be found by the order
 abbrev pub FindsNothing : Order → Type 0
@@ -267,7 +206,7 @@ module _ {D : Type 0} (state : D → DiskState) (left : D → ℕ → Image → 
   }
 
   each_old : (y : ℕ) → EachHas (lot_of (tables_of v.system) y) (state b) (w.cube y)
-  each_old y = carries_each (cell_at v.cells y) (lot_of (tables_of v.system) y) (state b) (w.cube y) (mid.cubes y)
+  each_old y = carries_has (cell_at v.cells y) (lot_of (tables_of v.system) y) (state b) (w.cube y) (mid.cubes y)
 
   -- each lot holds its record before the change under the tables after it
   each_new : (t : Tables) → SlotBecomes x row groups (tables_of v.system) t → (y : ℕ) → EachHas (lot_of t y) (state b) ((with_slot w x to.then).cube y)
@@ -319,7 +258,7 @@ module _ {D : Type 0} (state : D → DiskState) (left : D → ℕ → Image → 
         (subst (λ (e : Cell). Carries e (lot_of (tables_of z.system) x) (state c) to.then) (sym cells.here)
         (subst (λ (lot : LotView). Carries cell lot (state c) to.then) (sym (lot_here (tables_of v.system) (tables_of z.system) x row groups becomes)) (to.carries done)))
         (λ y other. subst (λ (e : Cell). Carries e (lot_of (tables_of z.system) y) (state c) (w.cube y)) (sym (cells.others y other))
-        (carries_kept (cell_at v.cells y) (lot_of (tables_of z.system) y) (state b) (state c) (w.cube y) (λ live. kept_lot (tables_of z.system) y)
+        (carries_where (cell_at v.cells y) (lot_of (tables_of z.system) y) (state b) (state c) (w.cube y) (λ live. kept_lot (tables_of z.system) y)
         (subst (λ (lot : LotView). Carries (cell_at v.cells y) lot (state b) (w.cube y)) (sym (lot_else (tables_of v.system) (tables_of z.system) x row groups becomes y other)) (mid.cubes y))));
   }
 
@@ -330,7 +269,7 @@ module _ {D : Type 0} (state : D → DiskState) (left : D → ℕ → Image → 
     tables = sure;
     room = subst (λ n. total (tables_of v.system) ≤ n) (sym within.size) mid.room;
     shows = stands.shows;
-    cubes = λ y. carries_kept (cell_at v.cells y) (lot_of (tables_of v.system) y) (state b) (state c) (w.cube y) (λ live. kept_lot (tables_of v.system) y) (mid.cubes y);
+    cubes = λ y. carries_where (cell_at v.cells y) (lot_of (tables_of v.system) y) (state b) (state c) (w.cube y) (λ live. kept_lot (tables_of v.system) y) (mid.cubes y);
   }
 
 -- ---- lines
@@ -391,6 +330,26 @@ module _ {D : Type 0} (state : D → DiskState) (left : D → ℕ → Image → 
   change_tallies (Err After) = tt
 
   module _ (to : (w : World) → StandsFor v (state a) w → Becomes v x row groups cell Done line o (state b) (state c) w) (spare : (w : World) → StandsFor v (state a) w → IsSpare v w P) where
+    -- a cube that stays broken keeps its lot
+    change_lots : (w : World) (stands : StandsFor v (state a) w) → SlotBecomes x row groups (tables_of v.system) (tables_of z.system)
+        → (y : ℕ) → SaysBroken (w.cube y) → SaysBroken ((with_slot w x (to w stands).then).cube y) → lot_of (tables_of z.system) y ≡ lot_of (tables_of v.system) y
+    change_lots w stands becomes y broken still = ⊎_elim here (λ other. lot_else (tables_of v.system) (tables_of z.system) x row groups becomes y other) (cases_eq y x)
+      where
+        here : y ≡ x → lot_of (tables_of z.system) y ≡ lot_of (tables_of v.system) y
+        here same =
+            let was : SaysBroken (w.cube x) = subst SaysBroken (ap w.cube same) broken in
+            let is : SaysBroken (to w stands).then = subst SaysBroken (ap (with_slot w x (to w stands).then).cube same ∙ with_here w x (to w stands).then) still in
+            let lot : lot_of (tables_of z.system) x ≡ lot_of (tables_of v.system) x = lot_here (tables_of v.system) (tables_of z.system) x row groups becomes
+            ∙ ap (λ (gs : List ℕ). lot_with (tables_of v.system) x gs) ((to w stands).same was is) in
+            ap (lot_of (tables_of z.system)) same ∙ lot ∙ sym (ap (lot_of (tables_of v.system)) same)
+
+    -- no block of a broken cube is written
+    change_spares : Within state left IsChange b c → (w : World) → StandsFor v (state a) w → Within state left (Outside (IsOfBroken (tables_of v.system) w)) a c
+    change_spares within w stands = change_within (Outside (IsOfBroken (tables_of v.system) w))
+        (λ k here broken. ⊎_elim
+        (λ low. low_apart (tables_of v.system) broken.0 k broken.2 low)
+        (λ early. (spare w stands).lots broken.0 (broken_some (w.cube broken.0) broken.1) k broken.2 early) here) within
+
     change_goes : {A : Type 0} (r : Result A SystemFault) → Changes state left x row groups v.system z.system r b c → OnOk r (CellBecomes x cell v.cells z.cells) → OnErr r (z.cells ≡ v.cells)
         → OnOk r Done → (w : World) → StandsFor v (state a) w → IfOk (told_of r) (λ q. Answers v z (state a) (state c) line w (meant q room))
     change_goes (Ok y) ch cells same done w stands =
@@ -401,6 +360,7 @@ module _ {D : Type 0} (state : D → DiskState) (left : D → ℕ → Image → 
           stands = change_stands state left v x row groups cell Done line o finds w P a b c stands (spare w stands) early t ch.within z ch.ready.1 ch.done cells done
               (subst (λ (u : Tables). Sure IsTable (AtRest u) (state c)) (sym m.2) m.3.done);
           found = found_by state left v x row groups cell Done line o finds w P a b c stands (spare w stands) early t ch.within (Ok reply.Plain) (with_slot w x t.then);
+          lots = change_lots w stands ch.done;
         }
     change_goes (Err Before) ch cells same done w stands =
         let m = ch.moves stands.live (early_stands state left v w P a b stands (spare w stands) early).tables in
@@ -410,6 +370,7 @@ module _ {D : Type 0} (state : D → DiskState) (left : D → ℕ → Image → 
           stands = stands_same v z (state c) (with_slot w x (w.cube x)) (ch.before refl).0 same
               (put_again v (state c) w x (rest_stands state left v x row groups cell Done line o finds w P a b c stands (spare w stands) early t ch.within (m.3.before refl)));
           found = found_by state left v x row groups cell Done line o finds w P a b c stands (spare w stands) early t ch.within (Err reply.Fault) (with_slot w x (w.cube x));
+          lots = λ y broken still. ap (λ (sys : SystemView). lot_of (tables_of sys) y) (ch.before refl).0;
         }
     change_goes (Err After) ch cells same done w stands = tt
 
@@ -444,13 +405,14 @@ module _ {D : Type 0} (state : D → DiskState) (left : D → ℕ → Image → 
           change_leaves state left v x row groups cell Done line o finds w P a b c stands (spare w stands) early (to w stands) ch.within m.0 m.1 m.3.crash.leaves;
       goes = change_goes r ch cells same done;
       frame = change_frame may r ch.within;
+      spares = change_spares ch.within;
       stops = change_stops r;
     }
 
 -- what a change of the tables alone leaves of a lot and its record
 pub still_carried : {D : Type 0} (state : D → DiskState) (left : D → ℕ → Image → List ℕ → Type 0) (t : Tables) (x : ℕ) (groups : List ℕ) (b c : D) (cell : Cell) (d : Option Cube)
     → Within state left IsChange b c → Carries cell (lot_with t x groups) (state b) d → Carries cell (lot_with t x groups) (state c) d
-still_carried state left t x groups b c cell d within is = carries_kept cell (lot_with t x groups) (state b) (state c) d
+still_carried state left t x groups b c cell d within is = carries_where cell (lot_with t x groups) (state b) (state c) d
     (λ live. kept_within state left (extent (lot_with t x groups)) IsChange b c (λ k own low. with_high t x groups k own low) within) is
   where
     with_high : (t : Tables) (x : ℕ) (groups : List ℕ) (k : ℕ) → extent (lot_with t x groups) k → ¬ IsChange k
@@ -471,6 +433,7 @@ unchanged state left line v room r a none tallies goes = record {
   leaves = λ w stands. record { each = λ m i out l. inl l };
   goes = goes;
   frame = λ w stands. within_refl state left (LineWrites (tables_of v.system) (aim w line) (meant r room)) a;
+  spares = λ w stands. within_refl state left (Outside (IsOfBroken (tables_of v.system) w)) a;
   stops = λ w stands. tt;
 }
 
@@ -493,7 +456,10 @@ faulted state left x line o finds v room P a b early past may spare own rose = r
     stands = put_again v (state b) w x (early_stands state left v w P a b stands (spare w stands) early);
     found = subst (λ (z : Aim). LineFound (tables_of v.system) (state a).now z (Err reply.Fault) w (with_slot w x (w.cube x))) (sym is.0)
         (finds (lot_of (tables_of v.system) x) (state a).now (Err reply.Fault) (w.cube x) ((with_slot w x (w.cube x)).cube x));
+    lots = λ y broken still. refl;
   };
+  spares = λ w stands. within_more state left P (Outside (IsOfBroken (tables_of v.system) w)) a b
+      (λ k here broken. (spare w stands).lots broken.0 (broken_some (w.cube broken.0) broken.1) k broken.2 here) early;
   frame = λ w stands. subst (λ (z : Aim). Within state left (LineWrites (tables_of v.system) z (Err reply.Fault)) a b) (sym (own w stands).0)
       (within_more state left P (OrderWrites (tables_of v.system) x o (Err reply.Fault)) a b (λ k here. (may w stands).faulty k (inr here)) early);
   stops = λ w stands. tt;

@@ -1,12 +1,13 @@
 -- Cubes that are unmounted at the end of a session.
 use Rattle.std.proofs.Common.{◌≡◌, ◌≢◌, ◌∙◌, inl, inr, ⊎_elim, ◌<◌, ◌≤◌, ◌+◌, ◌++◌, ℕ, Bool, true, false, cond, nat_lt, List, [], ◌∷◌, length, take, Option, None, Some, option_map, Result, Ok, Err, OnOk, OnErr, refl, sym, ap, subst, length-append, arith}
 use Rattle.std.specs.Prelude.{◌&&◌, ◌⊎◌, IsErrOf, is_ok}
+use Rattle.std.proofs.lemmas.Bool.{cases_lt}
 use Rattle.std.proofs.lemmas.Bool.Decides.{nat_tests}
 use Rattle.std.proofs.Math.Seq.{take-length}
-use Rattle.ice_base.specs.Disk.{Image, DiskState, Rose, RoseBy, Streams}
+use Rattle.ice_base.specs.Disk.{Image, DiskState, Outside, Rose, RoseBy, Streams}
 use Rattle.ice_base.specs.FrameLaws.{within_more, within_then}
 use Rattle.ice_base.specs.Frames.{LeavesOnly, With, Within}
-use Rattle.ice_base.specs.Lots.{LotView}
+use Rattle.ice_base.specs.Lots.{LotView, extent}
 use Rattle.ice_base.specs.declared.disk.DiskFault.{DiskFault}
 use Rattle.tree_spec.specs.Why.{Why}
 use Rattle.tree_spec.specs.Trees.{Tree}
@@ -34,18 +35,15 @@ use Rattle.ice_names.specs.Names.{path_at}
 use Rattle.ice_system.specs.Systems.{tables_of}
 use Rattle.ice_cube.specs.Cubes.{HasHistory}
 use Rattle.ice_volume.specs.Cells.{Carries, cell_at}
-use Rattle.ice_volume.specs.Sessions.{HasPutAway, IsAsGood, PutsAway, away_at, away_below, finished, put_away}
-use Rattle.ice_volume.specs.Lines.{Answers, MayFit, fault_in}
+use Rattle.ice_volume.specs.Sessions.{HasPutAway, IsAsGood, IsTried, PutsAway, TriesAll, away_at, away_below, finished, give_up, put_away}
+use Rattle.ice_volume.specs.Lines.{Answers, MayFit, IsOfBroken, SaysBroken, fault_in}
 use Rattle.ice_volume.specs.Volumes.{VolumeView, StandsFor, IsWritable}
 use Rattle.ice_volume.proofs.Lookups.{row_path, slot_found}
+use Rattle.ice_volume.proofs.Mounting.{after_append}
 use Rattle.ice_volume.proofs.Slots.{each_slot}
-use Rattle.ice_volume.proofs.Telling.{faults_said}
+use Rattle.ice_volume.proofs.Telling.{faults_said, sound_unbroken}
 
 -- ---- histories
-
-after_append : (xs ys : List Operation) (t : Tree) → tree_after (xs ++ ys) t ≡ tree_after ys (tree_after xs t)
-after_append [] ys t = refl
-after_append (op ∷ xs) ys t = after_append xs ys (next_tree op t)
 
 -- a lot that has all that was accepted has the history before it was settled
 settled_has : (lot : LotView) (f : Form) (mode : Mode) (h : History) (i : Image) → HasHistory lot f mode (settled h) i → HasHistory lot f mode h i
@@ -77,17 +75,24 @@ away_other c other = by c.state refl
 away_mounted : (c : Cube) (h : History) → c.state ≡ word.Mounted → c.content ≡ Sound h → put_away c.state c.content c ≡ record c { state = word.Unmounted; content = Sound (settled h) }
 away_mounted c h mounted sound = ap (λ s. put_away s c.content c) mounted ∙ ap (λ x. put_away word.Mounted x c) sound
 
+stopped_mounted : (c : Cube) → c.state ≡ word.Mounted → give_up c.state c ≡ with_state word.Stopped c
+stopped_mounted c mounted = ap (λ s. give_up s c) mounted
+
 -- ---- the cube of a slot
 
--- the record after an unmount is as good, and where it was no fault, that of a cube that was put away
+-- the record after an unmount is as good, that of a cube that was put away, or where it was a fault, of one that is stopped
 pub record GoesAway (c : Option Cube) (r : Response) (d : Option Cube) : Type 0 where
   pub good : IsAsGood c d
   pub away : r ≢ Err reply.Fault → d ≡ away_at c
+  pub tried : IsTried c d
+  pub broken : SaysBroken c → SaysBroken d
 
 same_away : (c : Cube) (d : Option Cube) (r : Response) → d ≡ Some c → c.state ≢ word.Mounted → GoesAway (Some c) r d
 same_away c d r same other = record {
   good = same_good (Some c) d same;
   away = λ none. same ∙ ap (λ (x : Cube). Some x) (sym (away_other c other));
+  tried = inl (same ∙ ap (λ (x : Cube). Some x) (sym (away_other c other)));
+  broken = λ was. subst SaysBroken (sym same) was;
 }
 
 settled_good : (c : Cube) (h : History) → c.state ≡ word.Mounted → c.content ≡ Sound h → IsAsGood (Some c) (Some (with_state word.Unmounted (with_history (settled h) c)))
@@ -106,6 +111,8 @@ goes_as : (c d e : Option Cube) (r : Response) → d ≡ e → GoesAway c r e �
 goes_as c d e r same goes = record {
   good = good_then c e d goes.good (same_good e d same);
   away = λ none. same ∙ goes.away none;
+  tried = ⊎_elim (λ is. inl (same ∙ is)) (λ is. inr (same ∙ is)) goes.tried;
+  broken = λ was. subst SaysBroken (sym same) (goes.broken was);
 }
 
 -- a refusal leaves the record
@@ -118,12 +125,22 @@ plain_away c d r v word.Stopped x state content is says = refused_away c d r _ v
 plain_away c d r v word.Offline x state content is says = refused_away c d r _ v is (λ mounted. absurd (cc (sym mounted ∙ state))) says
 plain_away c d r v word.Mounted (Sound h) state content is says =
     goes_as (Some c) d (Some (with_state word.Unmounted (with_history (settled h) c))) r (subst (λ (x : Verdict). Says x (Some c) r d) is says).1
-    (record { good = settled_good c h state content; away = λ none. ap (λ (x : Cube). Some x) (sym (away_mounted c h state content)) })
+    (record {
+      good = settled_good c h state content;
+      away = λ none. ap (λ (x : Cube). Some x) (sym (away_mounted c h state content));
+      tried = inl (ap (λ (x : Cube). Some x) (sym (away_mounted c h state content)));
+      broken = λ was. absurd (sound_unbroken c.content h content was);
+    })
 plain_away c d r v word.Mounted (Broken rules) state content is says = absurd is
 plain_away c d r v word.Mounted Unread state content is says = absurd is
 
 fault_away : (c : Cube) (d : Option Cube) (r : Response) → c.state ≡ word.Mounted → r ≡ Err reply.Fault → d ≡ Some (with_state word.Stopped c) → GoesAway (Some c) r d
-fault_away c d r mounted fault same = goes_as (Some c) d (Some (with_state word.Stopped c)) r same (record { good = stopped_good c mounted; away = λ none. absurd (none fault) })
+fault_away c d r mounted fault same = goes_as (Some c) d (Some (with_state word.Stopped c)) r same (record {
+      good = stopped_good c mounted;
+      away = λ none. absurd (none fault);
+      tried = inr (ap (λ (x : Cube). Some x) (sym (stopped_mounted c mounted)));
+      broken = λ was. was;
+    })
 
 mounted_if : (s : StateWord) → is_mounted s ≡ true → s ≡ word.Mounted
 mounted_if word.Mounted p = refl
@@ -189,6 +206,8 @@ puts_none v s w x free stands = record {
   };
   good = same_good (w.cube x) (w.cube x) refl;
   away = λ ok. free ∙ sym (ap away_at free);
+  tried = inl (free ∙ sym (ap away_at free));
+  broken = λ was. was;
 }
 
 -- a slot past those of the image is free
@@ -233,13 +252,27 @@ module _ (v : VolumeView) (s : DiskState) (w : World) (stands : StandsFor v s w)
         stands = subst (StandsFor z new) away.is answers.stands;
         good = away.goes.good;
         away = λ is. away.goes.away (fine is);
+        tried = away.goes.tried;
+        broken = away.goes.broken;
       }
+
+  -- a cube that stays broken keeps its lot
+  pub line_lots : (z : VolumeView) (new : DiskState) (r : Response) → Answers v z s new (Asks (line.Unmount p)) w r → (y : ℕ) → SaysBroken (w.cube y)
+      → lot_of (tables_of z.system) y ≡ lot_of (tables_of v.system) y
+  line_lots z new r answers y broken =
+      let away = step_away r answers.then answers.step in
+      answers.lots y broken (subst (λ (u : World). SaysBroken (u.cube y)) (sym away.is)
+      (each_slot w x away.next (λ q c. SaysBroken (w.cube q) → SaysBroken c) away.goes.broken (λ q other was. was) y broken))
 
 -- ---- all slots
 
 -- nothing was put away yet
 pub away_none : (v : VolumeView) (s : DiskState) (w : World) (ok : Bool) → StandsFor v s w → HasPutAway 0 ok v s w
-away_none v s w ok stands = record { next = w; stands = stands; slots = refl; groups = refl; good = λ x. same_good (w.cube x) (w.cube x) refl; away = λ is x. let none : nat_lt x 0 ≡ false = grind (arith, nat_tests) in sym (ap (λ b. cond b (away_at (w.cube x)) (w.cube x)) none) }
+away_none v s w ok stands = record { next = w; stands = stands; slots = refl; groups = refl; good = λ x. same_good (w.cube x) (w.cube x) refl; away = λ is x. let none : nat_lt x 0 ≡ false = grind (arith, nat_tests) in sym (ap (λ b. cond b (away_at (w.cube x)) (w.cube x)) none);
+  tried = λ x less. absurd (omega (arith, less));
+  ahead = λ x far. refl;
+  broken = λ x was. was;
+}
 
 and_true : (a b : Bool) → (a && b) ≡ true → (a ≡ true) × (b ≡ true)
 and_true true b is = (refl, is)
@@ -257,6 +290,11 @@ away_more v z s t w n a b so puts = record {
       each_slot so.next n puts.next (λ y c. c ≡ away_below (n + 1) w.cube y)
       (puts.away both.1 ∙ ap away_at (so.away both.0 n ∙ at_here) ∙ sym at_more)
       (λ y other. so.away both.0 y ∙ at_other y other);
+  tried = each_slot so.next n puts.next (λ y c. y < n + 1 → IsTried (w.cube y) c)
+      (λ less. subst (λ (c : Option Cube). IsTried c puts.next) (so.ahead n (omega arith)) puts.tried)
+      (λ y other less. so.tried y (omega (arith, less, other)));
+  ahead = each_slot so.next n puts.next (λ y c. n + 1 ≤ y → c ≡ w.cube y) (λ far. absurd (omega (arith, far))) (λ y other far. so.ahead y (omega (arith, far)));
+  broken = each_slot so.next n puts.next (λ y c. SaysBroken (w.cube y) → SaysBroken c) (λ was. puts.broken (so.broken n was)) (λ y other was. so.broken y was);
 }
   where
     at_here : away_below n w.cube n ≡ w.cube n
@@ -302,6 +340,15 @@ away_all n v s w few so = record {
     all : (x : ℕ) → so.next.cube x ≡ away_at (w.cube x)
     all x = so.away refl x ∙ below x (nat_lt x n) refl
 
+-- an unmount of every cube was tried
+pub tried_all : (n : ℕ) (ok : Bool) (v : VolumeView) (s : DiskState) (w : World) → v.system.names.slots ≤ n → (so : HasPutAway n ok v s w) → TriesAll v s w
+tried_all n ok v s w few so = record { next = so.next; stands = so.stands; tried = λ x. ⊎_elim (so.tried x) (beyond x) (cases_lt x n) }
+  where
+    beyond : (x : ℕ) → n ≤ x → IsTried (w.cube x) (so.next.cube x)
+    beyond x far =
+        let none : so.next.cube x ≡ None = no_cube s.now (tables_of v.system) so.next x so.stands.tables.now.has so.stands.shows (omega (arith, few, far)) in
+        inl (none ∙ sym (ap away_at (sym (so.ahead x far) ∙ none)))
+
 -- ---- the loop over the slots
 
 -- the blocks of a session are the same where the image has as many blocks
@@ -318,6 +365,14 @@ module _ {D : Type 0} (state : D → DiskState) (left : D → ℕ → Image → 
   -- the blocks of a session alone change
   pub finish_within : Within state left (IsWritable v) a b
   finish_within = within_then state left (IsWritable v) a m b so (within_more state left (IsWritable z) (IsWritable v) m b (writable_same v z size) more)
+
+  -- no block of a broken cube is written
+  pub finish_spares : (w u : World) → ((y : ℕ) → SaysBroken (w.cube y) → lot_of (tables_of z.system) y ≡ lot_of (tables_of v.system) y) → ((y : ℕ) → SaysBroken (w.cube y) → SaysBroken (u.cube y))
+      → Within state left (Outside (IsOfBroken (tables_of v.system) w)) a m → Within state left (Outside (IsOfBroken (tables_of z.system) u)) m b
+      → Within state left (Outside (IsOfBroken (tables_of v.system) w)) a b
+  finish_spares w u lots stays first second = within_then state left (Outside (IsOfBroken (tables_of v.system) w)) a m b first
+      (within_more state left (Outside (IsOfBroken (tables_of z.system) u)) (Outside (IsOfBroken (tables_of v.system) w)) m b
+      (λ k other broken. other (broken.0, stays broken.0 broken.1, subst (λ (lot : LotView). extent lot k) (sym (lots broken.0 broken.1)) broken.2)) second)
 
   -- a fault has its cause
   pub finish_cause : (p q : Bool) → (p && q) ≡ false → (p ≡ false → Rose (state a).faults (state m).faults) → (q ≡ false → Rose (state m).faults (state b).faults) → Rose (state a).faults (state b).faults

@@ -36,7 +36,7 @@ use Rattle.ice_volume.specs.Told.{CellBecomes, IsWidened, told_of}
 use Rattle.ice_volume.specs.declared.cell.Cell.{Cell}
 use Rattle.ice_volume.specs.declared.cell.Cell.TheVariants.{Open}
 use Rattle.ice_volume.proofs.Lookups.{slot_none}
-use Rattle.ice_volume.proofs.Changing.{IsEarly, carries_kept, changed, early_stands, faulted, lot_here, unchanged}
+use Rattle.ice_volume.proofs.Changing.{IsEarly, carries_where, changed, early_stands, faulted, lot_here, unchanged}
 use Rattle.ice_volume.proofs.Making.{answers_refused, create_because, create_fault, create_finds, create_may, create_memory, create_spare, groups_because, made_carries, makes, makes_aim, refused_aim}
 use Rattle.ice_volume.proofs.Growing.{WiderHas, grow_fault, grow_finds, grow_may, grow_refused, grow_spare, grows, head_new, new_groups_kept, plan_lot, plan_more, plan_wider, widened_session}
 use Rattle.ice_volume.proofs.Planned.{IsPlanned, free_is, planned_below, planned_high, planned_is, planned_sited}
@@ -167,7 +167,7 @@ module _ {D : Type 0} (state : D → DiskState) (left : D → ℕ → Image → 
       let mid = early_stands state left v w (IsNewBlock (lot_of (tables_of v.system) x) lot) a b stands (grow_spare v (state a) w stands p n x less at lot plan) early in
       let has = new stands.tables.settled.told in
       grows v (state a) w stands p n x less at lot plan law is (state b) (state c) (cell_at z.cells x) mid has
-      (carries_kept (cell_at v.cells x) (lot_of (tables_of v.system) x) (state b) (state c) (w.cube x) (λ live. lot_kept state left (tables_of v.system) x b c ch.within) (mid.cubes x))
+      (carries_where (cell_at v.cells x) (lot_of (tables_of v.system) x) (state b) (state c) (w.cube x) (λ live. lot_kept state left (tables_of v.system) x b c ch.within) (mid.cubes x))
       (new_groups_kept (lot_of (tables_of v.system) x) lot (state b) (state c) (wide_kept b c ch.within) has))
       (λ w stands. grow_spare v (state a) w stands p n x less at lot plan) grow_early (λ w stands. grow_may (tables_of v.system) x n lot plan) r ch cells others widened
 

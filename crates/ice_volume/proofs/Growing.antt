@@ -30,13 +30,14 @@ use Rattle.ice_cube.proofs.FreshLots.{new_heads_apart}
 use Rattle.ice_system.specs.Plans.{PlansGrow, RefusesGroups, free_groups}
 use Rattle.ice_system.specs.Systems.{tables_of}
 use Rattle.ice_volume.specs.Cells.{cell_at, Carries, EachHas, HasOpen, IsKnown, IsSession, Rests}
-use Rattle.ice_volume.specs.Lines.{planned_lot}
+use Rattle.ice_volume.specs.Lines.{IsBrokenContent, planned_lot}
 use Rattle.ice_volume.specs.Told.{IsWidened, MayWiden}
 use Rattle.ice_volume.specs.Volumes.{VolumeView, StandsFor}
 use Rattle.ice_volume.specs.declared.cell.Cell.{Cell}
 use Rattle.ice_volume.specs.declared.cell.Cell.TheVariants.{Closed, Stopped, Open}
 use Rattle.ice_volume.proofs.Lookups.{slot_found}
-use Rattle.ice_volume.proofs.Changing.{Becomes, FindsNothing, IsSpare, OrderMayWrite, carries_each, entry_with, lot_with}
+use Rattle.ice_volume.proofs.Changing.{Becomes, FindsNothing, IsSpare, OrderMayWrite, entry_with, lot_with}
+use Rattle.ice_volume.proofs.Slots.{carries_has}
 use Rattle.ice_volume.proofs.Counting.{free_shown, groups_shown}
 use Rattle.ice_volume.proofs.Making.{can_aim, cannot_aim, slot_of_cube}
 use Rattle.ice_volume.proofs.TableOrders.{here, entry_here}
@@ -138,6 +139,12 @@ grow_may t x n lot plan = record {
   faulty = λ k here. ⊎_elim (λ low. inl low) (λ own. inr (subst (λ (l : LotView). IsNewBlock (lot_of t x) l k) (plan_same t x n lot plan) own)) here;
 }
 
+-- more groups may mend a broken cube
+grown_unbroken : (x : Content) → IsBrokenContent (mended x) → ⊥
+grown_unbroken (Sound h) still = absurd still
+grown_unbroken (Broken rules) still = absurd still
+grown_unbroken Unread still = absurd still
+
 -- an open cell of a slot may be widened to its planned lot
 pub plan_widens : (t : Tables) (x n : ℕ) (lot : LotView) (cell : Cell) → IsLot lot → PlansGrow t x n lot → IsSession t x cell → MayWiden lot cell
 plan_widens t x n lot Closed is plan session = tt
@@ -196,7 +203,7 @@ module _ (v : VolumeView) (s : DiskState) (w : World) (stands : StandsFor v s w)
         let wider = plan_wider (tables_of v.system) x n lot is plan in
         let more = plan_more (tables_of v.system) x n lot plan in
         let each : EachHas (lot_of (tables_of v.system) x) b (Some c.0) =
-        subst (λ (d : Option Cube). EachHas (lot_of (tables_of v.system) x) b d) c.1 (carries_each (cell_at v.cells x) (lot_of (tables_of v.system) x) b (w.cube x) (mid.cubes x)) in
+        subst (λ (d : Option Cube). EachHas (lot_of (tables_of v.system) x) b d) c.1 (carries_has (cell_at v.cells x) (lot_of (tables_of v.system) x) b (w.cube x) (mid.cubes x)) in
         record {
           aims = grow_aim;
           then = Some (grown n c.0);
@@ -208,4 +215,5 @@ module _ (v : VolumeView) (s : DiskState) (w : World) (stands : StandsFor v s w)
           carries = λ widened. subst (λ (l : LotView). Carries after l t (Some (grown n c.0))) (plan_lot (tables_of v.system) x n lot plan)
               (carries_grown law (lot_of (tables_of v.system) x) lot t wider new_then n more (cell_at v.cells x) after c.0 widened
               (subst (λ (o : Option Cube). Carries (cell_at v.cells x) (lot_of (tables_of v.system) x) t o) c.1 carries));
+          same = λ broken still. absurd (grown_unbroken c.0.content still);
         }

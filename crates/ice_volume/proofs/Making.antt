@@ -36,7 +36,8 @@ use Rattle.ice_volume.specs.Lines.{Answers, LineFound, planned_lot}
 use Rattle.ice_volume.specs.Volumes.{VolumeView, StandsFor}
 use Rattle.ice_volume.specs.declared.cell.Cell.TheVariants.{Open}
 use Rattle.ice_volume.proofs.Lookups.{slot_found, slot_none}
-use Rattle.ice_volume.proofs.Changing.{Becomes, FindsNothing, IsSpare, OrderMayWrite, carries_each, carries_kept, lot_with, put_again}
+use Rattle.ice_volume.proofs.Changing.{Becomes, FindsNothing, IsSpare, OrderMayWrite, carries_where, lot_with, put_again}
+use Rattle.ice_volume.proofs.Slots.{carries_has}
 use Rattle.ice_volume.proofs.Counting.{free_shown, none_has}
 use Rattle.ice_volume.proofs.Planned.{IsPlanned, free_is, planned_apart, planned_high}
 
@@ -202,6 +203,7 @@ module _ (v : VolumeView) (s : DiskState) (w : World) (stands : StandsFor v s w)
     step = subst (λ (z : Aim). Goes w z (Err (Because y)) w) (sym is) (refl, refl);
     stands = stands;
     found = subst (λ (z : Aim). LineFound (tables_of v.system) s.now z (Err (Because y)) w w) (sym is) tt;
+    lots = λ x broken still. refl;
   }
 
   module _ (lot : LotView) (plan : PlansCreate (tables_of v.system) p n lot) where
@@ -252,6 +254,7 @@ module _ (v : VolumeView) (s : DiskState) (w : World) (stands : StandsFor v s w)
       step = subst (λ (z : Aim). Goes w z (Err reply.Memory) (with_slot w lot.slot (w.cube lot.slot))) (sym makes_aim) (w.cube lot.slot, own_stays (Err reply.Memory) (inr (inr (refl, refl, refl))), refl);
       stands = put_again v s w lot.slot stands;
       found = subst (λ (z : Aim). LineFound (tables_of v.system) s.now z (Err reply.Memory) w (with_slot w lot.slot (w.cube lot.slot))) (sym makes_aim) tt;
+      lots = λ x broken still. refl;
     }
 
     count_is : length lot.groups ≡ n
@@ -283,6 +286,7 @@ module _ (v : VolumeView) (s : DiskState) (w : World) (stands : StandsFor v s w)
       says = own_create (Ok reply.Plain) (Some (new_cube p n)) (inl (Yes reply.Plain (Some (new_cube p n)), refl, (refl, refl)));
       faulty = create_fault;
       shows = ap (λ (k : ℕ). Some (record { path = p; groups = k; offline = false })) count_is;
-      each = subst (λ (l : LotView). EachHas l b (Some (new_cube p n))) made_lot (carries_each (Open e) lot b (Some (new_cube p n)) carries);
-      carries = λ done. subst (λ (l : LotView). Carries (Open e) l t (Some (new_cube p n))) made_lot (carries_kept (Open e) lot b t (Some (new_cube p n)) (λ live. kept) carries);
+      each = subst (λ (l : LotView). EachHas l b (Some (new_cube p n))) made_lot (carries_has (Open e) lot b (Some (new_cube p n)) carries);
+      carries = λ done. subst (λ (l : LotView). Carries (Open e) l t (Some (new_cube p n))) made_lot (carries_where (Open e) lot b t (Some (new_cube p n)) (λ live. kept) carries);
+      same = λ broken still. absurd still;
     }

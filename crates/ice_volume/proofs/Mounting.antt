@@ -34,7 +34,7 @@ use Rattle.ice_cube.specs.declared.fault.CubeFault.{CubeFault}
 use Rattle.ice_cube.specs.declared.fault.CubeFault.TheVariants as cube
 use Rattle.ice_cube.proofs.CubeLaws.{holds_cut}
 use Rattle.ice_volume.specs.Cells.{Carries, EachHas, IsKnown, cell_state}
-use Rattle.ice_volume.specs.Lines.{MountFound, fault_in}
+use Rattle.ice_volume.specs.Lines.{IsBrokenContent, MountFound, fault_in}
 use Rattle.ice_volume.specs.Orders.{AnswersOrder, Becomes, IsCellOf, IsRecord, WritesIn, cell_with, mount_refusal, told_mount}
 use Rattle.ice_volume.specs.declared.cell.Cell.{Cell}
 use Rattle.ice_volume.specs.declared.cell.Cell.TheVariants.{Closed, Stopped, Open}
@@ -129,7 +129,8 @@ mount_tallies : (r : Result CubeView CubeFault) (room : RoomContent) → Tallies
 mount_tallies (Ok e) room = tt
 mount_tallies (Err x) room = tt
 
-after_append : (xs ys : List Operation) (t : Tree) → tree_after (xs ++ ys) t ≡ tree_after ys (tree_after xs t)
+-- the tree after two lists of operations is that of the second after that of the first
+pub after_append : (xs ys : List Operation) (t : Tree) → tree_after (xs ++ ys) t ≡ tree_after ys (tree_after xs t)
 after_append [] ys t = refl
 after_append (op ∷ xs) ys t = after_append xs ys (next_tree op t)
 
@@ -167,6 +168,12 @@ idle_carries (Open e) lot a b c idle each known carries = let r = carries.record
   };
 }
 
+-- the lot of a broken cube recovers nothing
+broken_nothing : (lot : LotView) (i : Image) (c : Cube) (x : Content) → IsKnown lot i c x → IsBrokenContent x → RecoversNothing lot i
+broken_nothing lot i c (Sound h) known broken = absurd broken
+broken_nothing lot i c (Broken rules) known broken = known.nothing
+broken_nothing lot i c Unread known broken = absurd broken
+
 -- the same count, said another way
 same_count : (lot : LotView) (i : Image) (f : Form) (mode : Mode) (t : Tree) (k n : ℕ) → k ≡ n → Recovers lot i f mode t k → Recovers lot i f mode t n
 same_count lot i f mode t k n is r = subst (λ (x : ℕ). Recovers lot i f mode t x) is r
@@ -192,6 +199,10 @@ module _ {D : Type 0} (state : D → DiskState) (left : D → ℕ → Image → 
 
     still_carries : Within state left Nowhere a b → Carries cell lot (state b) (Some c)
     still_carries still = carries_kept lot (state a) (state b) (kept_within state left (extent lot) Nowhere a b (λ k own never. never) still) cell (Some c) rec.carries
+
+    -- a broken cube's lot is not written
+    spares_broken : IsBrokenContent c.content → Within state left Nowhere a b
+    spares_broken broken = s.idle rec.told (broken_nothing lot (state a).now c c.content (carries_known cell lot (state a) c rec.carries) broken)
 
     -- a mount that the disk failed leaves the record
     fault_carries : (x : Content) → c.content ≡ x → Carries cell lot (state b) (Some c)
@@ -234,6 +245,7 @@ module _ {D : Type 0} (state : D → DiskState) (left : D → ℕ → Image → 
           );
           leaves = leaves_by c.content refl;
           frame = s.within;
+          spares = spares_broken;
         }
 
     mount_some : (e : CubeView) → r ≡ Ok e → (x : Content) → c.content ≡ x → HasContent lot (state a).now c.form c.mode x → IsKnown lot (state a).now c x
@@ -268,6 +280,7 @@ module _ {D : Type 0} (state : D → DiskState) (left : D → ℕ → Image → 
           found = tt;
           leaves = leaves_by c.content refl;
           frame = s.within;
+          spares = spares_broken;
         }
     mount_none cube.Disk is = record {
       then = c;
@@ -277,6 +290,7 @@ module _ {D : Type 0} (state : D → DiskState) (left : D → ℕ → Image → 
       found = tt;
       leaves = leaves_by c.content refl;
       frame = s.within;
+      spares = spares_broken;
     }
     mount_none (cube.Damaged y) is =
         let damage : TellsDamage lot (state a).now (cube.Damaged y) = subst (λ q. IfErr q (TellsDamage lot (state a).now)) is (s.damaged rec.told) in
@@ -292,6 +306,7 @@ module _ {D : Type 0} (state : D → DiskState) (left : D → ℕ → Image → 
           found = damage.0;
           leaves = leaves_by c.content refl;
           frame = within_more state left Nowhere (WritesIn lot order.Mount (Err (Because (why.Damaged (rule_number y))))) a b (λ k never. absurd never) still.within;
+          spares = spares_broken;
         }
 
     mount_each : (q : Result CubeView CubeFault) → r ≡ q → Becomes state left lot order.Mount (cell_with cell q) a b c (meant (told_mount q) room)

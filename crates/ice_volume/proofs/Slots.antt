@@ -3,7 +3,7 @@ use Rattle.std.proofs.Common.{◌≡◌, ◌≢◌, ◌∙◌, inl, inr, ⊎_eli
 use Rattle.std.specs.Prelude.{slice_set}
 use Rattle.std.proofs.lemmas.List.{get_or-set_same, get_or-set_other}
 use Rattle.std.proofs.lemmas.Bool.{cases_eq, cases_lt}
-use Rattle.ice_base.specs.Disk.{Image, DiskState, AgreesOn, Outside}
+use Rattle.ice_base.specs.Disk.{Image, DiskState, AgreesOn, Nowhere, Outside}
 use Rattle.ice_base.specs.Frames.{Within, LeavesOnly, With, Kept}
 use Rattle.ice_base.specs.FrameLaws.{within_refl, within_more}
 use Rattle.ice_base.specs.Lots.{LotView, extent}
@@ -31,7 +31,7 @@ use Rattle.ice_cube.specs.Cubes.{CubeView}
 use Rattle.ice_cube.proofs.CubeLaws.{holds_kept}
 use Rattle.ice_system.specs.Systems.{tables_of}
 use Rattle.ice_volume.specs.Cells.{Carries, EachHas, IsKnown, Rests, HasOpen, cell_at}
-use Rattle.ice_volume.specs.Lines.{AnswersLine, Answers, OrderFound, LineFound, LineWrites, OrderWrites, MayFit, fault_in}
+use Rattle.ice_volume.specs.Lines.{AnswersLine, Answers, OrderFound, LineFound, LineWrites, OrderWrites, MayFit, IsBrokenContent, IsOfBroken, SaysBroken, fault_in}
 use Rattle.ice_volume.specs.Orders.{AnswersOrder, Becomes, WritesIn}
 use Rattle.ice_volume.specs.Volumes.{VolumeView, StandsFor, IsWritable}
 use Rattle.ice_volume.specs.declared.cell.Cell.{Cell}
@@ -39,7 +39,8 @@ use Rattle.ice_volume.specs.declared.cell.Cell.TheVariants.{Closed, Stopped, Ope
 
 -- ---- a record in its slot
 
-with_here : (w : World) (x : ℕ) (d : Option Cube) → (with_slot w x d).cube x ≡ d
+-- the slot has the record that was put there, and another one its own
+pub with_here : (w : World) (x : ℕ) (d : Option Cube) → (with_slot w x d).cube x ≡ d
 with_here w x d = let is : nat_eq x x ≡ true = grind arith in ap (λ b. cond b d (w.cube x)) is
 
 with_other : (w : World) (x : ℕ) (d : Option Cube) (y : ℕ) → y ≢ x → (with_slot w x d).cube y ≡ w.cube y
@@ -117,7 +118,7 @@ module _ (lot : LotView) (a b : DiskState) (kept : Kept (extent lot) a b) where
   carries_kept (Open e) (Some c) carries = open_kept e c carries
 
 -- a slot without a cube carries nothing
-carries_none : (cell : Cell) (lot : LotView) (a b : DiskState) → Carries cell lot a None → Carries cell lot b None
+pub carries_none : (cell : Cell) (lot : LotView) (a b : DiskState) → Carries cell lot a None → Carries cell lot b None
 carries_none Closed lot a b carries = tt
 carries_none Stopped lot a b carries = carries
 carries_none (Open e) lot a b carries = carries
@@ -248,11 +249,33 @@ module _ {D : Type 0} (state : D → DiskState) (left : D → ℕ → Image → 
       found = subst (λ (z : Aim). LineFound (tables_of v.system) (state a).now z (meant result room) u (with_slot u x (Some becomes.then))) (sym for.aims)
           (subst (λ c. OrderFound (lot_of (tables_of v.system) x) (state a).now o (meant result room) c ((with_slot u x (Some becomes.then)).cube x)) (sym for.is)
           (subst (λ d. OrderFound (lot_of (tables_of v.system) x) (state a).now o (meant result room) (Some for.cube) d) (sym (with_here u x (Some becomes.then))) becomes.found));
+      lots = λ y broken still. refl;
     }
 
     line_leaves : LeavesOnly left a b (With (state a).streams.aside (MayFit u line))
     line_leaves = order_leaves state left v x inside a b u stands answers.within line
         (subst (λ c. LeavesOnly left a b (With (state a).streams.aside (λ i. Has (lot_of (tables_of v.system) x) i c))) (sym for.is) becomes.leaves)
+
+    -- no block of a broken cube is written
+    line_spares : Within state left (Outside (IsOfBroken (tables_of v.system) u)) a b
+    line_spares = by for.cube.content refl
+      where
+        spared : (IsBrokenContent for.cube.content → ⊥) → (k : ℕ) → extent (lot_of (tables_of v.system) x) k → ¬ IsOfBroken (tables_of v.system) u k
+        spared sound k mine broken = ⊎_elim
+            (λ same. sound (subst SaysBroken (ap u.cube same ∙ for.is) broken.1))
+            (λ differs. ⊎_elim
+            (λ low. other_lot state left v x inside a b u stands answers.within broken.0 differs low k broken.2 mine)
+            (λ high. absurd (subst SaysBroken (none_beyond state left v x inside a b u stands answers.within broken.0 high) broken.1))
+            (cases_lt broken.0 (tables_of v.system).slots))
+            (cases_eq broken.0 x)
+
+        live : (IsBrokenContent for.cube.content → ⊥) → Within state left (Outside (IsOfBroken (tables_of v.system) u)) a b
+        live sound = within_more state left (extent (lot_of (tables_of v.system) x)) (Outside (IsOfBroken (tables_of v.system) u)) a b (spared sound) answers.within
+
+        by : (y : Content) → for.cube.content ≡ y → Within state left (Outside (IsOfBroken (tables_of v.system) u)) a b
+        by (Sound h) is = live (λ broken. absurd (subst IsBrokenContent is broken))
+        by (Broken rules) is = within_more state left Nowhere (Outside (IsOfBroken (tables_of v.system) u)) a b (λ k never. absurd never) (becomes.spares (subst IsBrokenContent (sym is) tt))
+        by Unread is = live (λ broken. absurd (subst IsBrokenContent is broken))
 
     line_frame : Within state left (LineWrites (tables_of v.system) (aim u line) (meant result room)) a b
     line_frame = subst (λ (z : Aim). Within state left (LineWrites (tables_of v.system) z (meant result room)) a b) (sym for.aims)
@@ -271,6 +294,7 @@ module _ {D : Type 0} (state : D → DiskState) (left : D → ℕ → Image → 
     leaves = line_leaves;
     goes = line_goes;
     frame = line_frame;
+    spares = line_spares;
     stops = λ u stands. tt;
   }
 
@@ -290,5 +314,6 @@ refused_line state left line v room r a none goes = record {
   leaves = λ u stands. record { each = λ m i out l. inl l };
   goes = goes;
   frame = λ u stands. within_refl state left (LineWrites (tables_of v.system) (aim u line) (meant (Err r) room)) a;
+  spares = λ u stands. within_refl state left (Outside (IsOfBroken (tables_of v.system) u)) a;
   stops = λ u stands. tt;
 }

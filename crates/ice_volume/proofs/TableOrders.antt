@@ -29,7 +29,8 @@ use Rattle.ice_volume.specs.Rows.{is_marked}
 use Rattle.ice_volume.specs.declared.cell.Cell.{Cell}
 use Rattle.ice_volume.specs.declared.cell.Cell.TheVariants.{Closed, Stopped, Open}
 use Rattle.ice_volume.proofs.Lookups.{row_path, slot_found, slot_none, carried_state}
-use Rattle.ice_volume.proofs.Changing.{Becomes, FindsNothing, entry_with, put_again, carries_each, carries_kept, carries_known}
+use Rattle.ice_volume.proofs.Changing.{Becomes, FindsNothing, entry_with, put_again, carries_where}
+use Rattle.ice_volume.proofs.Slots.{carries_has, carries_known}
 
 cube_of : (o : Option Cube) (p : List (List ℕ)) → option_map (λ (c : Cube). c.path) o ≡ Some p → (c : Cube) × (o ≡ Some c)
 cube_of None p is = absurd (cc is)
@@ -118,7 +119,7 @@ known_as lot i c d Unread form mode known = (form ∙ known.0, mode ∙ known.1)
 -- whatever cell carried a record, a closed one carries it in the state of one that no session has
 closed_carries : (cell : Cell) (lot : LotView) (s : DiskState) (c : Cube) (b : Bool) → is_offline (closed_state b) ≡ b → Carries cell lot s (Some c) → Carries Closed lot s (Some (with_state (closed_state b) c))
 closed_carries cell lot s c b same is = record {
-  each = carries_each cell lot s (Some c) is;
+  each = carries_has cell lot s (Some c) is;
   known = known_as lot s.now c (with_state (closed_state b) c) c.content refl refl (carries_known cell lot s c is);
   is = ap closed_state (sym same);
 }
@@ -144,6 +145,7 @@ module _ (v : VolumeView) (s : DiskState) (w : World) (stands : StandsFor v s w)
         step = subst (λ (z : Aim). Goes w z (Err (Because why.NoCube)) w) (sym aims) (refl, refl);
         stands = stands;
         found = subst (λ (z : Aim). LineFound (tables_of v.system) s.now z (Err (Because why.NoCube)) w w) (sym aims) tt;
+        lots = λ y broken still. refl;
       }
 
   module _ (x : ℕ) (less : x < v.system.names.slots) (at : path_at v.system.names x ≡ Some p) where
@@ -179,6 +181,7 @@ module _ (v : VolumeView) (s : DiskState) (w : World) (stands : StandsFor v s w)
       stands = put_again v s w x stands;
       found = subst (λ (z : Aim). LineFound (tables_of v.system) s.now z (Err (Because y)) w (with_slot w x (w.cube x))) (sym (aims_at o line is))
           (finds (lot_of (tables_of v.system) x) s.now (Err (Because y)) (w.cube x) ((with_slot w x (w.cube x)).cube x));
+      lots = λ y broken still. refl;
     }
 
     -- a cube is deleted
@@ -191,6 +194,7 @@ module _ (v : VolumeView) (s : DiskState) (w : World) (stands : StandsFor v s w)
       shows = refl;
       each = λ i agrees. tt;
       carries = λ done. tt;
+      same = λ broken still. absurd still;
     }
 
     -- a closed cell carries the record of a cube that was set offline
@@ -211,8 +215,9 @@ module _ (v : VolumeView) (s : DiskState) (w : World) (stands : StandsFor v s w)
         says = own_here order.SetOffline (Ok reply.Plain) (Some (with_state word.Offline here.0)) (set_offline here.0 state (state_here ∙ sym is) able);
         faulty = own_back order.SetOffline (Err reply.Fault) (offline_fault here.0 state (state_here ∙ sym is) able);
         shows = shown_offline (groups_of (tables_of v.system) x) (row_at v.system.names x) here.0 entry_here;
-        each = carries_each (cell_at v.cells x) (lot_of (tables_of v.system) x) s (Some here.0) carries_here;
-        carries = λ done. carries_kept Closed (lot_of (tables_of v.system) x) s t (Some (with_state word.Offline here.0)) (λ live. kept) offline_carries;
+        each = carries_has (cell_at v.cells x) (lot_of (tables_of v.system) x) s (Some here.0) carries_here;
+        carries = λ done. carries_where Closed (lot_of (tables_of v.system) x) s t (Some (with_state word.Offline here.0)) (λ live. kept) offline_carries;
+        same = λ broken still. refl;
       }
 
       -- one that is offline stays so
@@ -232,8 +237,9 @@ module _ (v : VolumeView) (s : DiskState) (w : World) (stands : StandsFor v s w)
         says = own_here order.SetOnline (Ok reply.Plain) (Some (with_state word.Unmounted here.0)) (set_online here.0 (state_here ∙ sym is ∙ off));
         faulty = own_back order.SetOnline (Err reply.Fault) (online_fault here.0 (state_here ∙ sym is ∙ off));
         shows = shown_online (groups_of (tables_of v.system) x) (row_at v.system.names x) here.0 entry_here;
-        each = carries_each (cell_at v.cells x) (lot_of (tables_of v.system) x) s (Some here.0) carries_here;
-        carries = λ done. carries_kept Closed (lot_of (tables_of v.system) x) s t (Some (with_state word.Unmounted here.0)) (λ live. kept) online_carries;
+        each = carries_has (cell_at v.cells x) (lot_of (tables_of v.system) x) s (Some here.0) carries_here;
+        carries = λ done. carries_where Closed (lot_of (tables_of v.system) x) s t (Some (with_state word.Unmounted here.0)) (λ live. kept) online_carries;
+        same = λ broken still. refl;
       }
 
       -- one that isn't stays so

@@ -1,7 +1,7 @@
 -- What a cube answers to an order, and its record after it.
 use Rattle.std.proofs.Common.{◌≡◌, ◌∙◌, inl, inr, ◌≤◌, ℕ, Bool, true, false, List, length, Option, Some, Result, Ok, Err, OnOk, OnErr, IfOk, refl, sym, ap, subst, arith}
 use Rattle.std.specs.Prelude.{⊤, IfErr, IsErrOf}
-use Rattle.ice_base.specs.Disk.{Image, DiskState, Rose, RoseBy, Caused}
+use Rattle.ice_base.specs.Disk.{Image, DiskState, Nowhere, Rose, RoseBy, Caused}
 use Rattle.ice_base.specs.Frames.{CrashStep, Within, LeavesOnly, With, Every}
 use Rattle.ice_base.specs.FrameLaws.{within_refl}
 use Rattle.ice_base.specs.Lots.{LotView, extent}
@@ -11,7 +11,7 @@ use Rattle.tree_spec.specs.Why as why
 use Rattle.tree_spec.specs.Why.{Why}
 use Rattle.tree_spec.specs.Own as order
 use Rattle.tree_spec.specs.Own.{Order, Own, Verdict, No, Yes, Plainly, IfMounted, OfSound, on_sync, on_tree}
-use Rattle.tree_spec.specs.Records.{Cube, Content, Sound, History, Mode, done, settled, is_mounted, is_offline, with_history, with_state}
+use Rattle.tree_spec.specs.Records.{Cube, Content, Sound, Broken, Unread, History, Mode, done, settled, is_mounted, is_offline, with_history, with_state}
 use Rattle.tree_spec.specs.Replies.{Response, Because, Tallies, meant, refused_of}
 use Rattle.tree_spec.specs.Replies as reply
 use Rattle.tree_spec.specs.declared.reply.Refusal.{Refusal}
@@ -24,7 +24,7 @@ use Rattle.ice_images.specs.Opening.{closed_state}
 use Rattle.ice_cube.specs.Commands.{HoldsRecord, open_state}
 use Rattle.ice_cube.specs.Cubes.{CubeView, HasHistory, Holds}
 use Rattle.ice_volume.specs.Cells.{EachHas, IsKnown, Rests}
-use Rattle.ice_volume.specs.Lines.{OrderFound, fault_in}
+use Rattle.ice_volume.specs.Lines.{IsBrokenContent, OrderFound, fault_in}
 use Rattle.ice_volume.specs.Orders.{AnswersOrder, Becomes, IsCellOf, IsRecord, WritesIn, closed_refusal, told_number, cell_without}
 use Rattle.ice_volume.specs.declared.cell.Cell.{Cell}
 use Rattle.ice_volume.specs.declared.cell.Cell.TheVariants.{Closed, Stopped, Open}
@@ -88,6 +88,7 @@ refused_order state left lot o offline cell room r y a is at refuses = record {
     found = (refuses c rec).1;
     leaves = record { each = λ m i out l. inl l };
     frame = within_refl state left (WritesIn lot o (Err (Because y))) a;
+    spares = λ broken. within_refl state left Nowhere a;
   });
 }
 
@@ -172,6 +173,10 @@ mounted_plain c h P state sound = subst (λ (z : StateWord). IfMounted z (OfSoun
 entry_with_state : (c : Cube) (s : StateWord) → is_offline s ≡ false → c.state ≡ word.Mounted → cube_entry (with_state s c) ≡ cube_entry c
 entry_with_state c s on state = ap (λ (b : Bool). record { path = c.path; groups = c.groups; offline = b }) (on ∙ sym (ap is_offline state))
 
+-- a sound cube isn't broken
+pub sound_unbroken : (x : Content) (h : History) → x ≡ Sound h → IsBrokenContent x → ⊥
+sound_unbroken x h is broken = absurd (subst IsBrokenContent is broken)
+
 -- what the lot has is the record's content
 module _ {D : Type 0} (state : D → DiskState) (left : D → ℕ → Image → List ℕ → Type 0) (lot : LotView) (c : Cube) (h : History) (sound : c.content ≡ Sound h) (a b : D)
     (step : CrashStep state left (extent lot) (HasHistory lot c.form c.mode h) a b) where
@@ -240,6 +245,7 @@ module _ {D : Type 0} (state : D → DiskState) (left : D → ℕ → Image → 
         found = tt;
         leaves = sound_leaves state left e.lot c h at.sound a b step;
         frame = s.within;
+        spares = λ broken. absurd (sound_unbroken c.content h at.sound broken);
       }
   sync_each (Err x) true is s c at =
       let h = at.history in
@@ -262,6 +268,7 @@ module _ {D : Type 0} (state : D → DiskState) (left : D → ℕ → Image → 
         found = tt;
         leaves = sound_leaves state left e.lot c h at.sound a b step;
         frame = subst (λ (d : D). Within state left (WritesIn e.lot order.Sync (Err (Because why.Stopped))) a d) (sym (s.untouched is)) (within_refl state left (WritesIn e.lot order.Sync (Err (Because why.Stopped))) a);
+        spares = λ broken. absurd (sound_unbroken c.content h at.sound broken);
       })
   sync_each (Err x) false is s c at =
       let h = at.history in
@@ -284,6 +291,7 @@ module _ {D : Type 0} (state : D → DiskState) (left : D → ℕ → Image → 
         found = tt;
         leaves = sound_leaves state left e.lot c h at.sound a b step;
         frame = s.within;
+        spares = λ broken. absurd (sound_unbroken c.content h at.sound broken);
       })
 
   -- a sync of an open cube
@@ -328,6 +336,7 @@ module _ {D : Type 0} (state : D → DiskState) (left : D → ℕ → Image → 
         found = tt;
         leaves = sound_leaves state left e.lot c h at.sound a b step;
         frame = s.within;
+        spares = λ broken. absurd (sound_unbroken c.content h at.sound broken);
       }
   unmount_each (Err x) true is s c at =
       let h = at.history in
@@ -342,6 +351,7 @@ module _ {D : Type 0} (state : D → DiskState) (left : D → ℕ → Image → 
         found = tt;
         leaves = sound_leaves state left e.lot c h at.sound a b step;
         frame = subst (λ (d : D). Within state left (WritesIn e.lot order.Unmount (Err (Because why.Stopped))) a d) (sym (s.untouched is)) (within_refl state left (WritesIn e.lot order.Unmount (Err (Because why.Stopped))) a);
+        spares = λ broken. absurd (sound_unbroken c.content h at.sound broken);
       })
   unmount_each (Err x) false is s c at =
       let h = at.history in
@@ -355,6 +365,7 @@ module _ {D : Type 0} (state : D → DiskState) (left : D → ℕ → Image → 
         found = tt;
         leaves = sound_leaves state left e.lot c h at.sound a b step;
         frame = s.within;
+        spares = λ broken. absurd (sound_unbroken c.content h at.sound broken);
       })
 
   -- an unmount of an open cube

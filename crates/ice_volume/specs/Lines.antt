@@ -1,6 +1,6 @@
 -- What a line of a volume does: its answer, the blocks that it may write, and what a crash within it leaves.
 use Rattle.std.specs.Prelude.{◌≡◌, ◌⊎◌, ℕ, ◌+◌, ◌*◌, false, true, ⊤, List, ◌++◌, take, Result, Ok, Err, IfOk, OnOk, OnErr, IsOk, Option, Some, None}
-use Rattle.ice_base.specs.Disk.{Image, DiskState, Rose, RoseBy}
+use Rattle.ice_base.specs.Disk.{Image, DiskState, Outside, Rose, RoseBy}
 use Rattle.ice_base.specs.Frames.{Within, LeavesOnly, With}
 use Rattle.ice_base.specs.Lots.{LotView, extent}
 use Rattle.tree_spec.specs.Costs.{Form, blocks, nodes}
@@ -8,7 +8,7 @@ use Rattle.tree_spec.specs.Held.{RoomContent}
 use Rattle.tree_spec.specs.Lines.{Line}
 use Rattle.tree_spec.specs.Operations.{is_change}
 use Rattle.tree_spec.specs.Own.{Order, OnTree, Sync, Unmount, Mount, Check, SetOffline, SetOnline, Delete, Grow, Create}
-use Rattle.tree_spec.specs.Records.{Cube, History, Mode, Sound, tree_now}
+use Rattle.tree_spec.specs.Records.{Cube, Content, Broken, History, Mode, Sound, Unread, tree_now}
 use Rattle.tree_spec.specs.Replies.{Response, Accepted, Because, Number, Checked, Tallies, meant}
 use Rattle.tree_spec.specs.Replies as reply
 use Rattle.tree_spec.specs.Trees.{Tree}
@@ -111,21 +111,41 @@ abbrev pub LineFound : Tables → Image → Aim → Response → (w z : World) �
 LineFound t image (At s o) r w z = OrderFound (lot_of t s) image o r (w.cube s) (z.cube s)
 LineFound t image a r w z = ⊤
 
+-- ---- cubes that recover nothing
+
+-- the content of a record whose lot recovers nothing
+abbrev pub IsBrokenContent : Content → Type 0
+IsBrokenContent (Sound h) = ⊥
+IsBrokenContent (Broken rules) = ⊤
+IsBrokenContent Unread = ⊥
+
+-- the record of a broken cube
+abbrev pub SaysBroken : Option Cube → Type 0
+SaysBroken None = ⊥
+SaysBroken (Some c) = IsBrokenContent c.content
+
+-- the blocks of the lots of all broken cubes
+abbrev pub IsOfBroken : Tables → World → ℕ → Type 0
+IsOfBroken t u k = (x : ℕ) × SaysBroken (u.cube x) × extent (lot_of t x) k
+
 -- ---- lines
 
 -- the image fits the world, or one that an Ok reply to the line may lead to
 abbrev pub MayFit : World → Line → Image → Type 0
 MayFit w line image = Fits w image ⊎ ((r : Response) × (v : World) × Step w line r v × IsOk r × Fits v image)
 
--- a reply of the line, the world after it, for which the volume and the disk stand then, and what was found on the way
+-- A reply of the line, the world after it, for which the volume and the disk stand then, and what was found on the way. A cube that stays
+-- broken keeps its lot.
 pub record Answers (v w : VolumeView) (old new : DiskState) (line : Line) (u : World) (r : Response) : Type 0 where
   pub then : World
   pub step : Step u line r then
   pub stands : StandsFor w new then
   pub found : LineFound (tables_of v.system) old.now (aim u line) r u then
+  pub lots : (x : ℕ) → SaysBroken (u.cube x) → SaysBroken (then.cube x) → lot_of (tables_of w.system) x ≡ lot_of (tables_of v.system) x
 
 -- A line, answered or, where a change of the tables failed late, not. Each crash leaves an image that fits the world before, or one after
--- an Ok reply. The reply and the world after it follow by a step, and only the blocks of the line's order are written.
+-- an Ok reply. The reply and the world after it follow by a step, and only the blocks of the line's order are written, none of them a
+-- broken cube's.
 pub record AnswersLine {D X : Type 0} (state : D → DiskState) (left : D → ℕ → Image → List ℕ → Type 0)
     (line : Line) (v w : VolumeView) (room : RoomContent) (result : Result (Result Value Refusal) X) (old new : D) : Type 0 where
   pub within : Within state left (IsWritable v) old new
@@ -138,4 +158,5 @@ pub record AnswersLine {D X : Type 0} (state : D → DiskState) (left : D → �
   pub goes : (u : World) → StandsFor v (state old) u → IfOk result (λ r. Answers v w (state old) (state new) line u (meant r room))
   pub frame : (u : World) → StandsFor v (state old) u
       → IfOk result (λ r. Within state left (LineWrites (tables_of v.system) (aim u line) (meant r room)) old new)
+  pub spares : (u : World) → StandsFor v (state old) u → Within state left (Outside (IsOfBroken (tables_of v.system) u)) old new
   pub stops : (u : World) → StandsFor v (state old) u → OnErr result (IsTableOrder (aim u line))

@@ -1,6 +1,6 @@
 -- An order to the cube of one slot that leaves the tables as they are.
 use Rattle.std.specs.Prelude.{◌≡◌, ◌≤◌, ℕ, Bool, true, false, ⊤, List, length, Result, Ok, Err, Option, None, Some}
-use Rattle.ice_base.specs.Disk.{Image, DiskState, RoseBy}
+use Rattle.ice_base.specs.Disk.{Image, DiskState, Nowhere, RoseBy}
 use Rattle.ice_base.specs.Frames.{Within, LeavesOnly, With}
 use Rattle.ice_base.specs.Lots.{LotView, extent, is_sited}
 use Rattle.tree_spec.specs.Held.{RoomContent}
@@ -23,7 +23,7 @@ use Rattle.ice_cube.specs.declared.fault.CubeFault.{CubeFault}
 use Rattle.ice_cube.specs.declared.fault.CubeFault.TheVariants as cube
 use Rattle.ice_images.specs.Fitting.{Has, cube_entry}
 use Rattle.ice_volume.specs.Cells.{Carries}
-use Rattle.ice_volume.specs.Lines.{OrderFound, UnlessRefused, fault_in}
+use Rattle.ice_volume.specs.Lines.{IsBrokenContent, OrderFound, UnlessRefused, fault_in}
 use Rattle.ice_volume.specs.declared.cell.Cell.{Cell}
 use Rattle.ice_volume.specs.declared.cell.Cell.TheVariants.{Closed, Stopped, Open}
 
@@ -56,7 +56,7 @@ pub record IsRecord (lot : LotView) (offline : Bool) (cell : Cell) (s : DiskStat
   pub carries : Carries cell lot s (Some c)
 
 -- The record after an order: the reply is the record's own, the cell and the lot carry the one after it, and the tables still show it.
--- Each crash leaves the record as it was, and only the blocks of the order are written.
+-- Each crash leaves the record as it was, and only the blocks of the order are written, none where the cube is broken.
 pub record Becomes {D : Type 0} (state : D → DiskState) (left : D → ℕ → Image → List ℕ → Type 0) (lot : LotView) (o : Order) (after : Cell) (old new : D) (c : Cube) (r : Response) : Type 0 where
   pub then : Cube
   pub own : Own (Some c) o r (Some then)
@@ -65,6 +65,7 @@ pub record Becomes {D : Type 0} (state : D → DiskState) (left : D → ℕ → 
   pub found : OrderFound lot (state old).now o r (Some c) (Some then)
   pub leaves : LeavesOnly left old new (With (state old).streams.aside (λ i. Has lot i (Some c)))
   pub frame : Within state left (WritesIn lot o r) old new
+  pub spares : IsBrokenContent c.content → Within state left Nowhere old new
 
 -- An order to the cube of a lot, from one cell to another: what it does to each record that they carry.
 pub record AnswersOrder {D : Type 0} (state : D → DiskState) (left : D → ℕ → Image → List ℕ → Type 0) (lot : LotView) (o : Order) (offline : Bool)

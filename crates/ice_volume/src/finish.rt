@@ -1,13 +1,14 @@
 //! The end of a session.
-ghost use Rattle.std.specs.Prelude.{◌≡◌, ◌≢◌, ◌&&◌, OnErr, OnOk, is_ok, true, false};
-ghost use Rattle.ice_base.specs.Disk.{HasCause, Rose};
+ghost use Rattle.std.specs.Prelude.{◌≡◌, ◌≢◌, ◌&&◌, ℕ, OnErr, OnOk, is_ok, true, false};
+ghost use Rattle.ice_base.specs.Disk.{HasCause, Outside, Rose};
 ghost use Rattle.ice_base.specs.Frames.{LeavesOnly, With, Within};
 ghost use Rattle.tree_spec.specs.World.{World};
 ghost use Rattle.tree_spec.specs.declared.reply.Refusal.TheVariants.{Fault};
 ghost use Rattle.ice_images.specs.Fitting.{Fits};
-ghost use Rattle.ice_tables.specs.Lots.{total};
+ghost use Rattle.ice_tables.specs.Lots.{lot_of, total};
 ghost use Rattle.ice_system.specs.Systems.{tables_of};
-ghost use Rattle.ice_volume.specs.Sessions.{PutsAway, finished};
+ghost use Rattle.ice_volume.specs.Lines.{IsOfBroken, SaysBroken};
+ghost use Rattle.ice_volume.specs.Sessions.{PutsAway, TriesAll, finished};
 ghost use Rattle.ice_volume.specs.Volumes.{HasRoom, IsWritable, StandsFor};
 
 use crate::list::copy_path;
@@ -45,6 +46,11 @@ impl Volume {
             → LeavesOnly D.left disk.old disk.new (With (D.state disk.old).streams.aside (Fits w)) }
         ensures puts { (w : World) → StandsFor self.old (D.state disk.old) w
             → PutsAway slot (is_ok result) self.new (D.state disk.new) w }
+        // A broken cube keeps its lot, and no block of it is written.
+        ensures lots { (w : World) → StandsFor self.old (D.state disk.old) w → (x : ℕ) → SaysBroken (w.cube x)
+            → lot_of (tables_of self.new.system) x ≡ lot_of (tables_of self.old.system) x }
+        ensures spares { (w : World) → StandsFor self.old (D.state disk.old) w
+            → Within D.state D.left (Outside (IsOfBroken (tables_of self.old.system) w)) disk.old disk.new }
     {
         if slot >= self.system.slots() {
             return Ok(());
@@ -71,6 +77,10 @@ impl Volume {
             → LeavesOnly D.left disk.old disk.new (With (D.state disk.old).streams.aside (Fits w)) }
         ensures closes { (w : World) → StandsFor self.old (D.state disk.old) w
             → OnOk result (StandsFor self.new (D.state disk.new) (finished w)) }
+        // However it ends, an unmount of every cube was tried, and no block of a broken cube is written.
+        ensures tries { (w : World) → StandsFor self.old (D.state disk.old) w → TriesAll self.new (D.state disk.new) w }
+        ensures spares { (w : World) → StandsFor self.old (D.state disk.old) w
+            → Within D.state D.left (Outside (IsOfBroken (tables_of self.old.system) w)) disk.old disk.new }
     {
         // This call tells the prover that the image has at most 16 slots.
         let _ = self.system.slots();

@@ -14,6 +14,12 @@ pub returns-in-Err-clause-own : goal.returns-in-Err-clause-own
 returns-in-Err-clause-own g c = λ r op e holds.
     names_own c.args.self.now (g.D.Disk.state c.args.disk.now) op c.in-Err.refusal c.in-Err.ensures.set (c.in-Err.ensures.refusal op e) c.requires.live r holds
 
+pub returns-in-Ok-clause-names : goal.returns-in-Ok-clause-names
+returns-in-Ok-clause-names g c = λ op why e refused. absurd (cc (sym (c.in_default.ensures.refusal op e) ∙ refused))
+
+pub returns-in-Err-make_room-clause-names : goal.returns-in-Err-make_room-clause-names
+returns-in-Err-make_room-clause-names g c = λ op why e refused. absurd (cc (sym (c.in_default.ensures.refusal op e) ∙ refused))
+
 pub returns-in-Ok-clause-damaged : goal.returns-in-Ok-clause-damaged
 returns-in-Ok-clause-damaged g c = λ map n sure is.
     let old = c.args.self.now in let mid = c.make_room.new.self in let s = g.D.Disk.state c.make_room.new.disk in

@@ -6,7 +6,7 @@ use Rattle.tree_spec.specs.declared.reply.Refusal.{Refusal}
 use Rattle.tree_spec.specs.declared.reply.Value.{Value}
 use Rattle.ice_names.specs.Names.{NamesView, path_at}
 use Rattle.ice_volume.specs.Volumes.{VolumeView}
-use Rattle.ice_volume.proofs.Finishing.{failed_of, fine_of, fine_said, leaves_fit, line_puts, rose_said}
+use Rattle.ice_volume.proofs.Finishing.{failed_of, fine_of, fine_said, leaves_fit, line_lots, line_puts, rose_said}
 use Rattle.ice_volume.proofs.volume.Volume.put_away.Goals as goal
 
 empty : RoomContent
@@ -60,3 +60,21 @@ returns-in-Err-clause-puts g c = λ w stands.
     (subst (λ (n : NamesView). path_at n c.args.slot ≡ Some c.copy_path-path.result) c.names.ensures (c.in-Some.ensures ∙ ap (λ (p : List (List ℕ)). Some p) (sym c.copy_path-path.ensures))))
     c.unmount.new.self (g.D.Disk.state c.unmount.new.disk) (meant c.unmount.result empty) (is_ok c.fault_of.result)
     (λ ok. fine_said c.unmount.result empty (λ is. absurd (fine_of c.fault_of.result c.in-Err.refusal c.fault_of.ensures.other ok (err_same c.in-Err.refusal _ (sym c.in-Err.is ∙ is))))) ((c.unmount.ensures empty).goes w stands)
+
+pub returns-in-Ok-clause-lots : goal.returns-in-Ok-clause-lots
+returns-in-Ok-clause-lots g c = λ w stands.
+    line_lots c.args.self.now (g.D.Disk.state c.args.disk.now) w stands c.copy_path-path.result c.args.slot (subst (λ (v : VolumeView). c.args.slot < v.system.names.slots) c.self.view_is (omega (arith, c.if-slot-slots.false, c.slots.ensures.value))) (subst (λ (v : VolumeView). path_at v.system.names c.args.slot ≡ Some c.copy_path-path.result) c.self.view_is
+    (subst (λ (n : NamesView). path_at n c.args.slot ≡ Some c.copy_path-path.result) c.names.ensures (c.in-Some.ensures ∙ ap (λ (p : List (List ℕ)). Some p) (sym c.copy_path-path.ensures))))
+    c.unmount.new.self (g.D.Disk.state c.unmount.new.disk) (meant c.unmount.result empty) ((c.unmount.ensures empty).goes w stands)
+
+pub returns-in-Ok-clause-spares : goal.returns-in-Ok-clause-spares
+returns-in-Ok-clause-spares g c = (c.unmount.ensures empty).spares
+
+pub returns-in-Err-clause-lots : goal.returns-in-Err-clause-lots
+returns-in-Err-clause-lots g c = λ w stands.
+    line_lots c.args.self.now (g.D.Disk.state c.args.disk.now) w stands c.copy_path-path.result c.args.slot (subst (λ (v : VolumeView). c.args.slot < v.system.names.slots) c.self.view_is (omega (arith, c.if-slot-slots.false, c.slots.ensures.value))) (subst (λ (v : VolumeView). path_at v.system.names c.args.slot ≡ Some c.copy_path-path.result) c.self.view_is
+    (subst (λ (n : NamesView). path_at n c.args.slot ≡ Some c.copy_path-path.result) c.names.ensures (c.in-Some.ensures ∙ ap (λ (p : List (List ℕ)). Some p) (sym c.copy_path-path.ensures))))
+    c.unmount.new.self (g.D.Disk.state c.unmount.new.disk) (meant c.unmount.result empty) ((c.unmount.ensures empty).goes w stands)
+
+pub returns-in-Err-clause-spares : goal.returns-in-Err-clause-spares
+returns-in-Err-clause-spares g c = (c.unmount.ensures empty).spares
