@@ -2,7 +2,7 @@
 use crate::hosts::{status_of, words_of};
 use disk_file::FileHost;
 use disk_mem::MemHost;
-use ice_base::{Disk, ImageFault, Status};
+use ice_base::{Block, Disk, ImageFault, Status};
 use ice_run::image_of;
 use std::alloc::Global;
 use std::fs;
@@ -45,13 +45,24 @@ fn a_disk_of_1312_blocks_gets_the_image_and_one_of_1311_stays(rt: HostRuntime) -
     Ok(())
 }
 
-/// Whether the first block of a disk begins with the superblock of the image, and block 31 is zeros.
-fn has_start<D: Disk>(disk: &mut D) -> bool {
+/// A block of a disk, where it can be read.
+fn block_of<D: Disk>(disk: &mut D, at: u32) -> Option<Block> {
     let mut block = [7; 1024];
-    if disk.blocks() != 1312 || disk.read(0, &mut block).is_err() || block[..20] != START[..] {
-        return false;
+    if at >= disk.blocks() || disk.read(at, &mut block).is_err() {
+        return None;
     }
-    disk.read(31, &mut block).is_ok() && block.iter().all(|byte| *byte == 0)
+    Some(block)
+}
+
+/// Whether a disk of 1,312 blocks begins with the superblock of the image, and block 31 is zeros.
+fn has_start<D: Disk>(disk: &mut D) -> bool {
+    let blocks = disk.blocks();
+    match (block_of(disk, 0), block_of(disk, 31)) {
+        (Some(first), Some(last)) => {
+            blocks == 1312 && first[..20] == START[..] && last.iter().all(|byte| *byte == 0)
+        }
+        _ => false,
+    }
 }
 
 #[test]
