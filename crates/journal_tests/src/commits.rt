@@ -183,10 +183,20 @@ fn a_replay_that_failed_can_be_made_again(rt: HostRuntime) -> Result<(), Fail> {
     Ok(())
 }
 
+/// What a commit answers of which this call fails.
+fn answer_at(
+    rt: &impl Abort,
+    alloc: Global,
+    failing: u64,
+) -> Result<Result<(), CommitFault>, Fail> {
+    let (_host, answer) = commit_at(rt, alloc, failing)?;
+    Ok(answer)
+}
+
 #[test]
 fn a_fault_comes_before_or_after_the_gate(rt: HostRuntime) -> Result<(), Fail> {
     for failing in 0..12 {
-        let (_, answer) = commit_at(&rt, rt.alloc(), failing)?;
+        let answer = answer_at(&rt, rt.alloc(), failing)?;
         let want = match failing {
             0..=3 => Err(CommitFault::Before),
             4..=10 => Err(CommitFault::After),
