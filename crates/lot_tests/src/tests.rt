@@ -67,9 +67,7 @@ fn addresses_have_their_places(rt: HostRuntime) {
 
 #[test]
 fn a_lot_has_its_places(rt: HostRuntime) {
-    let mut lot = Lot::new(2, 1056);
-    lot.push(5);
-    lot.push(0);
+    let lot = two_groups();
     let places = [lot.gate(), lot.header(), lot.body(0), lot.body(239)];
     assert_eq!(rt; places, [545, 546, 547, 786]);
     assert_eq!(rt; (lot.slot(), lot.len(), lot.copy().len()), (2, 2, 2));

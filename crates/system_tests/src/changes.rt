@@ -47,18 +47,21 @@ fn attach(alloc: Global, host: &mut MemHost) -> Result<System, Fail> {
     Ok(System::attach(alloc, host).ok().ok_or("no volume")?)
 }
 
-/// Creates a cube where there is room for it.
+/// Creates a cube where there is room for it. Path: the path or the number of groups is none; Fault: the disk is too small.
 fn create(
-    rt: &impl Abort,
     system: &mut System,
     host: &mut MemHost,
     text: &[u8],
     groups: u32,
 ) -> Result<Result<(), SystemFault>, Refusal> {
     let path = read_path(text).ok().ok_or(Refusal::Path)?;
-    assert!(rt; path.text().len() <= 199 && groups >= 1);
+    if path.text().len() > 199 || groups < 1 {
+        return Err(Refusal::Path);
+    }
     let lot = system.plan_create(&path, groups)?;
-    assert!(rt; system.total() <= host.blocks());
+    if system.total() > host.blocks() {
+        return Err(Refusal::Fault);
+    }
     Ok(system.create(host, &path, &lot))
 }
 
@@ -78,7 +81,7 @@ fn counts(host: &MemHost) -> (u64, u64, u64) {
 fn create_home(rt: &impl Abort, alloc: Global, host: &mut MemHost) -> Result<(), Fail> {
     let mut system = attach(alloc, host)?;
     assert_eq!(rt; counts(host), (10, 0, 1));
-    assert_eq!(rt; create(rt, &mut system, host, b"/home", 1), Ok(Ok(())));
+    assert_eq!(rt; create(&mut system, host, b"/home", 1), Ok(Ok(())));
     assert_eq!(rt; counts(host), (10, 7, 5));
     assert_eq!(rt; host.calls(), ATTACH + CREATE);
     Ok(())
@@ -133,11 +136,11 @@ fn fail_and_repeat(
     } else {
         SystemFault::After
     };
-    let done = create(rt, &mut system, host, b"/home", 1);
+    let done = create(&mut system, host, b"/home", 1);
     assert!(rt; done == Ok(Err(want)), "call {call}");
     // What failed before the gate was written can be tried again, and what failed after it can't.
     let calls = host.calls();
-    let again = create(rt, &mut system, host, b"/home", 1);
+    let again = create(&mut system, host, b"/home", 1);
     let right = if call < 4 {
         again == Ok(Ok(()))
     } else {
@@ -177,7 +180,7 @@ const CREATIONS: [(&[u8], u32, Result<Result<(), SystemFault>, Refusal>); 7] = [
 
 fn create_each(rt: &impl Abort, system: &mut System, host: &mut MemHost) {
     for (text, groups, want) in &CREATIONS {
-        let made = create(rt, system, host, text, *groups);
+        let made = create(system, host, text, *groups);
         assert!(rt; made == *want, "{groups} groups: {made:?}");
     }
 }
@@ -191,19 +194,20 @@ const GROWTHS: [(u32, Result<Result<(), SystemFault>, Refusal>); 3] = [
 
 fn grow_each(rt: &impl Abort, system: &mut System, host: &mut MemHost) {
     for (groups, want) in &GROWTHS {
-        let grown = grow(rt, system, host, 0, *groups);
+        let grown = grow(system, host, 0, *groups);
         assert!(rt; grown == *want, "{groups} groups: {grown:?}");
     }
 }
 
 /// Deletes the cube in slot 1, and takes that in slot 0 offline.
 fn delete_and_mark(rt: &impl Abort, system: &mut System, host: &mut MemHost) {
-    assert_eq!(rt; delete(rt, system, host, 1), Ok(()));
-    assert_eq!(rt; offline(rt, system, host, 0), Ok(()));
+    let deleted = delete(system, host, 1);
+    let marked = offline(system, host, 0);
     // A mark that the cube has already needs no call.
     let calls = host.calls();
-    assert_eq!(rt; offline(rt, system, host, 0), Ok(()));
-    assert_eq!(rt; host.calls(), calls);
+    let again = offline(system, host, 0);
+    assert_eq!(rt; [deleted, marked, again], [Some(Ok(())); 3]);
+    assert!(rt; host.calls() == calls);
 }
 
 fn change_each(rt: &impl Abort, alloc: Global, host: &mut MemHost) -> Result<(), Fail> {
@@ -226,38 +230,40 @@ fn a_cube_is_refused_in_order(rt: HostRuntime) -> Result<(), Fail> {
     Ok(())
 }
 
+/// Gives a cube further groups. NoCube: there is none; Fault: the disk is too small.
 fn grow(
-    rt: &impl Abort,
     system: &mut System,
     host: &mut MemHost,
     slot: u8,
     groups: u32,
 ) -> Result<Result<(), SystemFault>, Refusal> {
-    assert!(rt; slot < system.slots() && system.names().path(slot).is_some() && groups >= 1);
+    if slot >= system.slots() || system.names().path(slot).is_none() || groups < 1 {
+        return Err(Refusal::NoCube);
+    }
     let lot = system.plan_grow(slot, groups)?;
-    assert!(rt; system.total() <= host.blocks());
+    if system.total() > host.blocks() {
+        return Err(Refusal::Fault);
+    }
     Ok(system.grow(host, slot, &lot))
 }
 
-fn delete(
-    rt: &impl Abort,
-    system: &mut System,
-    host: &mut MemHost,
-    slot: u8,
-) -> Result<(), SystemFault> {
-    assert!(rt; slot < system.slots() && system.total() <= host.blocks());
-    system.delete(host, slot)
+/// Deletes the cube of a slot. None: there is no such slot, or the disk is too small.
+fn delete(system: &mut System, host: &mut MemHost, slot: u8) -> Option<Result<(), SystemFault>> {
+    if slot >= system.slots() || system.total() > host.blocks() {
+        return None;
+    }
+    Some(system.delete(host, slot))
 }
 
-fn offline(
-    rt: &impl Abort,
-    system: &mut System,
-    host: &mut MemHost,
-    slot: u8,
-) -> Result<(), SystemFault> {
-    assert!(rt; slot < system.slots() && system.names().path(slot).is_some());
-    assert!(rt; system.total() <= host.blocks());
-    system.set_mark(host, slot, Mark::Offline)
+/// Takes a cube offline. None: there is none, or the disk is too small.
+fn offline(system: &mut System, host: &mut MemHost, slot: u8) -> Option<Result<(), SystemFault>> {
+    if slot >= system.slots() || system.names().path(slot).is_none() {
+        return None;
+    }
+    if system.total() > host.blocks() {
+        return None;
+    }
+    Some(system.set_mark(host, slot, Mark::Offline))
 }
 
 fn refused(alloc: Global, host: &mut MemHost) -> Option<TablesFault> {
