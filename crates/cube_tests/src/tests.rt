@@ -42,55 +42,75 @@ fn session<D: Disk>(
     Ok((done, synced, unmounted))
 }
 
+/// What `make` answers of the lot, which has two groups. What it promises stays behind.
+fn made(rt: &impl Abort, alloc: Global, host: &mut MemHost) -> Result<u64, MakeFault> {
+    make(rt, alloc, host, &two_groups())
+}
+
+/// What `session` answers of it, and the good writes that it made.
+fn played(
+    rt: &impl Abort,
+    alloc: Global,
+    host: &mut MemHost,
+) -> (
+    Result<(u64, Result<u64, Refusal>, Result<u64, Refusal>), CubeFault>,
+    u64,
+) {
+    let writes = host.writes();
+    let found = session(rt, alloc, host, &two_groups());
+    (found, host.writes().saturating_sub(writes))
+}
+
+/// A made cube is there, and what a crash then leaves: the bytes of a lost block would be 255.
+fn make_and_crash(rt: &impl Abort, alloc: Global, host: &mut MemHost) -> Result<MemHost, Fail> {
+    let count = made(rt, alloc, host);
+    let calls = [host.calls(), host.reads(), host.writes(), host.barriers()];
+    assert_eq!(rt; (count, calls), (Ok(0), [MAKE, 0, 20, 1]));
+    if host.calls() < MAKE {
+        return Err(Fail::new("too few calls"));
+    }
+    Ok(host.crashed(alloc, MAKE, 3)?)
+}
+
 #[test]
 fn a_made_cube_is_mounted_again(rt: HostRuntime) -> Result<(), Fail> {
-    let lot = two_groups();
     let mut host = MemHost::new(rt.alloc(), BLOCKS)?;
-    assert_eq!(rt; make(&rt, rt.alloc(), &mut host, &lot), Ok(0));
-    assert_eq!(rt;
-        (host.calls(), host.reads(), host.writes(), host.barriers()),
-        (MAKE, 0, 20, 1)
-    );
-    // Settled, so that a crash leaves it: the bytes of a lost block would be 255.
-    let mut left = host.crashed(rt.alloc(), MAKE, 3)?;
-    mounts_empty(&rt, rt.alloc(), &mut host, &lot);
-    mounts_empty(&rt, rt.alloc(), &mut left, &lot);
+    let mut left = make_and_crash(&rt, rt.alloc(), &mut host)?;
+    // A session finds no accepted command, and writes nothing.
+    let empty = (Ok((0, Ok(0), Ok(0))), 0);
+    assert!(rt; played(&rt, rt.alloc(), &mut host) == empty);
+    assert!(rt; played(&rt, rt.alloc(), &mut left) == empty);
     Ok(())
 }
 
-/// A session finds no accepted command, and writes nothing.
-fn mounts_empty(rt: &impl Abort, alloc: Global, host: &mut MemHost, lot: &Lot)
-    requires { is_sited lot.now 800 ≡ true }
-{
-    let writes = host.writes();
-    let found = session(rt, alloc, host, lot);
-    assert_eq!(rt; found, Ok((0, Ok(0), Ok(0))));
-    assert_eq!(rt; host.writes(), writes);
+/// What `make` answers where this call fails, and the calls.
+fn made_at(
+    rt: &impl Abort,
+    alloc: Global,
+    call: u64,
+) -> Result<(Result<u64, MakeFault>, u64), Fail> {
+    let mut host = MemHost::new(alloc, BLOCKS)?;
+    host.fail_at(call)?;
+    let found = made(rt, alloc, &mut host);
+    Ok((found, host.calls()))
 }
 
 #[test]
-fn each_failing_call_and_each_damage_is_named(rt: HostRuntime) -> Result<(), Fail> {
-    let lot = two_groups();
+fn each_failing_call_of_a_making_is_named(rt: HostRuntime) -> Result<(), Fail> {
     for call in 0..MAKE {
-        let mut host = MemHost::new(rt.alloc(), BLOCKS)?;
-        host.fail_at(call)?;
-        assert_eq!(rt;
-            make(&rt, rt.alloc(), &mut host, &lot),
-            Err(MakeFault::Disk),
-            "call {call}"
-        );
-        assert_eq!(rt; host.calls(), call + 1);
+        let found = made_at(&rt, rt.alloc(), call)?;
+        assert!(rt; found == (Err(MakeFault::Disk), call + 1), "call {call}");
     }
+    Ok(())
+}
+
+#[test]
+fn what_is_no_cube_is_named(rt: HostRuntime) -> Result<(), Fail> {
     let mut zeros = MemHost::new(rt.alloc(), BLOCKS)?;
-    assert_eq!(rt;
-        session(&rt, rt.alloc(), &mut zeros, &lot),
-        Err(CubeFault::Damaged(Rule::Magic))
-    );
-    assert_eq!(rt; zeros.writes(), 0);
+    let (found, writes) = played(&rt, rt.alloc(), &mut zeros);
+    assert!(rt; found == Err(CubeFault::Damaged(Rule::Magic)) && writes == 0);
     zeros.fail_at(zeros.calls())?;
-    assert_eq!(rt;
-        session(&rt, rt.alloc(), &mut zeros, &lot),
-        Err(CubeFault::Disk)
-    );
+    let (found, _) = played(&rt, rt.alloc(), &mut zeros);
+    assert!(rt; found == Err(CubeFault::Disk));
     Ok(())
 }

@@ -72,27 +72,64 @@ fn name_of(text: &[u8]) -> Result<Name, Fail> {
     Ok(Name::new(text).ok_or("no name")?)
 }
 
+/// Adds `a` to `q` with the inodes 2 to 18.
+fn add_seventeen(rt: &impl Abort, host: &mut MemHost) -> Result<(), Fail> {
+    for i in 0..17u8 {
+        let name = name_of(&[b'a' + i])?;
+        add_row(rt, host, &name, u32::from(i) + 2)?;
+    }
+    Ok(())
+}
+
+/// Takes `a` out twice, so that `q` moves into its place.
+fn take_first(rt: &impl Abort, host: &mut MemHost) -> Result<(), Fail> {
+    let first = name_of(b"a")?;
+    let last = name_of(b"q")?;
+    let mut into = name_of(b"-")?;
+    let found = find_row(rt, host, &last)?;
+    let end = row_is(rt, host, 16, &last, &mut into)?;
+    let taken = take_row(rt, host, &first)?;
+    let moved = row_is(rt, host, 0, &last, &mut into)?;
+    assert_eq!(rt;
+        (found, end, taken, moved),
+        (Some(18), (18, true), Some(2), (18, true))
+    );
+    let shapes = shape(rt, host)?;
+    let again = take_row(rt, host, &first)?;
+    let found = find_row(rt, host, &first)?;
+    assert_eq!(rt;
+        (shapes, again, found, shape(rt, host)?),
+        ((16, 493), None, None, (16, 493))
+    );
+    Ok(())
+}
+
 #[test]
 fn the_last_of_seventeen_entries_moves_into_the_gap(rt: HostRuntime) -> Result<(), Fail> {
     let mut host = MemHost::new(rt.alloc(), 800)?;
     make_fresh(&rt, &mut host);
-    assert_eq!(rt; shape(&rt, &mut host)?, (0, 494));
-    for i in 0..17u8 {
-        let name = name_of(&[b'a' + i])?;
-        add_row(&rt, &mut host, &name, u32::from(i) + 2)?;
-    }
-    assert_eq!(rt; shape(&rt, &mut host)?, (17, 492));
-    let first = name_of(b"a")?;
-    let last = name_of(b"q")?;
+    let before = shape(&rt, &mut host)?;
+    add_seventeen(&rt, &mut host)?;
+    let after = shape(&rt, &mut host)?;
+    assert_eq!(rt; (before, after), ((0, 494), (17, 492)));
+    take_first(&rt, &mut host)
+}
+
+/// Adds names of 1 byte and of 59, and finds these, but none of 58.
+fn add_two(rt: &impl Abort, host: &mut MemHost) -> Result<(), Fail> {
+    let long = name_of(&[b'x'; 59])?;
+    let shorter = name_of(&[b'x'; 58])?;
+    let short = name_of(b"x")?;
     let mut into = name_of(b"-")?;
-    assert_eq!(rt; find_row(&rt, &mut host, &last)?, Some(18));
-    assert_eq!(rt; row_is(&rt, &mut host, 16, &last, &mut into)?, (18, true));
-    assert_eq!(rt; take_row(&rt, &mut host, &first)?, Some(2));
-    assert_eq!(rt; row_is(&rt, &mut host, 0, &last, &mut into)?, (18, true));
-    assert_eq!(rt; shape(&rt, &mut host)?, (16, 493));
-    assert_eq!(rt; take_row(&rt, &mut host, &first)?, None);
-    assert_eq!(rt; find_row(&rt, &mut host, &first)?, None);
-    assert_eq!(rt; shape(&rt, &mut host)?, (16, 493));
+    add_row(rt, host, &short, 1)?;
+    add_row(rt, host, &long, 2)?;
+    let found = [
+        find_row(rt, host, &long)?,
+        find_row(rt, host, &short)?,
+        find_row(rt, host, &shorter)?,
+    ];
+    assert_eq!(rt; found, [Some(2), Some(1), None]);
+    assert_eq!(rt; row_is(rt, host, 1, &long, &mut into)?, (2, true));
     Ok(())
 }
 
@@ -100,36 +137,18 @@ fn the_last_of_seventeen_entries_moves_into_the_gap(rt: HostRuntime) -> Result<(
 fn names_have_1_to_59_bytes(rt: HostRuntime) -> Result<(), Fail> {
     let mut host = MemHost::new(rt.alloc(), 800)?;
     make_fresh(&rt, &mut host);
-    let long = name_of(&[b'x'; 59])?;
-    let shorter = name_of(&[b'x'; 58])?;
-    let short = name_of(b"x")?;
-    let mut into = name_of(b"-")?;
-    add_row(&rt, &mut host, &short, 1)?;
-    add_row(&rt, &mut host, &long, 2)?;
-    assert_eq!(rt; find_row(&rt, &mut host, &long)?, Some(2));
-    assert_eq!(rt; find_row(&rt, &mut host, &short)?, Some(1));
-    assert_eq!(rt; find_row(&rt, &mut host, &shorter)?, None);
-    assert_eq!(rt; row_is(&rt, &mut host, 1, &long, &mut into)?, (2, true));
-    Ok(())
+    add_two(&rt, &mut host)
 }
 
 #[test]
 fn what_is_no_directory_is_named(rt: HostRuntime) -> Result<(), Fail> {
-    let mut mute = MuteHost {
-        host: MemHost::new(rt.alloc(), 800)?,
-    };
+    let host = MemHost::new(rt.alloc(), 800)?;
+    let mut mute = MuteHost { host };
     let name = name_of(b"x")?;
-    assert_eq!(rt;
-        find_row(&rt, &mut mute, &name),
-        Err(OpFault::Damaged(Rule::Kind))
-    );
-    assert_eq!(rt;
-        take_row(&rt, &mut mute, &name),
-        Err(OpFault::Damaged(Rule::Kind))
-    );
-    assert_eq!(rt;
-        add_row(&rt, &mut mute, &name, 1),
-        Err(OpFault::Damaged(Rule::Kind))
-    );
+    let kind = OpFault::Damaged(Rule::Kind);
+    let found = find_row(&rt, &mut mute, &name);
+    let taken = take_row(&rt, &mut mute, &name);
+    let added = add_row(&rt, &mut mute, &name, 1);
+    assert_eq!(rt; (found, taken, added), (Err(kind), Err(kind), Err(kind)));
     Ok(())
 }

@@ -112,7 +112,7 @@ fn inode<D: Disk>(rt: &impl Abort, disk: &mut D) -> Result<Inode, OpFault> {
 }
 
 /// How many blocks are free, the size, and the pointers 0, 1, 11 and to the indirect block.
-fn shape<D: Disk>(rt: &impl Abort, disk: &mut D) -> (u32, u32, u32, u32, u32, u32) {
+fn shape<D: Disk>(rt: &impl Abort, disk: &mut D) -> Shape {
     assert!(rt; disk.blocks() == 800);
     let free = BitPool::new().free_blocks(&mut ThroughKeep::new(), disk, &lot());
     let inode = inode(rt, disk);
@@ -142,7 +142,7 @@ fn read_pieces<D: Disk>(
     let mut at = from;
     for chunk in bytes.chunks(piece) {
         let _read = read(rt, disk, at, piece, room);
-        assert_eq!(rt; room.bytes(), chunk, "at {at}");
+        assert!(rt; room.bytes() == chunk, "at {at}");
         at = at.saturating_add(chunk.len());
     }
 }
@@ -151,8 +151,49 @@ fn read_pieces<D: Disk>(
 fn write_all<D: Disk>(rt: &impl Abort, disk: &mut D, bytes: &[u8]) {
     let mut at = 0usize;
     for chunk in bytes.chunks(16384) {
-        assert_eq!(rt; write(rt, disk, at, chunk), Ok(()), "at {at}");
+        let written = write(rt, disk, at, chunk);
+        assert!(rt; written == Ok(()), "at {at}");
         at = at.saturating_add(chunk.len());
+    }
+}
+
+/// How many blocks are free, the size, and four pointers, as `shape` gives them.
+type Shape = (u32, u32, u32, u32, u32, u32);
+
+/// Lengths to which the file is cut, one after the other, and its shape then.
+const CUTS: [(u32, Shape); 4] = [
+    (12_289, (480, 12_289, 9, 10, 20, 22)),
+    (12_288, (482, 12_288, 9, 10, 20, 0)),
+    (1, (493, 1, 9, 0, 0, 0)),
+    (0, (494, 0, 0, 0, 0, 0)),
+];
+
+/// Writes the whole file.
+fn write_file(rt: &impl Abort, disk: &mut MemHost, bytes: &[u8]) {
+    make_fresh(rt, disk);
+    let before = shape(rt, disk);
+    write_all(rt, disk, bytes);
+    let after = shape(rt, disk);
+    assert_eq!(rt;
+        (before, after),
+        ((494, 0, 0, 0, 0, 0), (225, 274_432, 9, 10, 20, 22))
+    );
+}
+
+const PIECES: [usize; 5] = [1, 1023, 1024, 1025, 16384];
+
+fn read_file(rt: &impl Abort, disk: &mut MemHost, room: &mut Room, bytes: &[u8]) {
+    for piece in &PIECES {
+        read_pieces(rt, disk, room, bytes, 0, *piece);
+    }
+}
+
+fn cut_file(rt: &impl Abort, disk: &mut MemHost, room: &mut Room, bytes: &[u8]) {
+    for (len, want) in &CUTS {
+        let done = cut(rt, disk, *len);
+        assert!(rt; done == Ok(()) && shape(rt, disk) == *want, "{len} bytes");
+        assert!(rt; bytes.len() >= *len as usize);
+        read_pieces(rt, disk, room, &bytes[..*len as usize], 0, 1025);
     }
 }
 
@@ -161,50 +202,89 @@ fn the_longest_file_is_written_read_and_cut(rt: HostRuntime) -> Result<(), Fail>
     let mut disk = MemHost::new(rt.alloc(), 800)?;
     let mut room = Room::new(rt.alloc())?;
     let bytes = bytes(rt.alloc())?;
-    make_fresh(&rt, &mut disk);
-    assert_eq!(rt; shape(&rt, &mut disk), (494, 0, 0, 0, 0, 0));
-    write_all(&rt, &mut disk, &bytes);
-    assert_eq!(rt; shape(&rt, &mut disk), (225, 274_432, 9, 10, 20, 22));
-    for piece in [1, 1023, 1024, 1025, 16384] {
-        read_pieces(&rt, &mut disk, &mut room, &bytes, 0, piece);
-    }
-    for (len, want) in [
-        (12_289, (480, 12_289, 9, 10, 20, 22)),
-        (12_288, (482, 12_288, 9, 10, 20, 0)),
-        (1, (493, 1, 9, 0, 0, 0)),
-        (0, (494, 0, 0, 0, 0, 0)),
-    ] {
-        assert_eq!(rt; cut(&rt, &mut disk, len), Ok(()));
-        assert_eq!(rt; shape(&rt, &mut disk), want);
-        assert!(rt; bytes.len() >= len as usize);
-        read_pieces(&rt, &mut disk, &mut room, &bytes[..len as usize], 0, 1025);
-    }
+    write_file(&rt, &mut disk, &bytes);
+    read_file(&rt, &mut disk, &mut room, &bytes);
+    cut_file(&rt, &mut disk, &mut room, &bytes);
     Ok(())
+}
+
+/// Writes 1,030 bytes, and nothing before and behind them.
+fn write_short(rt: &impl Abort, disk: &mut MemHost) {
+    make_fresh(rt, disk);
+    let written = [
+        write(rt, disk, 0, &[]),
+        write(rt, disk, 0, &[7; 1030]),
+        write(rt, disk, 1030, &[]),
+    ];
+    assert_eq!(rt; written, [Ok(()); 3]);
+    assert_eq!(rt; shape(rt, disk), (492, 1030, 9, 10, 0, 0));
+}
+
+/// Places and lengths of reads of that file, and how many bytes are read.
+const READS: [(usize, usize, usize); 4] = [(1030, 1, 0), (1029, 9, 1), (1020, 9, 9), (0, 0, 0)];
+
+fn read_short(rt: &impl Abort, disk: &mut MemHost, room: &mut Room) {
+    for (at, len, want) in &READS {
+        let done = read(rt, disk, *at, *len, room);
+        assert!(rt; done == Ok(()) && room.bytes().len() == *want, "at {at}");
+    }
+}
+
+/// What calls past the end of that file answer.
+fn past_end(rt: &impl Abort, disk: &mut MemHost, room: &mut Room) {
+    let kind = OpFault::Damaged(Rule::Kind);
+    let found = [
+        read(rt, disk, 1031, 0, room),
+        write(rt, disk, 1031, b"x"),
+        cut(rt, disk, 1031),
+    ];
+    assert_eq!(rt; found, [Err(kind); 3]);
+}
+
+/// Cuts that file, and writes over its end.
+fn write_over_end(rt: &impl Abort, disk: &mut MemHost, room: &mut Room) {
+    let done = [
+        cut(rt, disk, 1022),
+        write(rt, disk, 1021, b"abcd"),
+        read(rt, disk, 1019, 100, room),
+    ];
+    assert_eq!(rt; done, [Ok(()); 3]);
+    assert_eq!(rt; room.bytes(), b"\x07\x07abcd".as_slice());
+    assert_eq!(rt; shape(rt, disk), (492, 1025, 9, 10, 0, 0));
 }
 
 #[test]
 fn the_end_is_exact(rt: HostRuntime) -> Result<(), Fail> {
     let mut disk = MemHost::new(rt.alloc(), 800)?;
     let mut room = Room::new(rt.alloc())?;
-    make_fresh(&rt, &mut disk);
-    assert_eq!(rt; write(&rt, &mut disk, 0, &[]), Ok(()));
-    assert_eq!(rt; write(&rt, &mut disk, 0, &[7; 1030]), Ok(()));
-    assert_eq!(rt; write(&rt, &mut disk, 1030, &[]), Ok(()));
-    assert_eq!(rt; shape(&rt, &mut disk), (492, 1030, 9, 10, 0, 0));
-    for (at, len, want) in [(1030, 1, 0), (1029, 9, 1), (1020, 9, 9), (0, 0, 0)] {
-        assert_eq!(rt; read(&rt, &mut disk, at, len, &mut room), Ok(()));
-        assert_eq!(rt; room.bytes().len(), want);
-    }
-    let past = Err(OpFault::Damaged(Rule::Kind));
-    assert_eq!(rt; read(&rt, &mut disk, 1031, 0, &mut room), past);
-    assert_eq!(rt; write(&rt, &mut disk, 1031, b"x"), past);
-    assert_eq!(rt; cut(&rt, &mut disk, 1031), past);
-    assert_eq!(rt; cut(&rt, &mut disk, 1022), Ok(()));
-    assert_eq!(rt; write(&rt, &mut disk, 1021, b"abcd"), Ok(()));
-    assert_eq!(rt; read(&rt, &mut disk, 1019, 100, &mut room), Ok(()));
-    assert_eq!(rt; room.bytes(), b"\x07\x07abcd".as_slice());
-    assert_eq!(rt; shape(&rt, &mut disk), (492, 1025, 9, 10, 0, 0));
+    write_short(&rt, &mut disk);
+    read_short(&rt, &mut disk, &mut room);
+    past_end(&rt, &mut disk, &mut room);
+    write_over_end(&rt, &mut disk, &mut room);
     Ok(())
+}
+
+/// What a read, a write at this place and a cut answer.
+fn answers(
+    rt: &impl Abort,
+    disk: &mut MuteHost,
+    room: &mut Room,
+    at: usize,
+) -> [Result<(), OpFault>; 3] {
+    [
+        read(rt, disk, 0, 1, room),
+        write(rt, disk, at, b"x"),
+        cut(rt, disk, 0),
+    ]
+}
+
+/// Inode 1 is a file of five bytes whose first block is 8, which holds no data.
+fn put_foreign(rt: &impl Abort, disk: &mut MuteHost) {
+    let mut inodes = [0; 1024];
+    inodes[128] = 1;
+    inodes[132] = 5;
+    inodes[136] = 8;
+    put_block(rt, disk, 289, &inodes);
 }
 
 #[test]
@@ -212,20 +292,12 @@ fn a_foreign_inode_is_named(rt: HostRuntime) -> Result<(), Fail> {
     let host = MemHost::new(rt.alloc(), 800)?;
     let mut disk = MuteHost { host };
     let mut room = Room::new(rt.alloc())?;
-    let kind = Err(OpFault::Damaged(Rule::Kind));
-    assert_eq!(rt; read(&rt, &mut disk, 0, 1, &mut room), kind);
-    assert_eq!(rt; write(&rt, &mut disk, 0, b"x"), kind);
-    assert_eq!(rt; cut(&rt, &mut disk, 0), kind);
+    let kind = OpFault::Damaged(Rule::Kind);
+    assert_eq!(rt; answers(&rt, &mut disk, &mut room, 0), [Err(kind); 3]);
     make_fresh(&rt, &mut disk);
     assert_eq!(rt; write(&rt, &mut disk, 0, b"x"), Ok(()));
-    let mut inodes = [0; 1024];
-    inodes[128] = 1;
-    inodes[132] = 5;
-    inodes[136] = 8;
-    put_block(&rt, &mut disk, 289, &inodes);
-    let pointer = Err(OpFault::Damaged(Rule::Pointer));
-    assert_eq!(rt; read(&rt, &mut disk, 0, 1, &mut room), pointer);
-    assert_eq!(rt; write(&rt, &mut disk, 4, b"x"), pointer);
-    assert_eq!(rt; cut(&rt, &mut disk, 0), pointer);
+    put_foreign(&rt, &mut disk);
+    let pointer = OpFault::Damaged(Rule::Pointer);
+    assert_eq!(rt; answers(&rt, &mut disk, &mut room, 4), [Err(pointer); 3]);
     Ok(())
 }

@@ -28,49 +28,71 @@ fn put(set: &mut WriteSet, at: u32, number: u32) -> bool {
     true
 }
 
-/// The addresses and numbers of a set, from its first entry on, are these.
-fn check_entries(rt: &impl Abort, set: &WriteSet, wanted: &[(u32, u32)]) {
-    assert_eq!(rt; set.len() as usize, wanted.len());
+/// Whether the addresses and numbers of a set, from its first entry on, are these.
+fn has_entries(set: &WriteSet, wanted: &[(u32, u32)]) -> bool {
+    if set.len() as usize != wanted.len() {
+        return false;
+    }
     for (i, (at, number)) in wanted.iter().enumerate() {
-        if (i as u32) < set.len() {
-            assert_eq!(rt; set.address(i as u32), *at, "at {i}");
-            assert_eq!(rt; read_u32(set.block(i as u32), 1020), *number, "at {i}");
+        if i as u32 >= set.len() || !is_entry(set, i as u32, *at, *number) {
+            return false;
         }
+    }
+    true
+}
+
+/// Whether an entry has this address, and its block this number.
+fn is_entry(set: &WriteSet, i: u32, at: u32, number: u32) -> bool {
+    i < set.len() && set.address(i) == at && read_u32(set.block(i), 1020) == number
+}
+
+/// Fills a set to its last space.
+fn fill(rt: &impl Abort, set: &mut WriteSet) {
+    for i in 0..240 {
+        assert!(rt; put(set, 16383 - 7 * i, i), "at {i}");
+    }
+    assert_eq!(rt; (set.len(), set.spare()), (240, 0));
+    assert!(rt; !put(set, 5, 5));
+}
+
+fn find_all(rt: &impl Abort, set: &WriteSet) {
+    for i in 0..240 {
+        let found = (said(set, 16383 - 7 * i), said(set, 16384 - 7 * i));
+        assert!(rt; found == (Some(i), None), "at {i}");
     }
 }
 
 #[test]
 fn a_write_set_has_space_for_240_blocks(rt: HostRuntime) -> Result<(), Fail> {
     let mut set = WriteSet::new(rt.alloc())?;
-    for i in 0..240 {
-        assert!(rt; put(&mut set, 16383 - 7 * i, i), "at {i}");
-    }
-    assert_eq!(rt; (set.len(), set.spare()), (240, 0));
-    assert!(rt; !put(&mut set, 5, 5));
-    for i in 0..240 {
-        assert_eq!(rt; said(&set, 16383 - 7 * i), Some(i), "at {i}");
-        assert_eq!(rt; said(&set, 16384 - 7 * i), None, "at {i}");
-    }
+    fill(&rt, &mut set);
+    find_all(&rt, &set);
     set.clear();
     assert_eq!(rt; (set.len(), set.spare(), said(&set, 16383)), (0, 240, None));
     Ok(())
 }
 
+const PUTS: [(u32, u32); 5] = [(8, 1), (0xFFFF_FFFF, 2), (11, 3), (8, 4), (12, 5)];
+
+fn put_each(rt: &impl Abort, set: &mut WriteSet) {
+    for (at, number) in &PUTS {
+        assert!(rt; put(set, *at, *number), "at {at}");
+    }
+    assert!(rt; has_entries(set, &[(8, 4), (0xFFFF_FFFF, 2), (11, 3), (12, 5)]));
+    set.drop_address(0xFFFF_FFFF);
+    set.drop_address(9);
+    assert!(rt; has_entries(set, &[(8, 4), (11, 3), (12, 5)]));
+}
+
 #[test]
 fn a_write_set_keeps_one_block_an_address(rt: HostRuntime) -> Result<(), Fail> {
     let mut set = WriteSet::new(rt.alloc())?;
-    for (at, number) in [(8, 1), (0xFFFF_FFFF, 2), (11, 3), (8, 4), (12, 5)] {
-        assert!(rt; put(&mut set, at, number), "at {at}");
-    }
-    check_entries(&rt, &set, &[(8, 4), (0xFFFF_FFFF, 2), (11, 3), (12, 5)]);
-    set.drop_address(0xFFFF_FFFF);
-    set.drop_address(9);
-    check_entries(&rt, &set, &[(8, 4), (11, 3), (12, 5)]);
+    put_each(&rt, &mut set);
     let mut other = WriteSet::with_space(rt.alloc(), 2)?;
     assert!(rt; put(&mut other, 77, 6));
     set.swap_with(&mut other);
-    check_entries(&rt, &set, &[(77, 6)]);
-    check_entries(&rt, &other, &[(8, 4), (11, 3), (12, 5)]);
+    assert!(rt; has_entries(&set, &[(77, 6)]));
+    assert!(rt; has_entries(&other, &[(8, 4), (11, 3), (12, 5)]));
     assert_eq!(rt; (set.spare(), other.spare()), (1, 237));
     Ok(())
 }

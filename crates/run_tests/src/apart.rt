@@ -37,12 +37,18 @@ const CUBES: [&str; 3] = ["/a", "/b", "/c"];
 /// The session: each line for each of the cubes.
 fn script(alloc: Global) -> Result<String, Fail> {
     let mut script = String::new(alloc);
-    for (line, _) in LINES {
-        for cube in CUBES {
-            add_line(&mut script, line, cube)?;
-        }
+    for (line, _) in &LINES {
+        add_lines(&mut script, line)?;
     }
     Ok(script)
+}
+
+/// The line for each of the cubes.
+fn add_lines(script: &mut String, line: &str) -> Result<(), Fail> {
+    for cube in &CUBES {
+        add_line(script, line, cube)?;
+    }
+    Ok(())
 }
 
 fn add_line(script: &mut String, line: &str, cube: &str) -> Result<(), Fail> {
@@ -151,6 +157,17 @@ fn leaves_whole(alloc: Global, host: &mut MemHost, felt: Felt) -> Result<bool, F
     Ok(status == Status::Done && are_whole(replies, felt))
 }
 
+/// Why a session on a host with a failing call isn't as it should be.
+fn judged(alloc: Global, host: &mut MemHost, script: &str) -> Result<Option<Status>, Fail> {
+    let status = session(alloc, host, script.as_bytes())?;
+    let (felt, count) = replies_of(host.output())?;
+    let whole = status != Status::Done || leaves_whole(alloc, host, felt)?;
+    if whole && is_right(status, felt, count) {
+        return Ok(None);
+    }
+    Ok(Some(status))
+}
+
 /// Why the session with this failing call isn't as it should be.
 fn complaint(
     alloc: Global,
@@ -160,22 +177,23 @@ fn complaint(
 ) -> Result<Option<Status>, Fail> {
     let mut host = copy_of(alloc, fresh)?;
     host.fail_at(call)?;
-    let status = session(alloc, &mut host, script.as_bytes())?;
-    let (felt, count) = replies_of(host.output())?;
-    let whole = status != Status::Done || leaves_whole(alloc, &mut host, felt)?;
-    if whole && is_right(status, felt, count) {
-        return Ok(None);
-    }
-    Ok(Some(status))
+    judged(alloc, &mut host, script)
+}
+
+/// The calls of the session where none fails.
+fn good_calls(rt: &impl Abort, alloc: Global, script: &str) -> Result<u64, Fail> {
+    let good = after(alloc, script.as_bytes())?;
+    let found = replies_of(good.output())?;
+    assert_eq!(rt; found, (Felt::Nobody, 60));
+    Ok(good.calls())
 }
 
 /// Asserts that every third call from this one on may fail.
 fn try_calls(rt: &impl Abort, alloc: Global, first: u64) -> Result<(), Fail> {
     let script = script(alloc)?;
-    let good = after(alloc, script.as_bytes())?;
-    assert_eq!(rt; replies_of(good.output())?, (Felt::Nobody, 60));
+    let calls = good_calls(rt, alloc, script.as_str())?;
     let fresh = small(alloc)?;
-    for call in (first..good.calls()).step_by(3) {
+    for call in (first..calls).step_by(3) {
         let wrong = complaint(alloc, &fresh, script.as_str(), call)?;
         assert!(rt; wrong.is_none(), "call {call}: {wrong:?}");
     }

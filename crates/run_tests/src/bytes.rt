@@ -6,7 +6,6 @@ use ice_layout::{
     LayoutFault, SubSuper, Super, fresh_block, fresh_group, read_sub, read_super, write_sub,
     write_super,
 };
-use std::test::Fail;
 
 const FRESH_SUB: [u8; 32] = [
     0x49, 0x63, 0x65, 0x43, 1, 0, 0, 0, 0, 0, 0, 0, 0, 0, 0, 0, 0, 0, 0, 0, 0, 0, 0, 0, 0, 0, 0, 0,
@@ -44,86 +43,124 @@ fn sub_block(done: u64, blocks: u32, nodes: u32) -> Block
 }
 
 #[test]
-fn sub_super_blocks_have_their_bytes(rt: HostRuntime) -> Result<(), Fail> {
+fn sub_super_blocks_have_their_bytes(rt: HostRuntime) {
     let fresh = sub_block(0, 0, 1);
     assert_eq!(rt; part(&fresh, 0, 32), FRESH_SUB.as_slice());
     assert!(rt; part(&fresh, 32, 1024).iter().all(|byte| *byte == 0));
     let later = sub_block(1, 1, 2);
     assert_eq!(rt; part(&later, 16, 32), SUB_AFTER_MKDIR.as_slice());
-    assert_eq!(rt; read_sub(&later, 0)?, sub_of(1, 1, 2));
-    Ok(())
+    assert!(rt; read_sub(&later, 0) == Ok(sub_of(1, 1, 2)));
+}
+
+/// Bytes of a sub-super block, each with the rule that it breaks where it is changed.
+const RULES: [(usize, Rule); 7] = [
+    (0, Rule::Magic),
+    (3, Rule::Magic),
+    (4, Rule::Version),
+    (7, Rule::Version),
+    (8, Rule::Slot),
+    (9, Rule::Mode),
+    (23, Rule::Done),
+];
+
+/// The rule that a sub-super block breaks in which this byte is changed.
+fn broken_at(at: usize) -> Option<Rule> {
+    let mut block = sub_block(5, 6, 7);
+    if at < 1024 {
+        block[at] = 0x80;
+    }
+    read_sub(&block, 0).err()
 }
 
 #[test]
 fn a_changed_byte_breaks_its_rule_first(rt: HostRuntime) {
-    let rows = [
-        (0, Rule::Magic),
-        (3, Rule::Magic),
-        (4, Rule::Version),
-        (7, Rule::Version),
-        (8, Rule::Slot),
-        (9, Rule::Mode),
-        (23, Rule::Done),
-    ];
-    for (at, rule) in rows {
-        let mut block = sub_block(5, 6, 7);
-        assert!(rt; at < 1024);
-        block[at] = 0x80;
-        assert_eq!(rt; read_sub(&block, 0), Err(rule), "byte {at}");
+    for (at, rule) in &RULES {
+        assert!(rt; broken_at(*at) == Some(*rule), "byte {at}");
     }
-    assert_eq!(rt; read_sub(&[0xff; 1024], 0), Err(Rule::Magic));
+    assert!(rt; read_sub(&[0xff; 1024], 0) == Err(Rule::Magic));
+}
+
+/// Places of a group, the first or a later one, with the bytes 0, 1 and 32 of their blocks and how many bytes aren't 0.
+const GROUPS: [(bool, u32, [u8; 3], usize); 10] = [
+    (true, 0, [0xff, 1, 1], 3),
+    (false, 0, [0xff, 1, 0], 2),
+    (true, 1, [2, 0, 0], 1),
+    (true, 2, [0; 3], 0),
+    (true, 3, [0; 3], 0),
+    (true, 4, [0; 3], 0),
+    (true, 5, [0; 3], 0),
+    (true, 6, [0; 3], 0),
+    (true, 7, [0; 3], 0),
+    (true, 8, [0; 3], 0),
+];
+
+/// The bytes 0, 1 and 32 of a fresh group's block, and how many of its bytes aren't 0.
+fn group_bytes(first: bool, place: u32) -> ([u8; 3], usize) {
+    let mut block = [7; 1024];
+    if place < 9 {
+        fresh_group(first, place, &mut block);
+    }
+    let count = block.iter().filter(|byte| **byte != 0).count();
+    ([block[0], block[1], block[32]], count)
 }
 
 #[test]
 fn fresh_groups_have_their_bytes(rt: HostRuntime) {
-    let mut block = [7; 1024];
-    fresh_group(true, 0, &mut block);
-    assert_eq!(rt; block[..2], [0xff, 1][..]);
-    assert_eq!(rt; block[32], 1);
-    assert_eq!(rt; block.iter().filter(|byte| **byte != 0).count(), 3);
-    fresh_group(false, 0, &mut block);
-    assert_eq!(rt; block[..2], [0xff, 1][..]);
-    assert_eq!(rt; block.iter().filter(|byte| **byte != 0).count(), 2);
-    fresh_group(true, 1, &mut block);
-    assert_eq!(rt; block[0], 2);
-    assert_eq!(rt; block.iter().filter(|byte| **byte != 0).count(), 1);
-    for place in 2..9 {
-        assert!(rt; place < 9);
-        fresh_group(true, place, &mut block);
-        assert!(rt; block.iter().all(|byte| *byte == 0), "place {place}");
+    for (first, place, bytes, count) in &GROUPS {
+        let found = group_bytes(*first, *place);
+        assert!(rt; found == (*bytes, *count), "place {place}");
     }
 }
 
-#[test]
-fn superblocks_have_their_bytes_and_faults(rt: HostRuntime) -> Result<(), Fail> {
-    let sup = Super {
-        slots: 16,
-        groups: 1024,
-    };
+const GEOMETRY: Super = Super {
+    slots: 16,
+    groups: 1024,
+};
+
+/// Its superblock.
+fn super_block() -> Block {
     let mut block = [7; 1024];
-    write_super(&sup, &mut block);
+    write_super(&GEOMETRY, &mut block);
+    block
+}
+
+#[test]
+fn superblocks_have_their_bytes(rt: HostRuntime) {
+    let block = super_block();
     assert_eq!(rt;
         block[8..20],
         [16, 0, 0, 0, 0, 4, 0, 0, 0x20, 0x10, 4, 0][..]
     );
-    assert_eq!(rt; read_super(&block)?, sup);
-    let rows = [
-        (0, LayoutFault::Magic),
-        (4, LayoutFault::Version),
-        (8, LayoutFault::Slots),
-        (12, LayoutFault::Groups),
-        (16, LayoutFault::Total),
-        (20, LayoutFault::Zero),
-        (1023, LayoutFault::Zero),
-    ];
-    for (at, fault) in rows {
-        write_super(&sup, &mut block);
-        assert!(rt; at < 1024);
-        block[at] = 0xff;
-        assert_eq!(rt; read_super(&block), Err(fault), "byte {at}");
-    }
-    fresh_block(&sup, 1, &mut block);
+    assert!(rt; read_super(&block) == Ok(GEOMETRY));
+    let mut block = [7; 1024];
+    fresh_block(&GEOMETRY, 1, &mut block);
     assert!(rt; block.iter().all(|byte| *byte == 0));
     assert_eq!(rt; Status::Small as u8, 8);
-    Ok(())
+}
+
+/// Bytes of a superblock, each with the fault where it is 0xff.
+const FAULTS: [(usize, LayoutFault); 7] = [
+    (0, LayoutFault::Magic),
+    (4, LayoutFault::Version),
+    (8, LayoutFault::Slots),
+    (12, LayoutFault::Groups),
+    (16, LayoutFault::Total),
+    (20, LayoutFault::Zero),
+    (1023, LayoutFault::Zero),
+];
+
+/// The fault of a superblock in which this byte is changed.
+fn fault_at(at: usize) -> Option<LayoutFault> {
+    let mut block = super_block();
+    if at < 1024 {
+        block[at] = 0xff;
+    }
+    read_super(&block).err()
+}
+
+#[test]
+fn a_changed_byte_of_a_superblock_has_its_fault(rt: HostRuntime) {
+    for (at, fault) in &FAULTS {
+        assert!(rt; fault_at(*at) == Some(*fault), "byte {at}");
+    }
 }

@@ -34,18 +34,32 @@ const LINES: [(&str, &str); 22] = [
     ("list /a", "ok 0"),
 ];
 
-/// The calls of each of the lines, where these lines came before.
-fn line_costs(alloc: Global, before: &str) -> Result<Vec<u64>, Fail> {
+/// The lines, behind these.
+fn script_of(alloc: Global, before: &str) -> Result<String, Fail> {
     let mut script = String::from_str(alloc, before)?;
-    let mut replies = String::new(alloc);
-    for (line, reply) in LINES {
+    for (line, _) in &LINES {
         script.push_str(line)?;
         script.push('\n')?;
+    }
+    Ok(script)
+}
+
+/// The replies to the lines.
+fn replies(alloc: Global) -> Result<String, Fail> {
+    let mut replies = String::new(alloc);
+    for (_, reply) in &LINES {
         replies.push_str(reply)?;
         replies.push('\n')?;
     }
+    Ok(replies)
+}
+
+/// The calls of each of the lines, where these lines came before.
+fn line_costs(alloc: Global, before: &str) -> Result<Vec<u64>, Fail> {
+    let script = script_of(alloc, before)?;
     let host = after(alloc, script.as_bytes())?;
-    if !host.output().ends_with(replies.as_bytes()) {
+    let wanted = replies(alloc)?;
+    if !host.output().ends_with(wanted.as_bytes()) {
         return Err(Fail::new("another reply"));
     }
     let moments = gives(alloc, &host)?;
@@ -63,15 +77,23 @@ fn differences(alloc: Global, moments: &[u64]) -> Result<Vec<u64>, Fail> {
     Ok(found)
 }
 
+/// The first line whose numbers differ.
+fn first_other(alone: &[u64], beside: &[u64]) -> Option<&'static str> {
+    for (((line, _), first), second) in LINES.iter().zip(alone).zip(beside) {
+        if first != second {
+            return Some(*line);
+        }
+    }
+    None
+}
+
 #[test]
 fn a_line_costs_the_same_whatever_the_other_cubes_hold(rt: HostRuntime) -> Result<(), Fail> {
-    let alloc = rt.alloc();
-    let alone = line_costs(alloc, EMPTY)?;
-    let beside = line_costs(alloc, FULL)?;
-    assert_eq!(rt; alone.len(), LINES.len());
-    for (((line, _), first), second) in LINES.iter().zip(&alone).zip(&beside) {
-        assert_eq!(rt; first, second, "{line}");
-    }
+    let alone = line_costs(rt.alloc(), EMPTY)?;
+    let beside = line_costs(rt.alloc(), FULL)?;
+    let counts = (alone.len(), beside.len());
+    assert_eq!(rt; counts, (LINES.len(), LINES.len()));
+    assert_eq!(rt; first_other(&alone, &beside), None);
     // The second sync has nothing to commit: its reply alone is a call.
     assert_eq!(rt; alone.get(10), Some(&1));
     Ok(())
@@ -115,17 +137,18 @@ const COMMITS: [(&str, u64, u64); 11] = [
     ),
 ];
 
+/// The good writes and barriers of a session of `create /a 1` and these lines.
+fn commits_of(alloc: Global, lines: &str) -> Result<(u64, u64), Fail> {
+    let script = format!(in alloc; "create /a 1\n{lines}")?;
+    let host = after(alloc, script.as_bytes())?;
+    Ok((host.writes(), host.barriers()))
+}
+
 #[test]
 fn commits_alone_write_blocks_of_a_cube(rt: HostRuntime) -> Result<(), Fail> {
-    let alloc = rt.alloc();
-    for (lines, writes, barriers) in COMMITS {
-        let script = format!(in alloc; "create /a 1\n{lines}")?;
-        let host = after(alloc, script.as_bytes())?;
-        assert_eq!(rt;
-            (host.writes(), host.barriers()),
-            (writes, barriers),
-            "{lines}"
-        );
+    for (lines, writes, barriers) in &COMMITS {
+        let found = commits_of(rt.alloc(), lines)?;
+        assert_eq!(rt; found, (*writes, *barriers), "{lines}");
     }
     Ok(())
 }
@@ -141,17 +164,19 @@ fn last_cost(alloc: Global, script: &str) -> Result<u64, Fail> {
     }
 }
 
+/// Sessions with the calls of their last lines: 2 m + 3 writes, four barriers and a reply.
+const SYNCS: [(&str, u64); 4] = [
+    ("create /a 1\nsync /a\n", 1),
+    ("create /a 1\nmkdir /a/x\nsync /a\n", 16),
+    ("create /a 1\nmkdir /a/x\nmkdir /a/x/y\nsync /a\n", 18),
+    ("create /a 1\nmkdir /a/x\nunmount /a\n", 16),
+];
+
 #[test]
 fn a_sync_reads_nothing(rt: HostRuntime) -> Result<(), Fail> {
-    let alloc = rt.alloc();
-    // 2 m + 3 writes, four barriers and a reply.
-    for (script, calls) in [
-        ("create /a 1\nsync /a\n", 1),
-        ("create /a 1\nmkdir /a/x\nsync /a\n", 16),
-        ("create /a 1\nmkdir /a/x\nmkdir /a/x/y\nsync /a\n", 18),
-        ("create /a 1\nmkdir /a/x\nunmount /a\n", 16),
-    ] {
-        assert_eq!(rt; last_cost(alloc, script)?, calls, "{script}");
+    for (script, calls) in &SYNCS {
+        let found = last_cost(rt.alloc(), script)?;
+        assert_eq!(rt; found, *calls, "{script}");
     }
     Ok(())
 }

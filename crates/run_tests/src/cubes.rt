@@ -1,18 +1,17 @@
 //! Cubes whose blocks were damaged or left by a crash.
 ghost use Rattle.std.specs.Prelude.{◌≡◌, ◌<◌};
 
-use crate::hosts::{after, answers, copy_of, left_at, session, start_of};
+use crate::hosts::{after, answers, copy_of, left_at, session, set, start_of};
 use disk_mem::MemHost;
 use ice_base::{Block, Disk, Status, write_u32};
 use std::alloc::Global;
 use std::process::Abort;
 use std::test::Fail;
 
-/// Sets blocks before the first call.
-fn set(rt: &impl Abort, host: &mut MemHost, first: u32, count: u32, block: &Block) {
-    for at in first..first.saturating_add(count) {
-        assert!(rt; at < host.blocks() && host.calls() == 0, "block {at}");
-        host.set_block(at, block);
+/// Fills 256 blocks with garbage before the first call.
+fn spoil(rt: &impl Abort, host: &mut MemHost, first: u32) {
+    for at in first..first.saturating_add(256) {
+        set(rt, host, at, &[0xff; 1024]);
     }
 }
 
@@ -46,8 +45,8 @@ fn has(host: &MemHost, at: u32, place: usize, bytes: &[u8]) -> bool {
 #[test]
 fn a_cube_with_a_directory_has_its_bytes(rt: HostRuntime) -> Result<(), Fail> {
     let host = after(rt.alloc(), HOME)?;
-    for (at, place, bytes) in BYTES {
-        assert!(rt; has(&host, at, place, bytes), "block {at}, byte {place}");
+    for (at, place, bytes) in &BYTES {
+        assert!(rt; has(&host, *at, *place, bytes), "block {at}, byte {place}");
     }
     Ok(())
 }
@@ -77,15 +76,26 @@ const GARBAGE: [(u32, u32, &str, &str); 3] = [
     ),
 ];
 
+/// Asserts that a session over this host with garbage in both gives these replies.
+fn answers_spoilt(
+    rt: &impl Abort,
+    alloc: Global,
+    host: &MemHost,
+    (area, group): (u32, u32),
+    script: &str,
+    replies: &str,
+) -> Result<(), Fail> {
+    let mut spoilt = copy_of(alloc, host)?;
+    spoil(rt, &mut spoilt, area);
+    spoil(rt, &mut spoilt, group);
+    answers(rt, alloc, &mut spoilt, script, replies)
+}
+
 #[test]
 fn garbage_in_one_cube_takes_no_other_with_it(rt: HostRuntime) -> Result<(), Fail> {
-    let alloc = rt.alloc();
-    let host = after(alloc, THREE)?;
-    for (area, group, script, replies) in GARBAGE {
-        let mut spoilt = copy_of(alloc, &host)?;
-        set(&rt, &mut spoilt, area, 256, &[0xff; 1024]);
-        set(&rt, &mut spoilt, group, 256, &[0xff; 1024]);
-        answers(&rt, alloc, &mut spoilt, script, replies)?;
+    let host = after(rt.alloc(), THREE)?;
+    for (area, group, script, replies) in &GARBAGE {
+        answers_spoilt(&rt, rt.alloc(), &host, (*area, *group), script, replies)?;
     }
     Ok(())
 }
@@ -100,20 +110,30 @@ fn header(target: u32) -> Block {
     block
 }
 
-#[test]
-fn an_open_journal_with_a_target_outside_is_not_replayed(rt: HostRuntime) -> Result<(), Fail> {
-    let alloc = rt.alloc();
-    let host = after(alloc, b"create /a 1\nunmount /a\n")?;
+/// The writes of a mount of `/a` over this host with an open journal with this target, whose reply is to be this.
+fn mount_writes(
+    rt: &impl Abort,
+    alloc: Global,
+    host: &MemHost,
+    target: u32,
+    reply: &str,
+) -> Result<u64, Fail> {
     let mut gate = [0; 1024];
     gate[0] = 1;
+    let mut opened = copy_of(alloc, host)?;
+    set(rt, &mut opened, 33, &gate);
+    set(rt, &mut opened, 34, &header(target));
+    answers(rt, alloc, &mut opened, "mount /a\n", reply)?;
+    Ok(opened.writes())
+}
+
+#[test]
+fn an_open_journal_with_a_target_outside_is_not_replayed(rt: HostRuntime) -> Result<(), Fail> {
+    let host = after(rt.alloc(), b"create /a 1\nunmount /a\n")?;
+    let outside = mount_writes(&rt, rt.alloc(), &host, 256, "no Damaged 15\n")?;
     // What a sound header names is written home, and the gate is closed.
-    for (target, replies, writes) in [(256, "no Damaged 15\n", 0), (255, "ok 0\n", 3)] {
-        let mut opened = copy_of(alloc, &host)?;
-        set(&rt, &mut opened, 33, 1, &gate);
-        set(&rt, &mut opened, 34, 1, &header(target));
-        answers(&rt, alloc, &mut opened, "mount /a\n", replies)?;
-        assert_eq!(rt; opened.writes(), writes, "target {target}");
-    }
+    let within = mount_writes(&rt, rt.alloc(), &host, 255, "ok 0\n")?;
+    assert_eq!(rt; (outside, within), (0, 3));
     Ok(())
 }
 
@@ -134,27 +154,40 @@ fn counted(done: [u8; 8]) -> Block {
     block
 }
 
+/// Counts, each with a session where the cube has it, and its replies.
+const SPENDINGS: [([u8; 8], &str, &str); 3] = [
+    (
+        [0xff, 0xff, 0xff, 0xff, 0xff, 0xff, 0xff, 0x7f],
+        "mount /a\nmkdir /a/x\nwrite /a/f 0 -\nmkdir /a/f\nlist /a\nsync /a\n",
+        "ok 9223372036854775807\nno Spent\nno Spent\nno Exists\nfile f\nok 1\nok 9223372036854775807\n",
+    ),
+    (
+        [0xfe, 0xff, 0xff, 0xff, 0xff, 0xff, 0xff, 0x7f],
+        "mount /a\nmkdir /a/x\nmkdir /a/y\n",
+        "ok 9223372036854775806\nok\nno Spent\n",
+    ),
+    ([0, 0, 0, 0, 0, 0, 0, 0x80], "mount /a\n", "no Damaged 5\n"),
+];
+
+/// Asserts that a session over this host with a changed count gives these replies.
+fn answers_counted(
+    rt: &impl Abort,
+    alloc: Global,
+    host: &MemHost,
+    done: [u8; 8],
+    script: &str,
+    replies: &str,
+) -> Result<(), Fail> {
+    let mut changed = copy_of(alloc, host)?;
+    set(rt, &mut changed, 32, &counted(done));
+    answers(rt, alloc, &mut changed, script, replies)
+}
+
 #[test]
 fn a_count_of_commands_runs_out(rt: HostRuntime) -> Result<(), Fail> {
-    let alloc = rt.alloc();
-    let host = after(alloc, SPENT)?;
-    let rows = [
-        (
-            [0xff, 0xff, 0xff, 0xff, 0xff, 0xff, 0xff, 0x7f],
-            "mount /a\nmkdir /a/x\nwrite /a/f 0 -\nmkdir /a/f\nlist /a\nsync /a\n",
-            "ok 9223372036854775807\nno Spent\nno Spent\nno Exists\nfile f\nok 1\nok 9223372036854775807\n",
-        ),
-        (
-            [0xfe, 0xff, 0xff, 0xff, 0xff, 0xff, 0xff, 0x7f],
-            "mount /a\nmkdir /a/x\nmkdir /a/y\n",
-            "ok 9223372036854775806\nok\nno Spent\n",
-        ),
-        ([0, 0, 0, 0, 0, 0, 0, 0x80], "mount /a\n", "no Damaged 5\n"),
-    ];
-    for (done, script, replies) in rows {
-        let mut changed = copy_of(alloc, &host)?;
-        set(&rt, &mut changed, 32, 1, &counted(done));
-        answers(&rt, alloc, &mut changed, script, replies)?;
+    let host = after(rt.alloc(), SPENT)?;
+    for (done, script, replies) in &SPENDINGS {
+        answers_counted(&rt, rt.alloc(), &host, *done, script, replies)?;
     }
     Ok(())
 }
@@ -168,46 +201,51 @@ const CALLS: u64 = 15;
 /// Whether `/a` is mounted with its directory. Without it, it is empty and counts nothing.
 fn has_directory(alloc: Global, host: &mut MemHost) -> Result<bool, Fail> {
     let status = session(alloc, host, b"mount /a\nlist /a\n")?;
-    if status == Status::Done && host.output() == b"ok 1\ndir x\nok 1\n".as_slice() {
-        return Ok(true);
+    match (status, str::from_utf8(host.output())?) {
+        (Status::Done, "ok 1\ndir x\nok 1\n") => Ok(true),
+        (Status::Done, "ok 0\nok 0\n") => Ok(false),
+        _ => Err(Fail::new("another tree")),
     }
-    if status == Status::Done && host.output() == b"ok 0\nok 0\n".as_slice() {
-        return Ok(false);
-    }
-    Err(Fail::new("another tree"))
+}
+
+/// Whether `/a` has its directory after a crash.
+fn keeps_directory(alloc: Global, host: &MemHost, moment: u64, fill: u64) -> Result<bool, Fail> {
+    let mut left = left_at(alloc, host, moment, fill)?;
+    has_directory(alloc, &mut left)
 }
 
 #[test]
 fn a_crash_within_a_sync_leaves_all_or_nothing(rt: HostRuntime) -> Result<(), Fail> {
-    let alloc = rt.alloc();
-    let host = after(alloc, SYNC)?;
-    let start = start_of(alloc, &host, 2)?;
+    let host = after(rt.alloc(), SYNC)?;
+    let start = start_of(rt.alloc(), &host, 2)?;
     for call in 0..CALLS + 1 {
         for fill in 0..4_u64 {
-            let mut left = left_at(alloc, &host, start.saturating_add(call), fill)?;
-            let found = has_directory(alloc, &mut left)?;
+            let found = keeps_directory(rt.alloc(), &host, start.saturating_add(call), fill)?;
             // Seven calls made: the gate is written and loose, and open where its newest byte is kept.
             let open = call >= 8 || (call == 7 && fill == 1);
-            assert_eq!(rt; found, open, "call {call}, fill {fill}");
+            assert!(rt; found == open, "call {call}, fill {fill}");
         }
     }
     Ok(())
 }
 
-#[test]
-fn a_crash_within_a_replay_loses_nothing(rt: HostRuntime) -> Result<(), Fail> {
-    let alloc = rt.alloc();
+/// What a crash within the sync leaves where all homes are written and each is lost, after a replay of four homes and the gate.
+fn replayed(rt: &impl Abort, alloc: Global) -> Result<MemHost, Fail> {
     let host = after(alloc, SYNC)?;
-    // Twelve calls made: all homes are written, and each is lost.
+    // Twelve calls made.
     let moment = start_of(alloc, &host, 2)?.saturating_add(12);
     let mut left = left_at(alloc, &host, moment, 3)?;
-    assert!(rt; has_directory(alloc, &mut left)?);
-    // A replay wrote four homes and the gate.
-    assert_eq!(rt; left.writes(), 5);
+    let found = has_directory(alloc, &mut left)?;
+    assert!(rt; found && left.writes() == 5);
+    Ok(left)
+}
+
+#[test]
+fn a_crash_within_a_replay_loses_nothing(rt: HostRuntime) -> Result<(), Fail> {
+    let left = replayed(&rt, rt.alloc())?;
     for moment in 0..left.calls().saturating_add(1) {
         for fill in 0..4_u64 {
-            let mut again = left_at(alloc, &left, moment, fill)?;
-            let found = has_directory(alloc, &mut again)?;
+            let found = keeps_directory(rt.alloc(), &left, moment, fill)?;
             assert!(rt; found, "moment {moment}, fill {fill}");
         }
     }

@@ -1,10 +1,11 @@
 //! Failing calls of the disk: what they stop, and what goes on.
 ghost use Rattle.std.specs.Prelude.{◌≡◌, ◌<◌};
 
-use crate::hosts::{after, answers, copy_of, session, small, start_of};
+use crate::hosts::{after, answers, copy_answers, ends, small, start_of};
 use disk_mem::MemHost;
 use ice_base::Status;
 use std::alloc::Global;
+use std::process::Abort;
 use std::test::Fail;
 
 /// A host over the small image, on which the first call for a line of the script fails, that many calls later.
@@ -25,22 +26,25 @@ const STOPPED: [&str; 2] = [
     "ok\nok\nok\nok 1\nok\nno Fault\nno Stopped\nok\nok 2\ndir x\ndir y\nok 2\n",
 ];
 
+/// Asserts what a session answers in which a call of the second sync fails, and that `/b` has then what it had accepted.
+fn stops(rt: &impl Abort, alloc: Global, later: u64) -> Result<(), Fail> {
+    let mut host = failing(alloc, STOPS, 5, later)?;
+    let replies = if later < 7 { STOPPED[0] } else { STOPPED[1] };
+    answers(rt, alloc, &mut host, STOPS, replies)?;
+    copy_answers(
+        rt,
+        alloc,
+        &host,
+        "mount /b\nlist /b\n",
+        "ok 1\ndir x\nok 1\n",
+    )
+}
+
 #[test]
 fn a_fault_within_a_sync_stops_this_cube_alone(rt: HostRuntime) -> Result<(), Fail> {
-    let alloc = rt.alloc();
     // Four bodies, the header, a barrier and the gate come before the barrier that is the commit point.
     for later in 0..15_u64 {
-        let mut host = failing(alloc, STOPS, 5, later)?;
-        let replies = if later < 7 { STOPPED[0] } else { STOPPED[1] };
-        answers(&rt, alloc, &mut host, STOPS, replies)?;
-        let mut left = copy_of(alloc, &host)?;
-        answers(
-            &rt,
-            alloc,
-            &mut left,
-            "mount /b\nlist /b\n",
-            "ok 1\ndir x\nok 1\n",
-        )?;
+        stops(&rt, rt.alloc(), later)?;
     }
     Ok(())
 }
@@ -69,14 +73,18 @@ const ROWS: [(&str, &str); 7] = [
     ),
 ];
 
+/// Asserts what a stopped cube answers.
+fn waits(rt: &impl Abort, alloc: Global, rest: &str, replies: &str) -> Result<(), Fail> {
+    let mut host = failing(alloc, START, 4, 0)?;
+    let script = format!(in alloc; "{START}{rest}")?;
+    let wants = format!(in alloc; "{STARTED}{replies}")?;
+    answers(rt, alloc, &mut host, script.as_str(), wants.as_str())
+}
+
 #[test]
 fn a_stopped_cube_waits_for_a_mount(rt: HostRuntime) -> Result<(), Fail> {
-    let alloc = rt.alloc();
-    for (rest, replies) in ROWS {
-        let mut host = failing(alloc, START, 4, 0)?;
-        let script = format!(in alloc; "{START}{rest}")?;
-        let wants = format!(in alloc; "{STARTED}{replies}")?;
-        answers(&rt, alloc, &mut host, script.as_str(), wants.as_str())?;
+    for (rest, replies) in &ROWS {
+        waits(&rt, rt.alloc(), rest, replies)?;
     }
     Ok(())
 }
@@ -100,17 +108,32 @@ const CREATES: [(u64, Status, &str, &str); 12] = [
     (34, Status::Disk, "", "0 1 unmounted /a\nok 1\n"),
 ];
 
+/// Asserts how a session that makes a cube ends where this call fails, and what a second one then lists.
+fn creates(
+    rt: &impl Abort,
+    alloc: Global,
+    call: u64,
+    status: Status,
+    replies: &str,
+    list: &str,
+) -> Result<(), Fail> {
+    let mut host = small(alloc)?;
+    host.fail_at(call)?;
+    ends(
+        rt,
+        alloc,
+        &mut host,
+        "create /a 1\ncubes\n",
+        status,
+        replies,
+    )?;
+    copy_answers(rt, alloc, &host, "cubes\n", list)
+}
+
 #[test]
 fn a_cube_is_made_or_not_where_a_call_fails(rt: HostRuntime) -> Result<(), Fail> {
-    let alloc = rt.alloc();
-    for (call, status, replies, list) in CREATES {
-        let mut host = small(alloc)?;
-        host.fail_at(call)?;
-        let ended = session(alloc, &mut host, b"create /a 1\ncubes\n")?;
-        let output = str::from_utf8(host.output())?;
-        assert_eq!(rt; (ended, output), (status, replies), "call {call}");
-        let mut left = copy_of(alloc, &host)?;
-        answers(&rt, alloc, &mut left, "cubes\n", list)?;
+    for (call, status, replies, list) in &CREATES {
+        creates(&rt, rt.alloc(), *call, *status, replies, list)?;
     }
     Ok(())
 }

@@ -1,6 +1,6 @@
 //! What the tests run on.
 use disk_mem::MemHost;
-use ice_base::{Host, Status, Words};
+use ice_base::{Block, Disk, Host, Status, Words};
 use ice_layout::total;
 use ice_run::run;
 use std::alloc::Global;
@@ -84,15 +84,45 @@ pub(crate) fn answers(
     script: &str,
     replies: &str,
 ) -> Result<(), Fail> {
-    let status = session(alloc, host, script.as_bytes())?;
+    ends(rt, alloc, host, script, Status::Done, replies)
+}
+
+/// Asserts that a session on a host that gave nothing yet ends so and gives these replies.
+pub(crate) fn ends(
+    rt: &impl Abort,
+    alloc: Global,
+    host: &mut MemHost,
+    script: &str,
+    status: Status,
+    replies: &str,
+) -> Result<(), Fail> {
+    let found = session(alloc, host, script.as_bytes())?;
     let output = str::from_utf8(host.output())?;
-    assert_eq!(rt; (status, output), (Status::Done, replies), "{script}");
+    assert_eq!(rt; (found, output), (status, replies), "{script}");
     Ok(())
 }
 
-/// How many bytes the first so many calls gave.
-fn given(host: &MemHost, moment: u64) -> usize {
-    host.output_at(moment.min(host.calls())).len()
+/// Asserts that a session on a copy of this host gives these replies and ends well.
+pub(crate) fn copy_answers(
+    rt: &impl Abort,
+    alloc: Global,
+    host: &MemHost,
+    script: &str,
+    replies: &str,
+) -> Result<(), Fail> {
+    let mut copy = copy_of(alloc, host)?;
+    answers(rt, alloc, &mut copy, script, replies)
+}
+
+/// What the first so many calls gave.
+pub(crate) fn given(host: &MemHost, moment: u64) -> &[u8] {
+    host.output_at(moment.min(host.calls()))
+}
+
+/// Sets a block before the first call.
+pub(crate) fn set(rt: &impl Abort, host: &mut MemHost, at: u32, block: &Block) {
+    assert!(rt; at < host.blocks() && host.calls() == 0, "block {at}");
+    host.set_block(at, block);
 }
 
 /// After how many calls each reply had been given.
@@ -100,7 +130,7 @@ pub(crate) fn gives(alloc: Global, host: &MemHost) -> Result<Vec<u64>, Fail> {
     let mut moments = Vec::new(alloc);
     let mut last: usize = 0;
     for moment in 0..host.calls().saturating_add(1) {
-        let len = given(host, moment);
+        let len = given(host, moment).len();
         if len != last {
             moments.push(moment)?;
             last = len;

@@ -1,7 +1,5 @@
 //! Sessions over the tables of a volume with cubes.
-ghost use Rattle.std.specs.Prelude.{◌≡◌, ◌≤◌, ◌<◌};
-
-use crate::hosts::{copy_of, session, status_of};
+use crate::hosts::{answers, copy_answers, copy_of, given, left_at, session, status_of};
 use disk_mem::MemHost;
 use ice_base::Status;
 use ice_layout::total;
@@ -29,9 +27,15 @@ const ANSWERED: [usize; 3] = [42, 45, 68];
 fn two_cubes(rt: &impl Abort, alloc: Global) -> Result<MemHost, Fail> {
     let mut host = MemHost::new(alloc, total(2, 3))?;
     let words = ["format", "img", "--slots", "2", "--groups", "3"];
-    assert!(rt; status_of(alloc, &words, &mut host)? == Status::Done);
-    let made = session(alloc, &mut host, b"create /a 1\ncreate /b 1\n")?;
-    assert!(rt; made == Status::Done && host.output() == b"ok\nok\n".as_slice());
+    let made = status_of(alloc, &words, &mut host)?;
+    assert!(rt; made == Status::Done);
+    answers(
+        rt,
+        alloc,
+        &mut host,
+        "create /a 1\ncreate /b 1\n",
+        "ok\nok\n",
+    )?;
     copy_of(alloc, &host)
 }
 
@@ -40,91 +44,102 @@ fn answered(given: usize) -> usize {
     ANSWERED.iter().filter(|bytes| given >= **bytes).count()
 }
 
+/// Which list these bytes are.
+fn list_of(given: &[u8]) -> Option<usize> {
+    LISTS.iter().position(|list| *list == given)
+}
+
 /// Which list a further session over the host shows.
-fn listed(rt: &impl Abort, alloc: Global, host: &mut MemHost) -> Result<usize, Fail> {
+fn listed(alloc: Global, host: &mut MemHost) -> Result<usize, Fail> {
     let before = host.output().len();
-    assert!(rt; session(alloc, host, b"cubes\n")? == Status::Done);
-    assert!(rt; before <= host.output().len());
-    let given = &host.output()[before..];
-    Ok(
-        LISTS
-            .iter()
-            .position(|list| *list == given)
-            .ok_or("another list")?,
-    )
+    let status = session(alloc, host, b"cubes\n")?;
+    let given = host.output().get(before..).ok_or("no output")?;
+    match (status, list_of(given)) {
+        (Status::Done, Some(list)) => Ok(list),
+        _ => Err(Fail::new("another list")),
+    }
+}
+
+/// Asserts what the session answers with pieces of so many bytes, what it calls, and what it leaves.
+fn lists(rt: &impl Abort, alloc: Global, piece: usize) -> Result<(), Fail> {
+    let mut host = two_cubes(rt, alloc)?;
+    host.set_piece(piece.max(1));
+    let status = session(alloc, &mut host, SCRIPT)?;
+    assert!(rt; status == Status::Done && host.output() == REPLIES);
+    // Two marks put one block, a deletion two: `2 m + 3` writes and four barriers each, and the barrier of opening.
+    let counts = (host.writes(), host.barriers());
+    let found = listed(alloc, &mut host)?;
+    assert_eq!(rt; (counts, found), ((17, 13), 3));
+    Ok(())
 }
 
 #[test]
 fn cubes_are_listed_marked_and_deleted(rt: HostRuntime) -> Result<(), Fail> {
-    let alloc = rt.alloc();
-    for piece in [1, 5, 4096] {
-        let mut host = two_cubes(&rt, alloc)?;
-        host.set_piece(piece);
-        assert_eq!(rt; session(alloc, &mut host, SCRIPT)?, Status::Done);
-        assert_eq!(rt; host.output(), REPLIES);
-        // Two marks put one block, a deletion two: `2 m + 3` writes and four barriers each, and the barrier of opening.
-        assert_eq!(rt; (host.writes(), host.barriers()), (17, 13));
-        assert_eq!(rt; listed(&rt, alloc, &mut host)?, 3);
+    lists(&rt, rt.alloc(), 1)?;
+    lists(&rt, rt.alloc(), 5)?;
+    lists(&rt, rt.alloc(), 4096)
+}
+
+const REFUSALS: [(&str, &str); 9] = [
+    ("delete /c\n", "no NoCube\n"),
+    ("offline /a/b\n", "no NoCube\n"),
+    ("online /\n", "no NoCube\n"),
+    ("online /a\n", "no State\n"),
+    ("offline /a\noffline /a\n", "ok\nno State\n"),
+    ("offline /b\ndelete /b\ndelete /b\n", "ok\nok\nno NoCube\n"),
+    ("delete\ndelete /a /b\n", "no Args\nno Args\n"),
+    (
+        "delete a\noffline /a/\nonline //\n",
+        "no Path\nno Path\nno Path\n",
+    ),
+    (
+        "mount /a\noffline /a\nonline /a\n",
+        "ok 0\nno Mounted\nno State\n",
+    ),
+];
+
+#[test]
+fn refusals_of_the_lines_of_the_tables(rt: HostRuntime) -> Result<(), Fail> {
+    let host = two_cubes(&rt, rt.alloc())?;
+    for (script, replies) in &REFUSALS {
+        copy_answers(&rt, rt.alloc(), &host, script, replies)?;
     }
     Ok(())
 }
 
-#[test]
-fn refusals_of_the_lines_of_the_tables(rt: HostRuntime) -> Result<(), Fail> {
-    let alloc = rt.alloc();
-    let rows: [(&[u8], &[u8]); 9] = [
-        (b"delete /c\n", b"no NoCube\n"),
-        (b"offline /a/b\n", b"no NoCube\n"),
-        (b"online /\n", b"no NoCube\n"),
-        (b"online /a\n", b"no State\n"),
-        (b"offline /a\noffline /a\n", b"ok\nno State\n"),
-        (
-            b"offline /b\ndelete /b\ndelete /b\n",
-            b"ok\nok\nno NoCube\n",
-        ),
-        (b"delete\ndelete /a /b\n", b"no Args\nno Args\n"),
-        (
-            b"delete a\noffline /a/\nonline //\n",
-            b"no Path\nno Path\nno Path\n",
-        ),
-        (
-            b"mount /a\noffline /a\nonline /a\n",
-            b"ok 0\nno Mounted\nno State\n",
-        ),
-    ];
-    for (script, replies) in rows {
-        let mut host = two_cubes(&rt, alloc)?;
-        assert_eq!(rt; session(alloc, &mut host, script)?, Status::Done);
-        assert_eq!(rt; host.output(), replies);
+/// How many changes more than those that were answered a crash leaves, which is one at most.
+fn ahead(alloc: Global, host: &MemHost, moment: u64, fill: u64) -> Result<u32, Fail> {
+    let sure = answered(given(host, moment).len());
+    let mut left = left_at(alloc, host, moment, fill)?;
+    let found = listed(alloc, &mut left)?;
+    if found == sure {
+        Ok(0)
+    } else if found == sure.saturating_add(1) {
+        Ok(1)
+    } else {
+        Err(Fail::new("a list that no change leaves"))
     }
-    Ok(())
+}
+
+/// A host on which the session was run.
+fn changed(rt: &impl Abort, alloc: Global) -> Result<MemHost, Fail> {
+    let mut host = two_cubes(rt, alloc)?;
+    let status = session(alloc, &mut host, SCRIPT)?;
+    assert_eq!(rt; status, Status::Done);
+    Ok(host)
 }
 
 #[test]
 fn each_crash_leaves_a_change_whole_or_absent(rt: HostRuntime) -> Result<(), Fail> {
-    let alloc = rt.alloc();
-    let mut host = two_cubes(&rt, alloc)?;
-    assert_eq!(rt; session(alloc, &mut host, SCRIPT)?, Status::Done);
-    let mut ahead: u32 = 0;
-    let end = host.calls().saturating_add(1);
-    for moment in 0..end {
-        assert!(rt; moment <= host.calls());
-        let sure = answered(host.output_at(moment).len());
-        for fill in [0, 1, 3] {
-            let mut left = host.crashed(alloc, moment, fill)?;
-            left.reserve(200, 200)?;
-            let found = listed(&rt, alloc, &mut left)?;
-            assert!(rt;
-                found == sure || found == sure.saturating_add(1),
-                "moment {moment}, fill {fill}: {found}"
-            );
-            if found > sure {
-                ahead = ahead.saturating_add(1);
-            }
+    let host = changed(&rt, rt.alloc())?;
+    let mut more: u32 = 0;
+    for moment in 0..host.calls().saturating_add(1) {
+        for fill in &[0, 1, 3] {
+            more = more.saturating_add(ahead(rt.alloc(), &host, moment, *fill)?);
         }
     }
     // From the barrier of the open gate to the reply: five moments of a mark and six of a deletion; and one more where the gate's write is kept.
-    assert_eq!(rt; ahead, 3 * (5 + 6 + 5) + 3);
+    assert_eq!(rt; more, 3 * (5 + 6 + 5) + 3);
     Ok(())
 }
 
@@ -149,27 +164,25 @@ fn faults(output: &[u8]) -> usize {
         .count()
 }
 
+/// Asserts how the session ends where this call fails, and that a second run finds the tables before a change or after it.
+fn fails(rt: &impl Abort, alloc: Global, host: &mut MemHost, call: u64) -> Result<(), Fail> {
+    host.fail_at(call)?;
+    let status = session(alloc, host, SCRIPT)?;
+    let found = (status, faults(host.output()));
+    assert!(rt; found == ending(call), "call {call}: {found:?}");
+    let sure = answered(host.output().len());
+    let list = listed(alloc, host)?;
+    let right = list == sure || list == sure.saturating_add(1);
+    assert!(rt; right || status != Status::Disk, "call {call}: {list}");
+    Ok(())
+}
+
 #[test]
 fn each_failing_call_ends_as_its_place_says(rt: HostRuntime) -> Result<(), Fail> {
-    let alloc = rt.alloc();
+    let fresh = two_cubes(&rt, rt.alloc())?;
     for call in 0..48_u64 {
-        let mut host = two_cubes(&rt, alloc)?;
-        host.fail_at(call)?;
-        let status = session(alloc, &mut host, SCRIPT)?;
-        assert_eq!(rt;
-            (status, faults(host.output())),
-            ending(call),
-            "call {call}"
-        );
-        // A second run finds the tables before the change or after it.
-        let sure = answered(host.output().len());
-        let found = listed(&rt, alloc, &mut host)?;
-        if status == Status::Disk {
-            assert!(rt;
-                found == sure || found == sure.saturating_add(1),
-                "call {call}: {found}"
-            );
-        }
+        let mut host = copy_of(rt.alloc(), &fresh)?;
+        fails(&rt, rt.alloc(), &mut host, call)?;
     }
     Ok(())
 }

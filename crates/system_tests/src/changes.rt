@@ -47,18 +47,21 @@ fn attach(alloc: Global, host: &mut MemHost) -> Result<System, Fail> {
     Ok(System::attach(alloc, host).ok().ok_or("no volume")?)
 }
 
-/// Creates a cube where there is room for it.
+/// Creates a cube where there is room for it. Path: the path or the number of groups is none; Fault: the disk is too small.
 fn create(
-    rt: &impl Abort,
     system: &mut System,
     host: &mut MemHost,
     text: &[u8],
     groups: u32,
 ) -> Result<Result<(), SystemFault>, Refusal> {
     let path = read_path(text).ok().ok_or(Refusal::Path)?;
-    assert!(rt; path.text().len() <= 199 && groups >= 1);
+    if path.text().len() > 199 || groups < 1 {
+        return Err(Refusal::Path);
+    }
     let lot = system.plan_create(&path, groups)?;
-    assert!(rt; system.total() <= host.blocks());
+    if system.total() > host.blocks() {
+        return Err(Refusal::Fault);
+    }
     Ok(system.create(host, &path, &lot))
 }
 
@@ -69,179 +72,246 @@ fn found(system: &System, text: &[u8]) -> Option<(u8, u8, Mark)> {
     Some((slot, system.lot(slot).len(), system.names().mark(slot)))
 }
 
+/// The good reads, writes and barriers.
+fn counts(host: &MemHost) -> (u64, u64, u64) {
+    (host.reads(), host.writes(), host.barriers())
+}
+
+/// Creates `/home` on a fresh image.
+fn create_home(rt: &impl Abort, alloc: Global, host: &mut MemHost) -> Result<(), Fail> {
+    let mut system = attach(alloc, host)?;
+    assert_eq!(rt; counts(host), (10, 0, 1));
+    assert_eq!(rt; create(&mut system, host, b"/home", 1), Ok(Ok(())));
+    assert_eq!(rt; counts(host), (10, 7, 5));
+    assert_eq!(rt; host.calls(), ATTACH + CREATE);
+    Ok(())
+}
+
+/// The groups and the mark of the cube `/home` after a crash behind so many calls.
+fn home_after(
+    alloc: Global,
+    host: &MemHost,
+    moment: u64,
+    fill: u64,
+) -> Result<Option<(u8, u8, Mark)>, Fail> {
+    if moment > host.calls() {
+        return Err(Fail::new("no such moment"));
+    }
+    let mut left = host.crashed(alloc, moment, fill)?;
+    let opened = attach(alloc, &mut left)?;
+    Ok(found(&opened, b"/home"))
+}
+
 #[test]
 fn a_change_is_whole_or_absent_at_each_crash(rt: HostRuntime) -> Result<(), Fail> {
     let mut host = fresh(&rt, rt.alloc())?;
-    let mut system = attach(rt.alloc(), &mut host)?;
-    assert_eq!(rt; (host.reads(), host.writes(), host.barriers()), (10, 0, 1));
-    assert_eq!(rt;
-        create(&rt, &mut system, &mut host, b"/home", 1),
-        Ok(Ok(()))
-    );
-    assert_eq!(rt; (host.reads(), host.writes(), host.barriers()), (10, 7, 5));
-    assert_eq!(rt; host.calls(), ATTACH + CREATE);
+    create_home(&rt, rt.alloc(), &mut host)?;
     for after in 0..12_u64 {
         for fill in 0..4_u64 {
-            assert!(rt; ATTACH + after <= host.calls());
-            let mut left = host.crashed(rt.alloc(), ATTACH + after, fill)?;
-            let opened = attach(rt.alloc(), &mut left)?;
-            let home = found(&opened, b"/home");
-            let new = home == Some((0, 1, Mark::Online));
-            assert!(rt; new || home.is_none(), "moment {after}, fill {fill}");
+            let home = home_after(rt.alloc(), &host, ATTACH + after, fill)?;
             // The gate's first byte: settled 0, written 1, filled 0 or 255.
             let open = after >= 6 || (after == 5 && fill == 1);
-            assert_eq!(rt; new, open, "moment {after}, fill {fill}");
+            let want = if open {
+                Some((0, 1, Mark::Online))
+            } else {
+                None
+            };
+            assert!(rt; home == want, "moment {after}, fill {fill}");
         }
     }
     Ok(())
+}
+
+/// Creates `/home` twice, where this call of the first creation fails.
+fn fail_and_repeat(
+    rt: &impl Abort,
+    alloc: Global,
+    host: &mut MemHost,
+    call: u64,
+) -> Result<(), Fail> {
+    let mut system = attach(alloc, host)?;
+    host.fail_at(ATTACH.saturating_add(call))?;
+    let want = if call < 4 {
+        SystemFault::Before
+    } else {
+        SystemFault::After
+    };
+    let done = create(&mut system, host, b"/home", 1);
+    assert!(rt; done == Ok(Err(want)), "call {call}");
+    // What failed before the gate was written can be tried again, and what failed after it can't.
+    let calls = host.calls();
+    let again = create(&mut system, host, b"/home", 1);
+    let right = if call < 4 {
+        again == Ok(Ok(()))
+    } else {
+        again == Ok(Err(SystemFault::After)) && host.calls() == calls
+    };
+    assert!(rt; right, "call {call}");
+    Ok(())
+}
+
+/// Whether the image has the cube `/home`.
+fn has_home(alloc: Global, host: &mut MemHost) -> Result<bool, Fail> {
+    let opened = attach(alloc, host)?;
+    Ok(found(&opened, b"/home").is_some())
 }
 
 #[test]
 fn a_failing_call_leaves_the_old_tables_or_the_new_ones(rt: HostRuntime) -> Result<(), Fail> {
     for call in 0..CREATE {
         let mut host = fresh(&rt, rt.alloc())?;
-        let mut system = attach(rt.alloc(), &mut host)?;
-        host.fail_at(ATTACH + call)?;
-        let want = if call < 4 {
-            SystemFault::Before
-        } else {
-            SystemFault::After
-        };
-        let done = create(&rt, &mut system, &mut host, b"/home", 1);
-        assert_eq!(rt; done, Ok(Err(want)), "call {call}");
-        // What failed before the gate was written can be tried again, and what failed after it can't.
-        let calls = host.calls();
-        let again = create(&rt, &mut system, &mut host, b"/home", 1);
-        if call < 4 {
-            assert_eq!(rt; again, Ok(Ok(())), "call {call}");
-        } else {
-            assert_eq!(rt;
-                (again, host.calls()),
-                (Ok(Err(SystemFault::After)), calls),
-                "call {call}"
-            );
-        }
-        let opened = attach(rt.alloc(), &mut host)?;
-        let home = found(&opened, b"/home").is_some();
-        assert_eq!(rt; home, call != 4, "call {call}");
+        fail_and_repeat(&rt, rt.alloc(), &mut host, call)?;
+        let home = has_home(rt.alloc(), &mut host)?;
+        assert!(rt; home == (call != 4), "call {call}");
     }
+    Ok(())
+}
+
+/// What creations answer, one after the other, where two slots and four groups are free.
+const CREATIONS: [(&[u8], u32, Result<Result<(), SystemFault>, Refusal>); 7] = [
+    (b"/a", 65, Err(Refusal::CubeFull)),
+    (b"/a", 5, Err(Refusal::NoGroups)),
+    (b"/a", 1, Ok(Ok(()))),
+    (b"/a", 65, Err(Refusal::Exists)),
+    (b"/b", 2, Ok(Ok(()))),
+    (b"/b", 9, Err(Refusal::Exists)),
+    (b"/c", 65, Err(Refusal::NoSlot)),
+];
+
+fn create_each(rt: &impl Abort, system: &mut System, host: &mut MemHost) {
+    for (text, groups, want) in &CREATIONS {
+        let made = create(system, host, text, *groups);
+        assert!(rt; made == *want, "{groups} groups: {made:?}");
+    }
+}
+
+/// What growths of the cube in slot 0 answer then, where one group is left.
+const GROWTHS: [(u32, Result<Result<(), SystemFault>, Refusal>); 3] = [
+    (2, Err(Refusal::NoGroups)),
+    (64, Err(Refusal::CubeFull)),
+    (1, Ok(Ok(()))),
+];
+
+fn grow_each(rt: &impl Abort, system: &mut System, host: &mut MemHost) {
+    for (groups, want) in &GROWTHS {
+        let grown = grow(system, host, 0, *groups);
+        assert!(rt; grown == *want, "{groups} groups: {grown:?}");
+    }
+}
+
+/// Deletes the cube in slot 1, and takes that in slot 0 offline.
+fn delete_and_mark(rt: &impl Abort, system: &mut System, host: &mut MemHost) {
+    let deleted = delete(system, host, 1);
+    let marked = offline(system, host, 0);
+    // A mark that the cube has already needs no call.
+    let calls = host.calls();
+    let again = offline(system, host, 0);
+    assert_eq!(rt; [deleted, marked, again], [Some(Ok(())); 3]);
+    assert!(rt; host.calls() == calls);
+}
+
+fn change_each(rt: &impl Abort, alloc: Global, host: &mut MemHost) -> Result<(), Fail> {
+    let mut system = attach(alloc, host)?;
+    create_each(rt, &mut system, host);
+    grow_each(rt, &mut system, host);
+    delete_and_mark(rt, &mut system, host);
     Ok(())
 }
 
 #[test]
 fn a_cube_is_refused_in_order(rt: HostRuntime) -> Result<(), Fail> {
     let mut host = fresh(&rt, rt.alloc())?;
-    let mut system = attach(rt.alloc(), &mut host)?;
-    assert_eq!(rt;
-        create(&rt, &mut system, &mut host, b"/a", 65),
-        Err(Refusal::CubeFull)
-    );
-    assert_eq!(rt;
-        create(&rt, &mut system, &mut host, b"/a", 5),
-        Err(Refusal::NoGroups)
-    );
-    assert_eq!(rt; create(&rt, &mut system, &mut host, b"/a", 1), Ok(Ok(())));
-    assert_eq!(rt;
-        create(&rt, &mut system, &mut host, b"/a", 65),
-        Err(Refusal::Exists)
-    );
-    assert_eq!(rt; create(&rt, &mut system, &mut host, b"/b", 2), Ok(Ok(())));
-    assert_eq!(rt;
-        create(&rt, &mut system, &mut host, b"/b", 9),
-        Err(Refusal::Exists)
-    );
-    assert_eq!(rt;
-        create(&rt, &mut system, &mut host, b"/c", 65),
-        Err(Refusal::NoSlot)
-    );
-    assert_eq!(rt;
-        grow(&rt, &mut system, &mut host, 0, 2),
-        Err(Refusal::NoGroups)
-    );
-    assert_eq!(rt;
-        grow(&rt, &mut system, &mut host, 0, 64),
-        Err(Refusal::CubeFull)
-    );
-    assert_eq!(rt; grow(&rt, &mut system, &mut host, 0, 1), Ok(Ok(())));
-    assert_eq!(rt; delete(&rt, &mut system, &mut host, 1), Ok(()));
-    assert_eq!(rt; offline(&rt, &mut system, &mut host, 0), Ok(()));
-    // A mark that the cube has already needs no call.
-    let calls = host.calls();
-    assert_eq!(rt; offline(&rt, &mut system, &mut host, 0), Ok(()));
-    assert_eq!(rt; host.calls(), calls);
+    change_each(&rt, rt.alloc(), &mut host)?;
     let opened = attach(rt.alloc(), &mut host)?;
-    assert_eq!(rt;
-        (found(&opened, b"/a"), found(&opened, b"/b")),
-        (Some((0, 2, Mark::Offline)), None)
-    );
+    let cubes = (found(&opened, b"/a"), found(&opened, b"/b"));
+    assert_eq!(rt; cubes, (Some((0, 2, Mark::Offline)), None));
     assert!(rt; opened.slots() == 2);
     assert_eq!(rt; opened.lot(0).place(256), Some(32 + 512 + 256 * 3));
     Ok(())
 }
 
+/// Gives a cube further groups. NoCube: there is none; Fault: the disk is too small.
 fn grow(
-    rt: &impl Abort,
     system: &mut System,
     host: &mut MemHost,
     slot: u8,
     groups: u32,
 ) -> Result<Result<(), SystemFault>, Refusal> {
-    assert!(rt; slot < system.slots() && system.names().path(slot).is_some() && groups >= 1);
+    if slot >= system.slots() || system.names().path(slot).is_none() || groups < 1 {
+        return Err(Refusal::NoCube);
+    }
     let lot = system.plan_grow(slot, groups)?;
-    assert!(rt; system.total() <= host.blocks());
+    if system.total() > host.blocks() {
+        return Err(Refusal::Fault);
+    }
     Ok(system.grow(host, slot, &lot))
 }
 
-fn delete(
-    rt: &impl Abort,
-    system: &mut System,
-    host: &mut MemHost,
-    slot: u8,
-) -> Result<(), SystemFault> {
-    assert!(rt; slot < system.slots() && system.total() <= host.blocks());
-    system.delete(host, slot)
+/// Deletes the cube of a slot. None: there is no such slot, or the disk is too small.
+fn delete(system: &mut System, host: &mut MemHost, slot: u8) -> Option<Result<(), SystemFault>> {
+    if slot >= system.slots() || system.total() > host.blocks() {
+        return None;
+    }
+    Some(system.delete(host, slot))
 }
 
-fn offline(
-    rt: &impl Abort,
-    system: &mut System,
-    host: &mut MemHost,
-    slot: u8,
-) -> Result<(), SystemFault> {
-    assert!(rt; slot < system.slots() && system.names().path(slot).is_some());
-    assert!(rt; system.total() <= host.blocks());
-    system.set_mark(host, slot, Mark::Offline)
+/// Takes a cube offline. None: there is none, or the disk is too small.
+fn offline(system: &mut System, host: &mut MemHost, slot: u8) -> Option<Result<(), SystemFault>> {
+    if slot >= system.slots() || system.names().path(slot).is_none() {
+        return None;
+    }
+    if system.total() > host.blocks() {
+        return None;
+    }
+    Some(system.set_mark(host, slot, Mark::Offline))
 }
 
 fn refused(alloc: Global, host: &mut MemHost) -> Option<TablesFault> {
     System::attach(alloc, host).err()
 }
 
+/// A block of the image, its first byte where the others are 0, and the fault of the image then.
+const FAULTS: [(&str, u32, u8, LayoutFault); 4] = [
+    ("the superblock", 0, 7, LayoutFault::Magic),
+    ("an open gate without a header", 1, 1, LayoutFault::Header),
+    ("a mark above 2", 11, 3, LayoutFault::Names),
+    ("a group of a free slot", 15, 1, LayoutFault::Owners),
+];
+
+/// The fault of an image with this block, which is not written.
+fn fault_with(
+    rt: &impl Abort,
+    alloc: Global,
+    at: u32,
+    byte: u8,
+) -> Result<(Option<TablesFault>, u64), Fail> {
+    let mut host = fresh(rt, alloc)?;
+    let mut block = [0; 1024];
+    block[0] = byte;
+    set(rt, &mut host, at, &block);
+    let fault = refused(alloc, &mut host);
+    Ok((fault, host.writes()))
+}
+
 #[test]
 fn each_fault_of_an_image_is_named(rt: HostRuntime) -> Result<(), Fail> {
-    for (name, at, byte, want) in [
-        ("the superblock", 0, 7, LayoutFault::Magic),
-        ("an open gate without a header", 1, 1, LayoutFault::Header),
-        ("a mark above 2", 11, 3, LayoutFault::Names),
-        ("a group of a free slot", 15, 1, LayoutFault::Owners),
-    ] {
-        let mut host = fresh(&rt, rt.alloc())?;
-        let mut block = [0; 1024];
-        block[0] = byte;
-        set(&rt, &mut host, at, &block);
-        assert_eq!(rt;
-            refused(rt.alloc(), &mut host),
-            Some(TablesFault::Layout(want)),
-            "{name}"
-        );
-        assert_eq!(rt; host.writes(), 0, "{name}");
+    for (name, at, byte, want) in &FAULTS {
+        let found = fault_with(&rt, rt.alloc(), *at, *byte)?;
+        assert!(rt; found == (Some(TablesFault::Layout(*want)), 0), "{name}");
     }
+    Ok(())
+}
+
+#[test]
+fn a_disk_without_blocks_is_small(rt: HostRuntime) -> Result<(), Fail> {
     let mut none = MemHost::new(rt.alloc(), 0)?;
-    assert_eq!(rt;
-        (refused(rt.alloc(), &mut none), none.calls()),
-        (Some(TablesFault::Small), 0)
-    );
-    let mut short = MemHost::new(rt.alloc(), BLOCKS - 1)?;
+    let fault = refused(rt.alloc(), &mut none);
+    assert_eq!(rt; (fault, none.calls()), (Some(TablesFault::Small), 0));
+    Ok(())
+}
+
+/// The superblock of the image.
+fn superblock() -> Block {
     let mut block = [0; 1024];
     fresh_block(
         &Super {
@@ -251,17 +321,35 @@ fn each_fault_of_an_image_is_named(rt: HostRuntime) -> Result<(), Fail> {
         0,
         &mut block,
     );
-    set(&rt, &mut short, 0, &block);
-    assert_eq!(rt; refused(rt.alloc(), &mut short), Some(TablesFault::Small));
+    block
+}
+
+#[test]
+fn a_disk_with_a_block_less_is_small(rt: HostRuntime) -> Result<(), Fail> {
+    let mut short = MemHost::new(rt.alloc(), BLOCKS - 1)?;
+    set(&rt, &mut short, 0, &superblock());
+    let fault = refused(rt.alloc(), &mut short);
+    assert_eq!(rt; fault, Some(TablesFault::Small));
+    Ok(())
+}
+
+/// What `attach` refuses where this call fails, and then once more.
+fn fault_at(
+    rt: &impl Abort,
+    alloc: Global,
+    call: u64,
+) -> Result<(Option<TablesFault>, Option<TablesFault>), Fail> {
+    let mut host = fresh(rt, alloc)?;
+    host.fail_at(call)?;
+    let first = refused(alloc, &mut host);
+    Ok((first, refused(alloc, &mut host)))
+}
+
+#[test]
+fn a_failing_call_of_the_disk_is_named(rt: HostRuntime) -> Result<(), Fail> {
     for call in 0..ATTACH {
-        let mut host = fresh(&rt, rt.alloc())?;
-        host.fail_at(call)?;
-        assert_eq!(rt;
-            refused(rt.alloc(), &mut host),
-            Some(TablesFault::Disk),
-            "call {call}"
-        );
-        assert!(rt; refused(rt.alloc(), &mut host).is_none(), "call {call}");
+        let found = fault_at(&rt, rt.alloc(), call)?;
+        assert!(rt; found == (Some(TablesFault::Disk), None), "call {call}");
     }
     Ok(())
 }

@@ -213,27 +213,35 @@ fn round<K: Keep<MemHost>>(
     Ok(())
 }
 
+/// Plays the rounds, each with a new keep, and counts the replies by their numbers.
+fn rounds(rt: &impl Abort, alloc: Global, held: bool, times: &mut [u32; 35]) -> Result<(), Fail> {
+    for seed in &ROUNDS {
+        if held {
+            let mut keep = ListKeep::new(alloc, 800)?;
+            round(rt, alloc, &mut keep, *seed, times)?;
+        } else {
+            round(rt, alloc, &mut ThroughKeep::new(), *seed, times)?;
+        }
+    }
+    Ok(())
+}
+
+/// Whether there is every refusal of a tree but Spent, and no other, and many changes.
+fn are_all(times: &[u32; 35]) -> bool {
+    for (which, count) in times.iter().enumerate() {
+        if (*count > 0) != (which < 14 || which == 34) {
+            return false;
+        }
+    }
+    times[34] > 500
+}
+
 #[test]
 fn a_lot_answers_as_the_plain_tree_does(rt: HostRuntime) -> Result<(), Fail> {
-    for held in [false, true] {
+    for held in &[false, true] {
         let mut times = [0u32; 35];
-        for seed in ROUNDS {
-            if held {
-                let mut keep = ListKeep::new(rt.alloc(), 800)?;
-                round(&rt, rt.alloc(), &mut keep, seed, &mut times)?;
-            } else {
-                round(&rt, rt.alloc(), &mut ThroughKeep::new(), seed, &mut times)?;
-            }
-        }
-        // Every refusal of a tree but Spent, and no other.
-        for (which, count) in times.iter().enumerate() {
-            assert_eq!(rt;
-                *count > 0,
-                which < 14 || which == 34,
-                "{count} answers {which}"
-            );
-        }
-        assert!(rt; times[34] > 500, "{times:?}");
+        rounds(&rt, rt.alloc(), *held, &mut times)?;
+        assert!(rt; are_all(&times), "{times:?}");
     }
     Ok(())
 }

@@ -2,11 +2,10 @@
 use cube_lines::reply_to;
 use disk_mem::MemHost;
 use fresh_lots::{BITMAP, BLOCKS, INODES, SUB_BLOCK as SUB, fresh, one_group};
-use ice_base::Disk;
+use ice_base::{Block, Disk};
 use ice_keep::ThroughKeep;
 use std::alloc::Global;
 use std::process::Abort;
-use std::str;
 use std::test::Fail;
 use tree_spec::{Refusal, Room};
 
@@ -46,16 +45,9 @@ const SOUND: [&[u8]; 16] = [
 pub(crate) fn sound(rt: &impl Abort, alloc: Global) -> Result<MemHost, Fail> {
     let mut host = fresh(alloc)?;
     let mut room = Room::new(alloc)?;
-    for line in SOUND {
-        let got = reply_to(
-            &mut ThroughKeep::new(),
-            &mut host,
-            &one_group(),
-            line,
-            1,
-            &mut room,
-        );
-        assert!(rt; got.is_ok(), "{line:?}");
+    for line in &SOUND {
+        let got = refusal_of(&mut host, line, &mut room);
+        assert!(rt; got.is_none(), "{line:?}");
     }
     Ok(host)
 }
@@ -68,13 +60,17 @@ fn damaged(
     bytes: &[Byte],
 ) -> Result<MemHost, Fail> {
     let mut host = base.crashed(alloc, base.calls(), 1)?;
-    for (at, place, value) in bytes {
-        assert!(rt; *at < host.blocks() && host.calls() == 0 && *place < 1024);
-        let mut block = *host.block(*at);
-        block[*place] = *value;
-        host.set_block(*at, &block);
+    for byte in bytes {
+        set_byte(rt, &mut host, byte);
     }
     Ok(host)
+}
+
+fn set_byte(rt: &impl Abort, host: &mut MemHost, (at, place, value): &Byte) {
+    assert!(rt; *at < host.blocks() && host.calls() == 0 && *place < 1024);
+    let mut block = *host.block(*at);
+    block[*place] = *value;
+    host.set_block(*at, &block);
 }
 
 /// A command of each kind that changes a tree.
@@ -218,54 +214,79 @@ static BITMAPS: [Case; 5] = [
     ),
 ];
 
-#[test]
-fn a_command_names_a_rule_that_the_lot_breaks(rt: HostRuntime) -> Result<(), Fail> {
-    let alloc = rt.alloc();
-    let base = sound(&rt, alloc)?;
+/// What a line over the lot with these bytes is answered.
+fn reply_over(
+    rt: &impl Abort,
+    alloc: Global,
+    base: &MemHost,
+    bytes: &[Byte],
+    line: &[u8],
+    room: &mut Room,
+) -> Result<Option<Refusal>, Fail> {
+    let mut host = damaged(rt, alloc, base, bytes)?;
+    Ok(refusal_of(&mut host, line, room))
+}
+
+fn refusal_of(host: &mut MemHost, line: &[u8], room: &mut Room) -> Option<Refusal> {
+    reply_to(&mut ThroughKeep::new(), host, &one_group(), line, 1, room).err()
+}
+
+/// Asserts that each of the lines is answered so over the lot with these bytes.
+fn try_case(
+    rt: &impl Abort,
+    alloc: Global,
+    base: &MemHost,
+    (want, bytes, lines): &Case,
+    room: &mut Room,
+) -> Result<(), Fail> {
+    for line in lines.iter() {
+        let got = reply_over(rt, alloc, base, bytes, line, room)?;
+        assert!(rt; got == Some(*want), "{line:?} with {bytes:?}: {got:?}");
+    }
+    Ok(())
+}
+
+fn try_cases(rt: &impl Abort, alloc: Global, cases: &[Case]) -> Result<(), Fail> {
+    let base = sound(rt, alloc)?;
     let mut room = Room::new(alloc)?;
-    let cases: [&[Case]; 3] = [&SUBS, &MEETINGS, &BITMAPS];
-    for (want, bytes, lines) in cases.iter().flat_map(|part| part.iter()) {
-        for line in lines.iter() {
-            let mut host = damaged(&rt, alloc, &base, bytes)?;
-            let got = reply_to(
-                &mut ThroughKeep::new(),
-                &mut host,
-                &one_group(),
-                line,
-                1,
-                &mut room,
-            );
-            let text = str::from_utf8(line)?;
-            assert_eq!(rt; got, Err(*want), "{text} with {bytes:?}");
-        }
+    for case in cases {
+        try_case(rt, alloc, &base, case, &mut room)?;
     }
     Ok(())
 }
 
 #[test]
+fn a_command_names_a_rule_that_the_lot_breaks(rt: HostRuntime) -> Result<(), Fail> {
+    try_cases(&rt, rt.alloc(), &SUBS)?;
+    try_cases(&rt, rt.alloc(), &MEETINGS)?;
+    try_cases(&rt, rt.alloc(), &BITMAPS)
+}
+
+/// The first block of inodes.
+fn inodes(rt: &impl Abort, host: &MemHost) -> Block {
+    assert!(rt; host.blocks() == BLOCKS);
+    *host.block(INODES)
+}
+
+/// Lines over a lot in which the inode of `e/x` is marked free.
+const MARKED: [(&[u8], Option<Refusal>); 3] = [
+    (b"mkdir /a/e/z", Some(Refusal::Damaged(13))),
+    (b"list /a/e", None),
+    (b"list /a/e/x", None),
+];
+
+#[test]
 fn a_directory_that_is_marked_free_is_not_overwritten(rt: HostRuntime) -> Result<(), Fail> {
-    let alloc = rt.alloc();
-    let base = sound(&rt, alloc)?;
-    let mut room = Room::new(alloc)?;
-    let mut host = damaged(&rt, alloc, &base, &[(BITMAP, 32, 0xf7)])?;
-    assert!(&rt; host.blocks() == BLOCKS);
-    let inodes = *host.block(INODES);
-    for (line, want) in [
-        (b"mkdir /a/e/z".as_slice(), Some(Refusal::Damaged(13))),
-        (b"list /a/e", None),
-        (b"list /a/e/x", None),
-    ] {
-        let got = reply_to(
-            &mut ThroughKeep::new(),
-            &mut host,
-            &one_group(),
-            line,
-            1,
-            &mut room,
+    let base = sound(&rt, rt.alloc())?;
+    let mut room = Room::new(rt.alloc())?;
+    let mut host = damaged(&rt, rt.alloc(), &base, &[(BITMAP, 32, 0xf7)])?;
+    let before = inodes(&rt, &host);
+    for (line, want) in &MARKED {
+        let got = refusal_of(&mut host, line, &mut room);
+        assert!(rt;
+            got == *want && inodes(&rt, &host) == before,
+            "{line:?}: {got:?}"
         );
-        assert_eq!(&rt; got.err(), want);
-        assert!(&rt; host.blocks() == BLOCKS);
-        assert!(&rt; *host.block(INODES) == inodes);
     }
     Ok(())
 }

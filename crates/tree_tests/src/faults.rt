@@ -49,6 +49,26 @@ fn same_blocks(host: &MemHost, base: &MemHost) -> bool {
     true
 }
 
+/// What a line with a failing call is answered, the calls that it makes, and whether all blocks are as before.
+#[derive(Drop)]
+struct Found {
+    reply: Reply,
+    calls: u64,
+    same: bool,
+}
+
+fn fail(alloc: Global, base: &MemHost, line: &[u8], held: bool, call: u64) -> Result<Found, Fail> {
+    let mut room = Room::new(alloc)?;
+    let mut host = base.crashed(alloc, base.calls(), 1)?;
+    host.fail_at(call)?;
+    let reply = ask(alloc, held, &mut host, line, &mut room)?;
+    Ok(Found {
+        reply,
+        calls: host.calls(),
+        same: same_blocks(&host, base),
+    })
+}
+
 /// Each call of a line fails in turn: the reply is Fault, and no call follows. It answers how many calls there are. Where nothing may be
 /// written, each block is as before, so that the tree is the one before.
 fn fail_each(
@@ -59,21 +79,32 @@ fn fail_each(
     held: bool,
     still: bool,
 ) -> Result<u64, Fail> {
-    let mut room = Room::new(alloc)?;
     let text = str::from_utf8(line)?;
     for call in 0..1000u64 {
-        let mut host = base.crashed(alloc, base.calls(), 1)?;
-        host.fail_at(call)?;
-        let got = ask(alloc, held, &mut host, line, &mut room)?;
-        if host.calls() <= call {
-            assert!(rt; got.is_ok(), "{text}: {got:?}");
+        let found = fail(alloc, base, line, held, call)?;
+        if found.reply.is_ok() && found.calls <= call {
             return Ok(call);
         }
-        assert_eq!(rt; got, Err(Refusal::Fault), "call {call} of {text}");
-        assert_eq!(rt; host.calls(), call.saturating_add(1), "of {text}");
-        assert!(rt; !still || same_blocks(&host, base), "call {call} of {text}");
+        let is_fault = found.reply == Err(Refusal::Fault) && found.calls == call.saturating_add(1);
+        assert!(rt; is_fault && (found.same || !still), "call {call} of {text}");
     }
     Err(Fail::new("too many calls"))
+}
+
+fn fail_changes(rt: &impl Abort, alloc: Global, base: &MemHost, held: bool) -> Result<(), Fail> {
+    for line in &CHANGES {
+        let calls = fail_each(rt, alloc, base, line, held, held)?;
+        assert!(rt; calls > 4, "{calls} calls");
+    }
+    Ok(())
+}
+
+fn fail_looks(rt: &impl Abort, alloc: Global, base: &MemHost, held: bool) -> Result<(), Fail> {
+    for line in &LOOKS {
+        let calls = fail_each(rt, alloc, base, line, held, true)?;
+        assert!(rt; calls > 2, "{calls} calls");
+    }
+    Ok(())
 }
 
 #[test]
@@ -81,15 +112,8 @@ fn a_failing_call_of_the_disk_is_the_last_one_of_its_command(rt: HostRuntime) ->
     let alloc = rt.alloc();
     let made = sound(&rt, alloc)?;
     let base = made.crashed(alloc, made.calls(), 1)?;
-    for held in [true, false] {
-        for line in CHANGES {
-            let calls = fail_each(&rt, alloc, &base, line, held, held)?;
-            assert!(rt; calls > 4, "{calls} calls");
-        }
-        for line in LOOKS {
-            let calls = fail_each(&rt, alloc, &base, line, held, true)?;
-            assert!(rt; calls > 2, "{calls} calls");
-        }
-    }
-    Ok(())
+    fail_changes(&rt, alloc, &base, true)?;
+    fail_looks(&rt, alloc, &base, true)?;
+    fail_changes(&rt, alloc, &base, false)?;
+    fail_looks(&rt, alloc, &base, false)
 }
