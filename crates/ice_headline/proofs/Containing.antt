@@ -124,7 +124,11 @@ module _ (law : ImagesReopen) where
       let keeps = first w starts in
       let aside = (state old).streams.aside in
       let from : LeftSo (FitsBut s) SparesAny aside w _ damaged given = ⊎_elim
-      (λ same. let l = keeps.crash image given crash in (l.0, l.1, after_more (λ v. Fits v image) (λ v. FitsBut s v damaged) (λ steps. SparesBroken (state old) w steps image) (λ steps. SparesAny steps damaged) w _ l.0
-      (λ v fits. fits_but v image damaged s same fits) (λ steps spares. tt) l.2))
+      (λ same. let l = keeps.crash image given crash in (
+        l.0,
+        l.1,
+        after_more (λ v. Fits v image) (λ v. FitsBut s v damaged) (λ steps. SparesBroken (state old) w steps image) (λ steps. SparesAny steps damaged) w _ l.0
+            (λ v fits. fits_but v image damaged s same fits) (λ steps spares. tt) l.2,
+      ))
       (λ d. keeps.damage image given crash s damaged d) harm in
       ((from.0, from.1, contains w _ from.0 s damaged from.2), (λ u o. second u (record { settled = settled; opens = subst (λ i. Opens i u) (sym is) o })))

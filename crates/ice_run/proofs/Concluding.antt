@@ -1,7 +1,7 @@
 -- The end of a session: every cube is unmounted, or an unmount failed.
-use Rattle.std.proofs.Common.{◌≡◌, ◌∙◌, inl, inr, ⊎_elim, ◌≢◌, ◌<◌, ◌≤◌, ◌+◌, ℕ, List, [], ◌++◌, length, refl, sym, ap, subst, arith}
-use Rattle.ice_base.specs.Disk.{Image, DiskState, Streams, Everywhere, Outside, Rose, RoseBy}
-use Rattle.ice_base.specs.Frames.{LeavesOnly, With, Within, Every}
+use Rattle.std.proofs.Common.{◌≡◌, ◌∙◌, inl, inr, ⊎_elim, ◌≢◌, ◌≤◌, ℕ, List, [], ◌++◌, refl, sym, ap, arith}
+use Rattle.ice_base.specs.Disk.{Image, DiskState, Streams, Outside, Rose, RoseBy}
+use Rattle.ice_base.specs.Frames.{LeavesOnly, With, Within}
 use Rattle.ice_base.specs.declared.status.Status.{Status}
 use Rattle.ice_base.specs.declared.status.Status.TheVariants.{Done, Usage, Memory, Source, Sink, Disk, Volume, Script, Small}
 use Rattle.tree_spec.specs.World.{World}
@@ -11,8 +11,8 @@ use Rattle.ice_volume.specs.Lines.{IsOfBroken}
 use Rattle.ice_volume.specs.Sessions.{finished}
 use Rattle.ice_volume.specs.Volumes.{VolumeView, StandsFor}
 use Rattle.ice_volume.proofs.StandLaws.{stands_fits}
-use Rattle.ice_run.specs.Runs.{end, faults_of}
-use Rattle.ice_run.specs.Scripts.{script_lines, longest_script}
+use Rattle.ice_run.specs.Runs.{end}
+use Rattle.ice_run.specs.Scripts.{script_lines}
 use Rattle.ice_run.specs.Servings.{Served, Concluded, AllAnswered}
 use Rattle.ice_run.specs.Sessions.{SoFar, CrashesSo}
 use Rattle.ice_run.proofs.SessionLaws.{between_lines}

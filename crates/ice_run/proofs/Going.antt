@@ -1,5 +1,5 @@
 -- Calls of a session go on from one another: the disk stays the same one, and no count of faults falls.
-use Rattle.std.proofs.Common.{◌∙◌, ℕ, List, refl, ap, arith}
+use Rattle.std.proofs.Common.{ℕ, List, ap, arith}
 use Rattle.ice_base.specs.Disk.{Image, DiskState, Outside, Streams}
 use Rattle.ice_base.proofs.Kept.{kept_refl, kept_then, kept_within, kept_same}
 use Rattle.ice_base.specs.Frames.{Within}

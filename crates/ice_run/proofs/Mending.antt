@@ -1,10 +1,10 @@
 -- A broken cube stays so as long as no line may mend or delete it.
-use Rattle.std.proofs.Common.{◌≡◌, ◌≢◌, ◌∙◌, ⊎_elim, ℕ, Bool, true, false, cond, nat_eq, List, [], ◌∷◌, Option, None, Some, refl, sym, ap, subst, arith}
+use Rattle.std.proofs.Common.{◌≡◌, ◌≢◌, ⊎_elim, ℕ, Bool, true, false, cond, nat_eq, List, [], ◌∷◌, Option, None, Some, sym, ap, subst, arith}
 use Rattle.std.specs.Prelude.{⊤}
 use Rattle.std.proofs.lemmas.Bool.{cases_eq}
 use Rattle.tree_spec.specs.Replies.{Response}
 use Rattle.tree_spec.specs.Records.{Cube, Content, Sound, Broken, Unread, History, with_state}
-use Rattle.tree_spec.specs.Own.{Order, OnTree, Sync, Unmount, Mount, Check, SetOffline, SetOnline, Delete, Grow, Create, Verdict, No, Yes, Says, Plainly, Own, IfMounted, IfMountable, OfSound, MountFinds, CheckFinds, NamesOne, after_fault, on_offline, on_online, on_sync, on_tree, stops}
+use Rattle.tree_spec.specs.Own.{Order, OnTree, Sync, Unmount, Mount, Check, SetOffline, SetOnline, Delete, Grow, Create, Verdict, No, Yes, Says, Plainly, Own, IfMounted, IfMountable, OfSound, MountFinds, CheckFinds, on_offline, on_online, on_sync, on_tree, stops}
 use Rattle.tree_spec.specs.World.{World, Aim, Refuse, Listing, At, aim, Goes, with_slot}
 use Rattle.tree_spec.specs.declared.reply.StateWord.{StateWord}
 use Rattle.tree_spec.specs.declared.reply.StateWord.TheVariants.{Mounted, Unmounted, Stopped, Offline}

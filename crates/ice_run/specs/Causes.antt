@@ -1,5 +1,5 @@
 -- Why calls of a session and the making of an image end.
-use Rattle.std.specs.Prelude.{◌≡◌, ◌⊎◌, ◌≤◌, ◌<◌, ℕ, ⊤}
+use Rattle.std.specs.Prelude.{◌⊎◌, ◌≤◌, ◌<◌, ℕ, ⊤}
 use Rattle.ice_base.specs.Disk.{DiskState, Outside, Rose}
 use Rattle.ice_base.specs.Frames.{Kept}
 use Rattle.ice_base.specs.declared.status.Status.{Status}

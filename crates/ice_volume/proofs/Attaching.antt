@@ -1,6 +1,6 @@
 -- A volume that is opened: it stands for each world that the image opens.
 use Rattle.std.proofs.Common.{◌≡◌, ◌∙◌, ◌⊎◌, inl, inr, ⊎_elim, ◌≤◌, ℕ, true, false, List, length, Option, Some, None, refl, sym, ap, subst, arith}
-use Rattle.ice_base.specs.Disk.{Image, DiskState, Everywhere, Below, block}
+use Rattle.ice_base.specs.Disk.{Image, DiskState, Below, block}
 use Rattle.ice_base.specs.Frames.{Within, LeavesOnly, With, Every, CrashStep}
 use Rattle.ice_base.specs.Lots.{LotView, extent}
 use Rattle.tree_spec.specs.Records.{Cube, Content, Sound, Broken, Unread}
@@ -13,17 +13,16 @@ use Rattle.ice_tables.proofs.TableLaws.{tables_one, tables_rest}
 use Rattle.ice_tables.proofs.FaultLaws.{with_tables}
 use Rattle.ice_tables.proofs.LotSites.{lot_high}
 use Rattle.ice_images.specs.Fitting.{ShowCubes, Has, Fits}
-use Rattle.ice_images.specs.Opening.{OpensBroken, OpensContent, OpensCube}
+use Rattle.ice_images.specs.Opening.{OpensContent, OpensCube}
 use Rattle.ice_images.proofs.FittingLaws.{has_rests}
 use Rattle.ice_images.proofs.OpeningLaws.{opens_fits, named_rests}
 use Rattle.ice_system.specs.Attaching.{IsReplayed, Attaches, RefusesDisk, TooSmall}
-use Rattle.ice_system.specs.Systems.{SystemView, tables_of}
+use Rattle.ice_system.specs.Systems.{tables_of}
 use Rattle.ice_system.specs.declared.fault.TablesFault.{TablesFault}
 use Rattle.ice_system.specs.declared.fault.TablesFault.TheVariants.{Disk, Layout, Memory, Small}
-use Rattle.ice_volume.specs.Cells.{Carries, EachHas, IsKnown, Rests, cell_at}
+use Rattle.ice_volume.specs.Cells.{Carries, EachHas, IsKnown}
 use Rattle.ice_volume.specs.Sessions.{AllClosed, IsOfHost, Starts}
 use Rattle.ice_volume.specs.Volumes.{VolumeView, StandsFor}
-use Rattle.ice_volume.specs.declared.cell.Cell.{Cell}
 use Rattle.ice_volume.specs.declared.cell.Cell.TheVariants.{Closed}
 use Rattle.ice_volume.proofs.StandLaws.{recovers_rests}
 

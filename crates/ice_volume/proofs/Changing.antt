@@ -1,39 +1,34 @@
 -- A change of the tables: what it leaves of the cells and the lots, and the world that is stood for after it.
-use Rattle.std.proofs.Common.{◌≡◌, ◌≢◌, ◌∙◌, inl, inr, ⊎_elim, ◌<◌, ◌≤◌, ◌+◌, ◌*◌, ℕ, true, false, cond, nat_eq, List, length, Option, Some, None, option_map, Result, Ok, Err, OnOk, OnErr, IfOk, refl, sym, ap, subst, arith}
+use Rattle.std.proofs.Common.{◌≡◌, ◌≢◌, ◌∙◌, inl, inr, ⊎_elim, ◌<◌, ◌≤◌, ◌+◌, ◌*◌, ℕ, false, List, length, Option, Some, None, option_map, Result, Ok, Err, OnOk, OnErr, IfOk, refl, sym, ap, subst, arith}
 use Rattle.std.specs.Prelude.{◌⊎◌, IsSome}
 use Rattle.std.proofs.lemmas.Bool.{cases_eq}
-use Rattle.ice_base.specs.Disk.{Image, DiskState, block, AgreesOn, Outside, Rose, RoseBy, Streams}
+use Rattle.ice_base.specs.Disk.{Image, DiskState, AgreesOn, Outside, Rose, RoseBy, Streams}
 use Rattle.ice_base.specs.Frames.{Within, LeavesOnly, With, Sure, Kept}
 use Rattle.ice_base.specs.FrameLaws.{within_refl, within_more, within_next}
 use Rattle.ice_base.specs.Lots.{LotView, extent}
 use Rattle.ice_base.proofs.LotLaws.{extent_cases}
-use Rattle.ice_base.proofs.Kept.{sure_kept, every_kept, kept_within}
+use Rattle.ice_base.proofs.Kept.{sure_kept, kept_within}
 use Rattle.tree_spec.specs.Held.{RoomContent}
 use Rattle.tree_spec.specs.Lines.{Line}
-use Rattle.tree_spec.specs.Records.{Cube, Content, Sound, Broken, Unread}
+use Rattle.tree_spec.specs.Records.{Cube}
 use Rattle.tree_spec.specs.Replies.{Response, Tallies, meant}
 use Rattle.tree_spec.specs.Replies as reply
 use Rattle.tree_spec.specs.Own.{Order, Own}
 use Rattle.tree_spec.specs.World.{World, Aim, At, aim, Step, Goes, with_slot}
 use Rattle.tree_spec.specs.declared.reply.Refusal.{Refusal}
 use Rattle.tree_spec.specs.declared.reply.Refusal.TheVariants as code
-use Rattle.tree_spec.specs.declared.reply.StateWord.{StateWord}
 use Rattle.tree_spec.specs.declared.reply.Value.{Value}
 use Rattle.ice_tables.specs.Tables.{Tables, Row, HasTables}
 use Rattle.ice_tables.specs.Lots.{IsTable, AtRest, total, lot_of, groups_of}
-use Rattle.ice_tables.proofs.JournalLaws.{lot_blocks_rest}
 use Rattle.ice_tables.proofs.TableLaws.{at_rest_rests}
 use Rattle.ice_tables.proofs.LotSites.{lot_high}
-use Rattle.ice_images.specs.Fitting.{Entry, entry_at, cube_entry, ShowCubes, HasContent, Has, Fits}
-use Rattle.ice_images.proofs.OpeningLaws.{named_rests}
-use Rattle.ice_cube.specs.Cubes.{CubeView}
-use Rattle.ice_cube.proofs.CubeLaws.{holds_kept}
+use Rattle.ice_images.specs.Fitting.{Entry, entry_at, cube_entry, ShowCubes, Has, Fits}
 use Rattle.ice_system.specs.Systems.{SystemView, tables_of}
 use Rattle.ice_system.specs.Says.{IsChange, EitherTables}
 use Rattle.ice_system.specs.Changes.{SlotBecomes, Changes}
 use Rattle.ice_system.specs.declared.fault.SystemFault.{SystemFault}
 use Rattle.ice_system.specs.declared.fault.SystemFault.TheVariants.{Before, After}
-use Rattle.ice_volume.specs.Cells.{cell_at, IsSession, EachHas, IsKnown, Rests, HasOpen, Carries}
+use Rattle.ice_volume.specs.Cells.{cell_at, IsSession, EachHas, Carries}
 use Rattle.ice_volume.specs.Volumes.{VolumeView, AreSessions, StandsFor, IsWritable}
 use Rattle.ice_volume.specs.Lines.{AnswersLine, Answers, IsTableOrder, LineFound, LineWrites, MayFit, OrderFound, OrderWrites, IsOfBroken, SaysBroken, fault_in}
 use Rattle.ice_volume.specs.Told.{told_of, CellBecomes}

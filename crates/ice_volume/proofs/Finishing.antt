@@ -1,5 +1,5 @@
 -- Cubes that are unmounted at the end of a session.
-use Rattle.std.proofs.Common.{◌≡◌, ◌≢◌, ◌∙◌, inl, inr, ⊎_elim, ◌<◌, ◌≤◌, ◌+◌, ◌++◌, ℕ, Bool, true, false, cond, nat_lt, List, [], ◌∷◌, length, take, Option, None, Some, option_map, Result, Ok, Err, OnOk, OnErr, refl, sym, ap, subst, length-append, arith}
+use Rattle.std.proofs.Common.{◌≡◌, ◌≢◌, ◌∙◌, inl, inr, ⊎_elim, ◌<◌, ◌≤◌, ◌+◌, ◌++◌, ℕ, Bool, true, false, cond, nat_lt, List, length, Option, None, Some, option_map, Result, Ok, Err, OnOk, OnErr, refl, sym, ap, subst, length-append, arith}
 use Rattle.std.specs.Prelude.{◌&&◌, ◌⊎◌, IsErrOf, is_ok}
 use Rattle.std.proofs.lemmas.Bool.{cases_lt}
 use Rattle.std.proofs.lemmas.Bool.Decides.{nat_tests}
@@ -13,7 +13,7 @@ use Rattle.tree_spec.specs.Why.{Why}
 use Rattle.tree_spec.specs.Trees.{Tree}
 use Rattle.tree_spec.specs.Costs.{Form}
 use Rattle.tree_spec.specs.Operations.{Operation}
-use Rattle.tree_spec.specs.Answers.{next_tree, tree_after}
+use Rattle.tree_spec.specs.Answers.{tree_after}
 use Rattle.tree_spec.specs.Held.{RoomContent}
 use Rattle.tree_spec.specs.Replies.{Response, meant}
 use Rattle.tree_spec.specs.Replies as reply
@@ -136,11 +136,11 @@ plain_away c d r v word.Mounted Unread state content is says = absurd is
 
 fault_away : (c : Cube) (d : Option Cube) (r : Response) → c.state ≡ word.Mounted → r ≡ Err reply.Fault → d ≡ Some (with_state word.Stopped c) → GoesAway (Some c) r d
 fault_away c d r mounted fault same = goes_as (Some c) d (Some (with_state word.Stopped c)) r same (record {
-      good = stopped_good c mounted;
-      away = λ none. absurd (none fault);
-      tried = inr (ap (λ (x : Cube). Some x) (sym (stopped_mounted c mounted)));
-      broken = λ was. was;
-    })
+  good = stopped_good c mounted;
+  away = λ none. absurd (none fault);
+  tried = inr (ap (λ (x : Cube). Some x) (sym (stopped_mounted c mounted)));
+  broken = λ was. was;
+})
 
 mounted_if : (s : StateWord) → is_mounted s ≡ true → s ≡ word.Mounted
 mounted_if word.Mounted p = refl
@@ -268,7 +268,13 @@ module _ (v : VolumeView) (s : DiskState) (w : World) (stands : StandsFor v s w)
 
 -- nothing was put away yet
 pub away_none : (v : VolumeView) (s : DiskState) (w : World) (ok : Bool) → StandsFor v s w → HasPutAway 0 ok v s w
-away_none v s w ok stands = record { next = w; stands = stands; slots = refl; groups = refl; good = λ x. same_good (w.cube x) (w.cube x) refl; away = λ is x. let none : nat_lt x 0 ≡ false = grind (arith, nat_tests) in sym (ap (λ b. cond b (away_at (w.cube x)) (w.cube x)) none);
+away_none v s w ok stands = record {
+  next = w;
+  stands = stands;
+  slots = refl;
+  groups = refl;
+  good = λ x. same_good (w.cube x) (w.cube x) refl;
+  away = λ is x. let none : nat_lt x 0 ≡ false = grind (arith, nat_tests) in sym (ap (λ b. cond b (away_at (w.cube x)) (w.cube x)) none);
   tried = λ x less. absurd (omega (arith, less));
   ahead = λ x far. refl;
   broken = λ x was. was;

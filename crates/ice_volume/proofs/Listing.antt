@@ -1,12 +1,12 @@
 -- The line that lists the cubes.
-use Rattle.std.proofs.Common.{◌≡◌, ◌∙◌, ◌+◌, inl, ℕ, List, [], length, Ok, refl, sym, ap, arith}
+use Rattle.std.proofs.Common.{◌≡◌, ◌∙◌, inl, ℕ, List, [], length, Ok, refl, ap, arith}
 use Rattle.ice_base.specs.Disk.{Image, DiskState, Outside}
 use Rattle.ice_base.specs.FrameLaws.{within_refl}
 use Rattle.tree_spec.specs.Held.{RoomContent}
 use Rattle.tree_spec.specs.Lines.{Asks, Cubes}
 use Rattle.tree_spec.specs.Replies.{meant}
 use Rattle.tree_spec.specs.Replies as reply
-use Rattle.tree_spec.specs.World.{World, aim, cube_rows}
+use Rattle.tree_spec.specs.World.{World, aim}
 use Rattle.tree_spec.specs.declared.reply.Entry.{Entry}
 use Rattle.tree_spec.specs.declared.reply.CubeRow.{CubeRow}
 use Rattle.tree_spec.specs.declared.reply.Value.TheVariants.{Listed}

@@ -1,7 +1,7 @@
 -- What a volume and its disk stand for: the images that a crash leaves fit it, and it outlasts what keeps the blocks.
-use Rattle.std.proofs.Common.{◌≡◌, ◌∙◌, ◌≤◌, ℕ, true, List, length, Option, None, Some, refl, sym, subst}
-use Rattle.ice_base.specs.Disk.{Image, DiskState, Everywhere, AgreesOn, block}
-use Rattle.ice_base.specs.Frames.{Every, Kept, RestsOn, Sure}
+use Rattle.std.proofs.Common.{◌≡◌, ◌∙◌, ◌≤◌, ℕ, true, length, sym, subst}
+use Rattle.ice_base.specs.Disk.{DiskState, Everywhere}
+use Rattle.ice_base.specs.Frames.{Every, Kept, RestsOn}
 use Rattle.ice_base.specs.Lots.{LotView, extent}
 use Rattle.ice_base.proofs.Kept.{sure_kept, kept_fewer}
 use Rattle.tree_spec.specs.Records.{Mode}

@@ -11,7 +11,7 @@ use Rattle.tree_spec.specs.Why as why
 use Rattle.tree_spec.specs.Why.{Why}
 use Rattle.tree_spec.specs.Own as order
 use Rattle.tree_spec.specs.Own.{Order, Own, Verdict, No, Yes, Plainly, IfMounted, OfSound, on_sync, on_tree}
-use Rattle.tree_spec.specs.Records.{Cube, Content, Sound, Broken, Unread, History, Mode, done, settled, is_mounted, is_offline, with_history, with_state}
+use Rattle.tree_spec.specs.Records.{Cube, Content, Sound, History, Mode, done, settled, is_mounted, is_offline, with_history, with_state}
 use Rattle.tree_spec.specs.Replies.{Response, Because, Tallies, meant, refused_of}
 use Rattle.tree_spec.specs.Replies as reply
 use Rattle.tree_spec.specs.declared.reply.Refusal.{Refusal}

@@ -1,5 +1,5 @@
 -- What the session has of each slot, and when a cell and a lot carry what a record says.
-use Rattle.std.specs.Prelude.{◌≡◌, ℕ, Bool, ⊤, List, length, Option, None, Some, IsSome, slice_index_or}
+use Rattle.std.specs.Prelude.{◌≡◌, ℕ, Bool, ⊤, List, Option, None, Some, IsSome, slice_index_or}
 use Rattle.ice_base.specs.Disk.{Image, DiskState}
 use Rattle.ice_base.specs.Frames.{Every}
 use Rattle.ice_base.specs.Lots.{LotView, extent}
@@ -7,7 +7,7 @@ use Rattle.tree_spec.specs.Costs.{form_one}
 use Rattle.tree_spec.specs.Records.{Cube, Content, Sound, Broken, Unread, Plain, is_offline}
 use Rattle.tree_spec.specs.declared.reply.StateWord.{StateWord}
 use Rattle.tree_spec.specs.declared.reply.StateWord.TheVariants as word
-use Rattle.ice_tables.specs.Tables.{Tables, Row}
+use Rattle.ice_tables.specs.Tables.{Tables}
 use Rattle.ice_tables.specs.Lots.{lot_of}
 use Rattle.ice_images.specs.Fitting.{Has}
 use Rattle.ice_images.specs.Opening.{OpensBroken, closed_state}

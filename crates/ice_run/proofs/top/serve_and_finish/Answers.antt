@@ -1,6 +1,5 @@
-use Rattle.std.proofs.Common.{◌≡◌, subst, sym}
+use Rattle.std.proofs.Common.{subst}
 use Rattle.ice_base.specs.declared.status.Status.{Status}
-use Rattle.ice_base.specs.declared.status.Status.TheVariants.{Done}
 use Rattle.ice_run.specs.Servings.{Served}
 use Rattle.ice_run.proofs.Concluding.{concluded_as, concluded_well, concluded_failed}
 use Rattle.ice_run.proofs.top.serve_and_finish.Goals as goal

@@ -1,12 +1,6 @@
-use Rattle.std.proofs.Common.{◌≡◌, ◌∙◌, ℕ, Ok, Err, refl, sym, ap, subst}
-use Rattle.tree_spec.specs.Own as order
-use Rattle.tree_spec.specs.declared.reply.Refusal.{Refusal}
-use Rattle.tree_spec.specs.declared.reply.StateWord.{StateWord}
-use Rattle.tree_spec.specs.declared.reply.Value.TheVariants as given
-use Rattle.ice_volume.specs.Orders.{cell_with, fault_refusal, mount_refusal, told_mount}
-use Rattle.ice_volume.specs.declared.cell.Cell.TheVariants.{Open}
-use Rattle.ice_volume.proofs.Telling.{order_as}
-use Rattle.ice_volume.proofs.Mounting.{unmounted_order, mount_order}
+use Rattle.std.proofs.Common.{◌∙◌, sym, ap}
+use Rattle.ice_volume.specs.Orders.{mount_refusal}
+use Rattle.ice_volume.proofs.Mounting.{unmounted_order}
 use Rattle.ice_volume.proofs.orders.mount_cell.Goals as goal
 
 pub returns-in-Some : goal.returns-in-Some

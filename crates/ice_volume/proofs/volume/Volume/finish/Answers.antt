@@ -2,7 +2,7 @@ use Rattle.std.proofs.Common.{◌≡◌, ◌∙◌, ◌≤◌, ◌+◌, Bool, tr
 use Rattle.std.specs.Prelude.{◌&&◌, is_ok}
 use Rattle.ice_volume.specs.Sessions.{HasPutAway}
 use Rattle.ice_volume.specs.Volumes.{VolumeView}
-use Rattle.ice_volume.proofs.Finishing.{away_all, away_more, away_none, finish_cause, finish_leaves, finish_spares, finish_within, tried_all}
+use Rattle.ice_volume.proofs.Finishing.{away_all, away_more, finish_cause, finish_leaves, finish_spares, finish_within, tried_all}
 use Rattle.ice_volume.proofs.volume.Volume.finish.Goals as goal
 
 pub loop-slot-preserved : goal.loop-slot-preserved

@@ -1,5 +1,5 @@
 use Rattle.std.proofs.Common.{◌∙◌, Ok, length, sym, ap, subst}
-use Rattle.tree_spec.specs.Lines.{Asks, Cubes, asked}
+use Rattle.tree_spec.specs.Lines.{Asks, asked}
 use Rattle.tree_spec.specs.declared.command.Command.{Command}
 use Rattle.tree_spec.specs.declared.reply.Value.TheVariants.{Listed}
 use Rattle.ice_script.specs.Bounds.{InBounds}
