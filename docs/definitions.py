@@ -11,6 +11,7 @@ import sys
 ROOTS = [
     ("ice_run", "run"),
     ("ice_run", "image_of"),
+    ("ice_run", "broken_cubes_stay_broken"),
     ("ice_headline", None),
     ("ice_volume", None),
     ("ice_cube", None),
