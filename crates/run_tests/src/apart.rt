@@ -66,18 +66,24 @@ fn is_closing(line: &[u8]) -> bool {
     line.starts_with(b"ok") || line.starts_with(b"no")
 }
 
+/// Whether the line begins with one of the words.
+fn begins_with(line: &str, words: &[&str]) -> bool {
+    for word in words {
+        if line.starts_with(*word) {
+            return true;
+        }
+    }
+    false
+}
+
 /// Whether a fault in this line on a cube leaves all as it is.
 fn is_look(line: &str) -> bool {
-    ["read", "list", "stat", "check"]
-        .iter()
-        .any(|word| line.starts_with(*word))
+    begins_with(line, &["read", "list", "stat", "check"])
 }
 
 /// Whether this line changes the tables.
 fn is_of_tables(line: &str) -> bool {
-    ["create", "grow", "offline", "online"]
-        .iter()
-        .any(|word| line.starts_with(*word))
+    begins_with(line, &["create", "grow", "offline", "online"])
 }
 
 /// What a failing call was felt by.

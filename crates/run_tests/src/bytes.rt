@@ -46,7 +46,7 @@ fn sub_block(done: u64, blocks: u32, nodes: u32) -> Block
 fn sub_super_blocks_have_their_bytes(rt: HostRuntime) {
     let fresh = sub_block(0, 0, 1);
     assert_eq!(rt; part(&fresh, 0, 32), FRESH_SUB.as_slice());
-    assert!(rt; part(&fresh, 32, 1024).iter().all(|byte| *byte == 0));
+    assert!(rt; part(&fresh, 32, 1024) == [0; 992].as_slice());
     let later = sub_block(1, 1, 2);
     assert_eq!(rt; part(&later, 16, 32), SUB_AFTER_MKDIR.as_slice());
     assert!(rt; read_sub(&later, 0) == Ok(sub_of(1, 1, 2)));
@@ -134,7 +134,7 @@ fn superblocks_have_their_bytes(rt: HostRuntime) {
     assert!(rt; read_super(&block) == Ok(GEOMETRY));
     let mut block = [7; 1024];
     fresh_block(&GEOMETRY, 1, &mut block);
-    assert!(rt; block.iter().all(|byte| *byte == 0));
+    assert!(rt; block == [0; 1024]);
     assert_eq!(rt; Status::Small as u8, 8);
 }
 

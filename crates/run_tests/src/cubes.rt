@@ -33,13 +33,13 @@ const BYTES: [(u32, usize, &[u8]); 11] = [
 ];
 
 fn has(host: &MemHost, at: u32, place: usize, bytes: &[u8]) -> bool {
-    at < host.blocks()
-        && host
-            .block(at)
-            .iter()
-            .skip(place)
-            .zip(bytes)
-            .all(|(byte, want)| byte == want)
+    if at >= host.blocks() {
+        return false;
+    }
+    match host.block(at).get(place..) {
+        Some(found) => found.starts_with(bytes),
+        None => false,
+    }
 }
 
 #[test]
@@ -201,11 +201,13 @@ const CALLS: u64 = 15;
 /// Whether `/a` is mounted with its directory. Without it, it is empty and counts nothing.
 fn has_directory(alloc: Global, host: &mut MemHost) -> Result<bool, Fail> {
     let status = session(alloc, host, b"mount /a\nlist /a\n")?;
-    match (status, str::from_utf8(host.output())?) {
-        (Status::Done, "ok 1\ndir x\nok 1\n") => Ok(true),
-        (Status::Done, "ok 0\nok 0\n") => Ok(false),
-        _ => Err(Fail::new("another tree")),
+    if status == Status::Done && host.output() == b"ok 1\ndir x\nok 1\n".as_slice() {
+        return Ok(true);
     }
+    if status == Status::Done && host.output() == b"ok 0\nok 0\n".as_slice() {
+        return Ok(false);
+    }
+    Err(Fail::new("another tree"))
 }
 
 /// Whether `/a` has its directory after a crash.

@@ -30,7 +30,7 @@ fn has_image(rt: &impl Abort, host: &MemHost) {
     assert!(rt; host.blocks() == 1312);
     let first = host.block(0);
     assert_eq!(rt; first[..20], START[..]);
-    assert!(rt; first[20..].iter().all(|byte| *byte == 0));
+    assert!(rt; first[20..] == [0; 1004][..]);
 }
 
 #[test]
@@ -59,7 +59,7 @@ fn has_start<D: Disk>(disk: &mut D) -> bool {
     let blocks = disk.blocks();
     match (block_of(disk, 0), block_of(disk, 31)) {
         (Some(first), Some(last)) => {
-            blocks == 1312 && first[..20] == START[..] && last.iter().all(|byte| *byte == 0)
+            blocks == 1312 && first[..20] == START[..] && last == [0; 1024]
         }
         _ => false,
     }

@@ -41,12 +41,23 @@ fn two_cubes(rt: &impl Abort, alloc: Global) -> Result<MemHost, Fail> {
 
 /// How many changes are answered where so many bytes have been given.
 fn answered(given: usize) -> usize {
-    ANSWERED.iter().filter(|bytes| given >= **bytes).count()
+    let mut count: usize = 0;
+    for bytes in &ANSWERED {
+        if given >= *bytes {
+            count = count.saturating_add(1);
+        }
+    }
+    count
 }
 
 /// Which list these bytes are.
 fn list_of(given: &[u8]) -> Option<usize> {
-    LISTS.iter().position(|list| *list == given)
+    for (k, list) in LISTS.iter().enumerate() {
+        if *list == given {
+            return Some(k);
+        }
+    }
+    None
 }
 
 /// Which list a further session over the host shows.
