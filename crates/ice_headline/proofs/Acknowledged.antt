@@ -190,7 +190,8 @@ pub run_covers : (n s : ℕ) (w : World) (steps : List Answered) → Covers n (w
     → Covers (acknowledged_from n s w steps) ((end w steps).cube s)
 run_covers n s w [] p runs = p
 run_covers n s w (a ∷ rest) p runs =
-    run_covers (if_live (a.then.cube s) (acknowledged_at s (aim w a.line) a.reply n)) s a.then rest (goes_covers n s (aim w a.line) w a.then a.reply p runs.0) runs.1
+    run_covers (if_live (a.then.cube s) (acknowledged_at s (aim w a.line) a.reply n)) s a.then rest
+    (goes_covers n s (aim w a.line) w a.then a.reply p runs.0) runs.1
 
 -- nothing is always covered
 pub zero_covers : (c : Option Cube) → Covers 0 c

@@ -87,7 +87,9 @@ survives x w steps c h i u low all at =
       there = at.there;
       found = at.found;
       told = told;
-      mounts = λ a rest runs is on clean. first_mount x k t c at.cube u a rest at.there at.found told (serves at.cube t k x u (a ∷ rest) at.there rests runs) is on clean;
+      mounts =
+          λ a rest runs is on clean. first_mount x k t c at.cube u a rest at.there at.found told
+          (serves at.cube t k x u (a ∷ rest) at.there rests runs) is on clean;
       serves = λ later runs. serves at.cube t k x u later at.there rests runs;
     }
 
@@ -116,9 +118,11 @@ module _ (law : ImagesReopen) where
   }
 
   -- two sessions that keep their promises
-  pub headline : {D E : Type 0} (state : D → DiskState) (left : D → ℕ → Image → List ℕ → Type 0) (later : E → DiskState) (late : E → ℕ → Image → List ℕ → Type 0)
+  pub headline : {D E : Type 0} (state : D → DiskState) (left : D → ℕ → Image → List ℕ → Type 0) (later : E → DiskState) (late : E → ℕ
+      → Image → List ℕ → Type 0)
       → (status last : Status) (old new : D) (before after : E)
-      → ((w : World) → Starts (state old) w → Keeps state left status w old new) → ((u : World) → Starts (later before) u → Keeps later late last u before after)
+      → ((w : World) → Starts (state old) w → Keeps state left status w old new)
+      → ((u : World) → Starts (later before) u → Keeps later late last u before after)
       → After state left later late last old new before after
   headline state left later late status last old new before after first second w starts image given crash s damaged harm settled is =
       let keeps = first w starts in

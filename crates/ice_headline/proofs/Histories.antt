@@ -123,7 +123,8 @@ module _ (c : Cube) (h : History) (is : c.content ≡ Sound h) where
   mounted_leads Offline f v leads p = leads_as h v _ p tt
 
   sync_leads : (to : StateWord) → Leads h (on_sync c to h)
-  sync_leads to = let long = length-append h.sure h.since in (settled h, refl, record { base = refl; from = refl; more = h.since; sure = refl }, omega (arith, long))
+  sync_leads to =
+      let long = length-append h.sure h.since in (settled h, refl, record { base = refl; from = refl; more = h.since; sure = refl }, omega (arith, long))
 
   mount_leads : (j : ℕ) → j ≤ length h.since → Leads h (on_mount c h j)
   mount_leads j few =

@@ -26,7 +26,8 @@ begins g h k on low =
       on = on;
       count = omega (arith, low, long, same);
       more = take j (on.more ++ h.since);
-      first = ap (λ n. take n (h.sure ++ h.since)) far ∙ ap (λ (xs : List Operation). take (length g.sure + j) xs) all ∙ take_more g.sure (on.more ++ h.since) j;
+      first =
+          ap (λ n. take n (h.sure ++ h.since)) far ∙ ap (λ (xs : List Operation). take (length g.sure + j) xs) all ∙ take_more g.sure (on.more ++ h.since) j;
     }
 
 -- an Ok settles a sound cube
@@ -88,7 +89,8 @@ goes_settled x o w a is g ok =
 
 line_settled : (x : ℕ) (w : World) (a : Answered) → IsSettling x (aim w a.line) → Step w a.line a.reply a.then → IsOk a.reply → Acknowledges x a
 line_settled x w a is step ok =
-    ⊎_elim (λ s. goes_settled x Sync w a tt (subst (λ b. Goes w b a.reply a.then) s step) ok) (λ u. goes_settled x Unmount w a tt (subst (λ b. Goes w b a.reply a.then) u step) ok) is
+    ⊎_elim (λ s. goes_settled x Sync w a tt (subst (λ b. Goes w b a.reply a.then) s step) ok)
+    (λ u. goes_settled x Unmount w a tt (subst (λ b. Goes w b a.reply a.then) u step) ok) is
 
 runs_last : (w : World) (before rest : List Answered) → Runs w (before ++ rest) → Runs (end w before) rest
 runs_last w [] rest runs = runs

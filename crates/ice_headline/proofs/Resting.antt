@@ -43,7 +43,9 @@ Rests d t k more (Some e) = RestsAs d t k more e
 
 module _ (d : Cube) (t : Tree) (k : ℕ) where
   rested : (more : ℕ) (e : Cube) → RestsAs d t k more e → RestsAs d t k (0 + more) e
-  rested more e r = let is : e.groups ≡ d.groups + (0 + more) = omega (arith, r.groups) in record { path = r.path; groups = is; form = r.form; mode = r.mode; state = r.state; content = r.content }
+  rested more e r =
+      let is : e.groups ≡ d.groups + (0 + more) = omega (arith, r.groups) in
+      record { path = r.path; groups = is; form = r.form; mode = r.mode; state = r.state; content = r.content }
 
   -- what a verdict leads to, with the groups that the order adds; a mount leads elsewhere
   abbrev Keeps : ℕ → Order → Verdict → Type 0
@@ -88,7 +90,9 @@ module _ (d : Cube) (t : Tree) (k : ℕ) where
   check_keeps more Offline e h v r p = keeps_as more Check v _ p.2 (λ not. rested more e r)
 
   to_state : (more : ℕ) (e : Cube) (s : StateWord) → IsClosed s → RestsAs d t k more e → RestsAs d t k (0 + more) (with_state s e)
-  to_state more e s closed r = let is : e.groups ≡ d.groups + (0 + more) = omega (arith, r.groups) in record { path = r.path; groups = is; form = r.form; mode = r.mode; state = closed; content = r.content }
+  to_state more e s closed r =
+      let is : e.groups ≡ d.groups + (0 + more) = omega (arith, r.groups) in
+      record { path = r.path; groups = is; form = r.form; mode = r.mode; state = closed; content = r.content }
 
   offline_keeps : (more : ℕ) (s : StateWord) (e : Cube) → RestsAs d t k more e → Keeps more SetOffline (on_offline e s)
   offline_keeps more Mounted e r = tt
@@ -103,7 +107,9 @@ module _ (d : Cube) (t : Tree) (k : ℕ) where
   online_keeps more Offline e r = λ not. to_state more e Unmounted tt r
 
   grow_keeps : (more n : ℕ) (e : Cube) → RestsAs d t k more e → RestsAs d t k (n + more) (grown n e)
-  grow_keeps more n e r = let is : e.groups + n ≡ d.groups + (n + more) = omega (arith, r.groups) in record { path = r.path; groups = is; form = r.form; mode = r.mode; state = r.state; content = ap mended r.content }
+  grow_keeps more n e r =
+      let is : e.groups + n ≡ d.groups + (n + more) = omega (arith, r.groups) in
+      record { path = r.path; groups = is; form = r.form; mode = r.mode; state = r.state; content = ap mended r.content }
 
   plain_keeps : (more : ℕ) (e : Cube) (o : Order) (v : Verdict) → RestsAs d t k more e → Plainly (Some e) o v → Keeps more o v
   plain_keeps more e (OnTree op) v r p = mounted_keeps more (OnTree op) e.state e.content (on_tree e op) v r.state p
@@ -241,7 +247,8 @@ module _ (d : Cube) (t : Tree) (k : ℕ) where
       let live = lives_now x a.then rest lives.1 in
       let here = live_told (a.then.cube x) ts live in
       let step =
-      goes_rests x more (aim w a.line) a.reply w a.then e ts there rests live runs.0 (subst (λ (us : List Told). NoneMounted (told_at x (aim w a.line) a.reply us)) here none) in
+      goes_rests x more (aim w a.line) a.reply w a.then e ts there rests live runs.0
+      (subst (λ (us : List Told). NoneMounted (told_at x (aim w a.line) a.reply us)) here none) in
       let end = run_rests x (step.plus + more) a.then rest step.cube step.there step.rests runs.1 lives.1 step.none in
       let sum : added (told x w (a ∷ rest)) ≡ step.plus + added ts =
       ap (λ (us : List Told). added (told_at x (aim w a.line) a.reply us)) here ∙ step.sum in
@@ -265,7 +272,9 @@ module _ (d : Cube) (t : Tree) (k : ℕ) where
         cube = m;
         there = there;
         mounted = record { path = rests.path; groups = rests.groups; form = rests.form; mode = rests.mode; state = refl; content = refl };
-        alone = λ clean. run_said x a.then rest (subst IsSteady (sym there) (fresh t k, refl, tt)) runs clean ∙ ap (λ c. said c (orders_of (told x a.then rest))) there;
+        alone =
+            λ clean. run_said x a.then rest (subst IsSteady (sym there) (fresh t k, refl, tt)) runs clean
+            ∙ ap (λ c. said c (orders_of (told x a.then rest))) there;
       }
 
   mount_says : (x more : ℕ) (v : World) (e : Cube) (a : Answered) (rest : List Answered) → v.cube x ≡ Some e → RestsAs d t k more e
@@ -287,5 +296,6 @@ module _ (d : Cube) (t : Tree) (k : ℕ) where
         let at = run_rests x 0 u before d there rests (runs_first u before (a ∷ rest) all) lives none in
         let last = runs_last u before (a ∷ rest) all in
         let sum : added (told x u before) + 0 ≡ added (told x u before) = omega arith in
-        mount_says x (added (told x u before)) (end u before) at.cube a rest at.there (rests_more _ _ at.cube sum at.rests) (subst (λ b. Goes (end u before) b a.reply a.then) aims last.0) clean last.1;
+        mount_says x (added (told x u before)) (end u before) at.cube a rest at.there (rests_more _ _ at.cube sum at.rests)
+        (subst (λ b. Goes (end u before) b a.reply a.then) aims last.0) clean last.1;
   }

@@ -47,7 +47,8 @@ b_acknowledged = refl
 
 -- a cube that was deleted binds none that is made in its slot
 abbrev made_again : List Answered
-made_again = answered (line.Sync path_a) (Ok (Number 3)) both ∷ answered (line.Delete path_a) (Ok Plain) only_b ∷ answered (line.Create path_a 1) (Ok Plain) both
+made_again =
+    answered (line.Sync path_a) (Ok (Number 3)) both ∷ answered (line.Delete path_a) (Ok Plain) only_b ∷ answered (line.Create path_a 1) (Ok Plain) both
     ∷ answered (line.Sync path_a) (Ok (Number 1)) both ∷ []
 
 new_acknowledged : acknowledged_from 0 0 both made_again ≡ 1

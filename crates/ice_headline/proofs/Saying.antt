@@ -60,9 +60,11 @@ goes_said : (s : ℕ) (a : Aim) (w v : World) (r : Response) (ts : List Told) �
     → (IsSteady (v.cube s) → AllClean ts → SaysAs (v.cube s) ts)
     → AllClean (told_at s a r (while_live (v.cube s) ts)) → SaysAs (w.cube s) (told_at s a r (while_live (v.cube s) ts))
 goes_said s (Refuse why) w v r ts steady g later clean =
-    subst (λ (y : World). SaysAs (y.cube s) (while_live (v.cube s) ts)) g.1 (said_live (v.cube s) ts (later (subst (λ (y : World). IsSteady (y.cube s)) (sym g.1) steady)) clean)
+    subst (λ (y : World). SaysAs (y.cube s) (while_live (v.cube s) ts)) g.1
+    (said_live (v.cube s) ts (later (subst (λ (y : World). IsSteady (y.cube s)) (sym g.1) steady)) clean)
 goes_said s Listing w v r ts steady g later clean =
-    subst (λ (y : World). SaysAs (y.cube s) (while_live (v.cube s) ts)) g.1 (said_live (v.cube s) ts (later (subst (λ (y : World). IsSteady (y.cube s)) (sym g.1) steady)) clean)
+    subst (λ (y : World). SaysAs (y.cube s) (while_live (v.cube s) ts)) g.1
+    (said_live (v.cube s) ts (later (subst (λ (y : World). IsSteady (y.cube s)) (sym g.1) steady)) clean)
 goes_said s (At x o) w v r ts steady g later clean =
     let us = while_live (v.cube s) ts in
     elim (cases_eq x s) as (λ _. SaysAs (w.cube s) (if nat_eq x s then record { order = o; reply = r } ∷ us else us)) [
@@ -74,7 +76,8 @@ goes_said s (At x o) w v r ts steady g later clean =
           let own : Own (w.cube s) o r g.0 = subst (λ y. Own (w.cube y) o r g.0) same g.1 in
           let there : v.cube s ≡ g.0 = ap (λ (y : World). y.cube s) g.2 ∙ ap (λ b. if b then g.0 else w.cube s) back in
           subst (λ b. SaysAs (w.cube s) (if b then record { order = o; reply = r } ∷ us else us)) (sym hit)
-          (said_next (w.cube s) o r g.0 us steady all.0 own (λ on. subst (λ c. SaysAs c us) there (said_live (v.cube s) ts (later (subst IsSteady (sym there) on)) all.1)))
+          (said_next (w.cube s) o r g.0 us steady all.0 own
+          (λ on. subst (λ c. SaysAs c us) there (said_live (v.cube s) ts (later (subst IsSteady (sym there) on)) all.1)))
       | inr other ↦
           let miss : nat_eq x s ≡ false = grind arith in
           let back : nat_eq s x ≡ false = grind arith in

@@ -64,7 +64,8 @@ rows_differ i t s r a b h less low x y same =
 
 -- an entry that a record shows is that of a row
 row_of_entry : (n : ℕ) (o : Option Row) (c : Option Cube) (d : Cube)
-    → option_map (λ (r : Row). record { path = r.path; groups = n; offline = r.offline }) o ≡ option_map cube_entry c → c ≡ Some d → (r : Row) × (o ≡ Some r) × (r.path ≡ d.path)
+    → option_map (λ (r : Row). record { path = r.path; groups = n; offline = r.offline }) o ≡ option_map cube_entry c → c ≡ Some d
+    → (r : Row) × (o ≡ Some r) × (r.path ≡ d.path)
 row_of_entry n None c d shows is = absurd (cc (shows, is))
 row_of_entry n (Some r) c d shows is =
     let same : Some (record { path = r.path; groups = n; offline = r.offline }) ≡ Some (cube_entry d) = shows ∙ ap (option_map cube_entry) is in
@@ -79,8 +80,10 @@ find_first : (test : ℕ → Bool) (a n x : ℕ) → a ≤ x → x < a + n → t
     → find test (range_with_len a n) ≡ Some x
 find_first test a zero x low high hit miss = absurd (omega (arith, low, high))
 find_first test a (suc n) x low high hit miss = ⊎_elim
-    (λ less. let no_hit = miss a less in ap (λ b. cond b (Some a) (find test (range_with_len (a + 1) n))) no_hit ∙ find_first test (a + 1) n x (omega (arith, less)) (omega (arith, high)) hit miss)
-    (λ more. let is : a ≡ x = omega (arith, low, more) in ap (λ b. cond b (Some a) (find test (range_with_len (a + 1) n))) (ap test is ∙ hit) ∙ ap (λ y. Some y) is)
+    (λ less. let no_hit = miss a less in ap (λ b. cond b (Some a) (find test (range_with_len (a + 1) n))) no_hit
+    ∙ find_first test (a + 1) n x (omega (arith, less)) (omega (arith, high)) hit miss)
+    (λ more. let is : a ≡ x = omega (arith, low, more) in
+    ap (λ b. cond b (Some a) (find test (range_with_len (a + 1) n))) (ap test is ∙ hit) ∙ ap (λ y. Some y) is)
     (cases_lt a x)
 
 -- a cube's path leads to its slot
@@ -88,7 +91,8 @@ pub slot_found : (i : Image) (t : Tables) (w : World) (x : ℕ) (d : Cube) → H
     → slot_with_path w d.path ≡ Some x
 unfolding slot_with_path
 slot_found i t w x d has shows there =
-    find_first (λ s. has_path d.path (w.cube s)) 0 w.slots x (omega arith) (let is = shows.slots in omega (arith, low, is)) (subst (λ c. has_path d.path c ≡ true) (sym there) (same_refl d.path))
+    find_first (λ s. has_path d.path (w.cube s)) 0 w.slots x (omega arith) (let is = shows.slots in omega (arith, low, is))
+    (subst (λ c. has_path d.path c ≡ true) (sym there) (same_refl d.path))
     (λ y less. by y less (w.cube y) refl)
   where
     low : x < t.slots

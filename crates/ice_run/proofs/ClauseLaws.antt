@@ -30,7 +30,8 @@ made_steady None p n r d ok own = ⊎_elim
     (λ q. ⊎_elim (λ f. absurd (cc (f.1, ok))) (λ m. absurd (cc (m.1, ok))) q) own
 made_steady (Some c) p n r d ok own = ⊎_elim (λ v. absurd v.1) (λ q. ⊎_elim (λ f. absurd (cc (f.1, ok))) (λ m. absurd (cc (m.1, ok))) q) own
 
-holds_steady : (lot : LotView) (i : Image) (c : Cube) (x : Content) → c.content ≡ x → ToSound x → c.state ≡ closed_state (is_offline c.state) → OpensContent lot i c x → IsSteady (Some c)
+holds_steady : (lot : LotView) (i : Image) (c : Cube) (x : Content) → c.content ≡ x → ToSound x
+    → c.state ≡ closed_state (is_offline c.state) → OpensContent lot i c x → IsSteady (Some c)
 holds_steady lot i c (Sound h) is sound closed o = (h, is, subst (λ s. SteadyIn s h) (sym closed) (closed_steady (is_offline c.state) h o.1))
 holds_steady lot i c (Broken rules) is sound closed o = absurd sound
 holds_steady lot i c Unread is sound closed o = absurd sound

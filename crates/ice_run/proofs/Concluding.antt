@@ -20,7 +20,8 @@ use Rattle.ice_run.proofs.Sparing.{keeps_on, work_spares}
 
 module _ {D : Type 0} (state : D → DiskState) (left : D → ℕ → Image → List ℕ → Type 0) (w : World) (start : D) where
   -- a session that did not come to the end of its script ends as it was served
-  pub concluded_as : (status : Status) (v : VolumeView) (new : D) → (status ≢ Done) → Served state left w start status v new → Concluded state left w start status new
+  pub concluded_as : (status : Status) (v : VolumeView) (new : D) → (status ≢ Done) → Served state left w start status v new
+      → Concluded state left w start status new
   concluded_as Done v new other served = absurd (other refl)
   concluded_as Source v new other served = record { taken = served.taken; took = served.took; concludes = (v, served.reaches) }
   concluded_as Script v new other served = record { taken = served.taken; took = served.took; concludes = (v, served.reaches) }
@@ -31,7 +32,8 @@ module _ {D : Type 0} (state : D → DiskState) (left : D → ℕ → Image → 
   concluded_as Volume v new other served = absurd served.reaches
   concluded_as Small v new other served = absurd served.reaches
 
-  module _ (v : VolumeView) (a b : D) (served : Served state left w start Done v a) (streams : (state b).streams ≡ (state a).streams) (later : (state a).faults ≤ (state b).faults)
+  module _ (v : VolumeView) (a b : D) (served : Served state left w start Done v a) (streams : (state b).streams ≡ (state a).streams)
+      (later : (state a).faults ≤ (state b).faults)
       (leaves : (u : World) → StandsFor v (state a) u → LeavesOnly left a b (With (state a).streams.aside (Fits u)))
       (sparing : (u : World) → StandsFor v (state a) u → Within state left (Outside (IsOfBroken (tables_of v.system) u)) a b) where
     abbrev so_far : SoFar state left w (script_lines (state start).streams.intake) v (script_lines served.taken) start a
@@ -41,8 +43,11 @@ module _ {D : Type 0} (state : D → DiskState) (left : D → ℕ → Image → 
     crash_finished = record {
       each = λ t image out l. ⊎_elim (λ before. so_far.crash.each t image out before)
           (λ here. ⊎_elim (λ before. so_far.crash.each t image out before)
-          (λ agrees. inr (between_lines w (script_lines (state start).streams.intake) (script_lines served.taken) (state start) (state a) image out so_far.gave (end w so_far.gave.steps) (inl refl) here.0 here.1
-          (work_spares state left w v (state start) so_far.gave.steps a b so_far.lots so_far.spares (sparing (end w so_far.gave.steps) so_far.stands) image agrees.0)))
+          (λ agrees. inr
+          (between_lines w (script_lines (state start).streams.intake) (script_lines served.taken) (state start)
+          (state a) image out so_far.gave (end w so_far.gave.steps) (inl refl) here.0 here.1
+          (work_spares state left w v (state start) so_far.gave.steps a b so_far.lots so_far.spares
+          (sparing (end w so_far.gave.steps) so_far.stands) image agrees.0)))
           ((sparing (end w so_far.gave.steps) so_far.stands).left_new t image out l))
           ((leaves (end w so_far.gave.steps) so_far.stands).each t image out l);
     }
@@ -84,4 +89,5 @@ module _ {D : Type 0} (state : D → DiskState) (left : D → ℕ → Image → 
 
     -- an unmount failed
     pub concluded_failed : Rose (state a).faults (state b).faults → Concluded state left w start Disk b
-    concluded_failed rose = record { taken = served.taken; took = took_all; concludes = (served.reaches.1, inr (record { none = none_left; all = all_answered 1 (omega (arith, rose)) })) }
+    concluded_failed rose =
+        record { taken = served.taken; took = took_all; concludes = (served.reaches.1, inr (record { none = none_left; all = all_answered 1 (omega (arith, rose)) })) }

@@ -33,7 +33,9 @@ if_err (Ok x) f p = p
 if_err (Err e) f p = f e p
 
 -- a session that broke off in some lines did so in more of them
-pub breaks_more : {D : Type 0} (state : D → DiskState) (left : D → ℕ → Image → List ℕ → Type 0) (w : World) (script : List Line) (heard more all : List Line) (start new : D) → all ≡ heard ++ more → (status : Status)
+pub breaks_more : {D : Type 0} (state : D → DiskState) (left : D → ℕ → Image → List ℕ
+    → Type 0) (w : World) (script : List Line) (heard more all : List Line) (start new : D)
+    → all ≡ heard ++ more → (status : Status)
     → BreaksOff state left w script status heard start new → BreaksOff state left w script status all start new
 breaks_more state left w script heard more all start new is Sink cut = record {
   lines = cut.lines;
@@ -75,7 +77,8 @@ breaks_more state left w script heard more all start new is Small cut = cut
 pub ended_more : (taken more : List ℕ) → (lines : List Line) × (ended_lines (taken ++ more) ≡ ended_lines taken ++ lines)
 ended_more taken more = ended_ahead taken more
 
-module _ {D T : Type 0} (state : D → DiskState) (left : D → ℕ → Image → List ℕ → Type 0) (w : World) (input taken ahead : List ℕ) (b : ℕ) (start mid new : D) (v z : VolumeView) (old pushed reader : Gathered) (result : Result T Status)
+module _ {D T : Type 0} (state : D → DiskState) (left : D → ℕ → Image → List ℕ → Type 0) (w : World) (input taken ahead : List ℕ) (b : ℕ)
+    (start mid new : D) (v z : VolumeView) (old pushed reader : Gathered) (result : Result T Status)
     (serving : Serving state left w v input taken start mid old) (is : input ≡ taken ++ b ∷ ahead)
     (text : pushed.text ≡ (if nat_eq b 10 then old.text else take 40001 (old.text ++ b ∷ []))) where
   held : nat_eq b 10 ≡ true → pushed.text ≡ old.text
@@ -89,11 +92,14 @@ module _ {D T : Type 0} (state : D → DiskState) (left : D → ℕ → Image �
 
   -- an LF ends the line that the reader holds
   pub fed_line : nat_eq b 10 ≡ true → OnOk result (reader.text ≡ [])
-      → ((more : List Line) → script_lines input ≡ ended_lines taken ++ line_of pushed.text ∷ more → OnOk result (SoFar state left w (script_lines input) z (ended_lines taken ++ line_of pushed.text ∷ []) start new))
+      → ((more : List Line) → script_lines input ≡ ended_lines taken ++ line_of pushed.text ∷ more
+      → OnOk result (SoFar state left w (script_lines input) z (ended_lines taken ++ line_of pushed.text ∷ []) start new))
       → OnOk result (Serving state left w z input (taken ++ b ∷ []) start new reader)
   fed_line lf empty answered = by result empty (answered (next_here lf).0 (next_here lf).1)
     where
-      by : (r : Result T Status) → OnOk r (reader.text ≡ []) → OnOk r (SoFar state left w (script_lines input) z (ended_lines taken ++ line_of pushed.text ∷ []) start new) → OnOk r (Serving state left w z input (taken ++ b ∷ []) start new reader)
+      by : (r : Result T Status) → OnOk r (reader.text ≡ [])
+          → OnOk r (SoFar state left w (script_lines input) z (ended_lines taken ++ line_of pushed.text ∷ []) start new)
+          → OnOk r (Serving state left w z input (taken ++ b ∷ []) start new reader)
       by (Ok x) none so_far = record {
         so_far = subst (λ (lines : List Line). SoFar state left w (script_lines input) z lines start new) (ended_here lf) so_far;
         holds = none ∙ rest-ended taken b (lf_of b lf);
@@ -101,12 +107,18 @@ module _ {D T : Type 0} (state : D → DiskState) (left : D → ℕ → Image �
       by (Err e) none so_far = so_far
 
   pub fed_cut : nat_eq b 10 ≡ true
-      → ((more : List Line) → script_lines input ≡ ended_lines taken ++ line_of pushed.text ∷ more → IfErr result (λ status. BreaksOff state left w (script_lines input) status (ended_lines taken ++ line_of pushed.text ∷ []) start new))
+      → ((more : List Line) → script_lines input ≡ ended_lines taken ++ line_of pushed.text ∷ more
+      → IfErr result (λ status. BreaksOff state left w (script_lines input) status (ended_lines taken ++ line_of pushed.text ∷ []) start new))
       → IfErr result (λ status. BreaksOff state left w (script_lines input) status (ended_lines (taken ++ b ∷ [])) start new)
-  fed_cut lf answered = if_err result (λ status cut. subst (λ (lines : List Line). BreaksOff state left w (script_lines input) status lines start new) (ended_here lf) cut) (answered (next_here lf).0 (next_here lf).1)
+  fed_cut lf answered =
+      if_err result
+      (λ status cut. subst (λ (lines : List Line). BreaksOff state left w (script_lines input) status lines start new) (ended_here lf) cut)
+      (answered (next_here lf).0 (next_here lf).1)
 
-module _ {D : Type 0} (state : D → DiskState) (left : D → ℕ → Image → List ℕ → Type 0) (w : World) (input taken : List ℕ) (b : ℕ) (start mid : D) (v : VolumeView) (old pushed : Gathered)
-    (serving : Serving state left w v input taken start mid old) (text : pushed.text ≡ (if nat_eq b 10 then old.text else take 40001 (old.text ++ b ∷ []))) where
+module _ {D : Type 0} (state : D → DiskState) (left : D → ℕ → Image → List ℕ → Type 0) (w : World) (input taken : List ℕ) (b : ℕ)
+    (start mid : D) (v : VolumeView) (old pushed : Gathered)
+    (serving : Serving state left w v input taken start mid old)
+    (text : pushed.text ≡ (if nat_eq b 10 then old.text else take 40001 (old.text ++ b ∷ []))) where
   -- another byte is held with the line
   pub fed_byte : nat_eq b 10 ≡ false → Serving state left w v input (taken ++ b ∷ []) start mid pushed
   fed_byte other = record {
@@ -114,7 +126,8 @@ module _ {D : Type 0} (state : D → DiskState) (left : D → ℕ → Image → 
     holds = rest-other taken old.text pushed.text b other serving.holds (pushed_other b old.text (take 40001 (old.text ++ b ∷ [])) pushed.text other text);
   }
 
-module _ {D T : Type 0} (state : D → DiskState) (left : D → ℕ → Image → List ℕ → Type 0) (w : World) (input : List ℕ) (start mid new : D) (v z : VolumeView) (reader same : Gathered) (result : Result T Status)
+module _ {D T : Type 0} (state : D → DiskState) (left : D → ℕ → Image → List ℕ → Type 0) (w : World) (input : List ℕ) (start mid new : D)
+    (v z : VolumeView) (reader same : Gathered) (result : Result T Status)
     (serving : Serving state left w v input input start mid reader) (stays : same ≡ reader) (some : nat_eq (length reader.text) 0 ≡ false) where
   last_here : script_lines input ≡ ended_lines input ++ line_of same.text ∷ []
   last_here =
@@ -122,24 +135,35 @@ module _ {D T : Type 0} (state : D → DiskState) (left : D → ℕ → Image �
       last_line input same.text (ap (λ (x : List ℕ). nat_eq (length x) 0) still ∙ some) (still ∙ serving.holds)
 
   -- a last line that no LF ended is answered
-  pub closed_ok : ((more : List Line) → script_lines input ≡ ended_lines input ++ line_of same.text ∷ more → OnOk result (SoFar state left w (script_lines input) z (ended_lines input ++ line_of same.text ∷ []) start new))
+  pub closed_ok : ((more : List Line) → script_lines input ≡ ended_lines input ++ line_of same.text ∷ more
+      → OnOk result (SoFar state left w (script_lines input) z (ended_lines input ++ line_of same.text ∷ []) start new))
       → OnOk result (SoFar state left w (script_lines input) z (script_lines input) start new)
-  closed_ok answered = on_ok result (λ so_far. subst (λ (lines : List Line). SoFar state left w (script_lines input) z lines start new) (sym last_here) so_far) (answered [] last_here)
+  closed_ok answered =
+      on_ok result
+      (λ so_far. subst (λ (lines : List Line). SoFar state left w (script_lines input) z lines start new) (sym last_here) so_far) (answered [] last_here)
 
-  pub closed_err : ((more : List Line) → script_lines input ≡ ended_lines input ++ line_of same.text ∷ more → IfErr result (λ status. BreaksOff state left w (script_lines input) status (ended_lines input ++ line_of same.text ∷ []) start new))
+  pub closed_err : ((more : List Line) → script_lines input ≡ ended_lines input ++ line_of same.text ∷ more
+      → IfErr result (λ status. BreaksOff state left w (script_lines input) status (ended_lines input ++ line_of same.text ∷ []) start new))
       → IfErr result (λ status. BreaksOff state left w (script_lines input) status (script_lines input) start new)
-  closed_err answered = if_err result (λ status cut. subst (λ (lines : List Line). BreaksOff state left w (script_lines input) status lines start new) (sym last_here) cut) (answered [] last_here)
+  closed_err answered =
+      if_err result
+      (λ status cut. subst (λ (lines : List Line). BreaksOff state left w (script_lines input) status lines start new) (sym last_here) cut)
+      (answered [] last_here)
 
-module _ {D : Type 0} (state : D → DiskState) (left : D → ℕ → Image → List ℕ → Type 0) (w : World) (input : List ℕ) (start mid : D) (v : VolumeView) (reader : Gathered) (serving : Serving state left w v input input start mid reader) where
+module _ {D : Type 0} (state : D → DiskState) (left : D → ℕ → Image → List ℕ → Type 0) (w : World) (input : List ℕ) (start mid : D)
+    (v : VolumeView) (reader : Gathered) (serving : Serving state left w v input input start mid reader) where
   -- nothing stands behind the last LF
   pub closed_none : nat_eq (length reader.text) 0 ≡ true → SoFar state left w (script_lines input) v (script_lines input) start mid
-  closed_none none = subst (λ (lines : List Line). SoFar state left w (script_lines input) v lines start mid) (sym (no_last_line input reader.text none serving.holds)) serving.so_far
+  closed_none none =
+      subst (λ (lines : List Line). SoFar state left w (script_lines input) v lines start mid)
+      (sym (no_last_line input reader.text none serving.holds)) serving.so_far
 
 -- the byte at a place of a piece, and what comes behind it
 pub piece_step : (input taken piece ahead : List ℕ) (i : ℕ) → i < length piece → input ≡ taken ++ piece ++ ahead
     → input ≡ (taken ++ take i piece) ++ get_or piece i 0 ∷ (drop (i + 1) piece ++ ahead)
 piece_step input taken piece ahead i less is =
-    let parts : piece ≡ take i piece ++ get_or piece i 0 ∷ drop (i + 1) piece = sym (take-append-drop i piece) ∙ ap (λ (x : List ℕ). take i piece ++ x) (drop_more piece i 0 less) in
+    let parts : piece ≡ take i piece ++ get_or piece i 0 ∷ drop (i + 1) piece = sym (take-append-drop i piece)
+    ∙ ap (λ (x : List ℕ). take i piece ++ x) (drop_more piece i 0 less) in
     is ∙ ap (λ (x : List ℕ). taken ++ x ++ ahead) parts ∙ simp append_assoc
 
 pub piece_more : (taken piece : List ℕ) (i : ℕ) → i < length piece → taken ++ take (i + 1) piece ≡ (taken ++ take i piece) ++ get_or piece i 0 ∷ []
@@ -149,7 +173,9 @@ piece_more taken piece i less = ap (λ (x : List ℕ). taken ++ x) (take_more pi
 pub piece_ended : (taken piece : List ℕ) (i : ℕ) → i < length piece
     → (more : List Line) × (ended_lines (taken ++ piece) ≡ ended_lines ((taken ++ take i piece) ++ get_or piece i 0 ∷ []) ++ more)
 piece_ended taken piece i less =
-    let parts : piece ≡ take i piece ++ get_or piece i 0 ∷ drop (i + 1) piece = sym (take-append-drop i piece) ∙ ap (λ (x : List ℕ). take i piece ++ x) (drop_more piece i 0 less) in
-    let whole : taken ++ piece ≡ ((taken ++ take i piece) ++ get_or piece i 0 ∷ []) ++ drop (i + 1) piece = ap (λ (x : List ℕ). taken ++ x) parts ∙ simp append_assoc in
+    let parts : piece ≡ take i piece ++ get_or piece i 0 ∷ drop (i + 1) piece = sym (take-append-drop i piece)
+    ∙ ap (λ (x : List ℕ). take i piece ++ x) (drop_more piece i 0 less) in
+    let whole : taken ++ piece ≡ ((taken ++ take i piece) ++ get_or piece i 0 ∷ []) ++ drop (i + 1) piece = ap
+    (λ (x : List ℕ). taken ++ x) parts ∙ simp append_assoc in
     let more = ended_ahead ((taken ++ take i piece) ++ get_or piece i 0 ∷ []) (drop (i + 1) piece) in
     (more.0, ap ended_lines whole ∙ more.1)

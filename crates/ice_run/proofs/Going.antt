@@ -19,7 +19,8 @@ goes_then a b c p q = record {
 }
 
 -- calls on the disk alone
-pub goes_within : {D : Type 0} (state : D → DiskState) (left : D → ℕ → Image → List ℕ → Type 0) (S : ℕ → Type 0) (a b : D) → ((k : ℕ) → S k → IsOfSession k) → Within state left S a b → GoesOn (state a) (state b)
+pub goes_within : {D : Type 0} (state : D → DiskState) (left : D → ℕ → Image → List ℕ → Type 0) (S : ℕ → Type 0) (a b : D)
+    → ((k : ℕ) → S k → IsOfSession k) → Within state left S a b → GoesOn (state a) (state b)
 goes_within state left S a b inside w = record {
   kept = kept_within state left (Outside IsOfSession) S a b (λ k other own. other (inside k own)) w;
   faults = w.faults;
@@ -29,8 +30,10 @@ goes_within state left S a b inside w = record {
 
 -- a give
 pub goes_gave : (a b : DiskState) → SameDisk a b → GaveOnly a.streams b.streams → GoesOn a b
-goes_gave a b same only = record { kept = kept_same (Outside IsOfSession) a b same; faults = omega (arith, same.faults); source = omega (arith, only.source_faults); sink = only.faults }
+goes_gave a b same only =
+    record { kept = kept_same (Outside IsOfSession) a b same; faults = omega (arith, same.faults); source = omega (arith, only.source_faults); sink = only.faults }
 
 -- a take
 pub goes_took : (a b : DiskState) → SameDisk a b → TookOnly a.streams b.streams → GoesOn a b
-goes_took a b same only = record { kept = kept_same (Outside IsOfSession) a b same; faults = omega (arith, same.faults); source = only.faults; sink = omega (arith, only.sink_faults) }
+goes_took a b same only =
+    record { kept = kept_same (Outside IsOfSession) a b same; faults = omega (arith, same.faults); source = only.faults; sink = omega (arith, only.sink_faults) }

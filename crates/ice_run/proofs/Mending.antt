@@ -91,7 +91,8 @@ own_broken : (c d : Option Cube) (o : Order) (r : Response) → ¬ MayMend o →
 own_broken None d o r other broken p = absurd broken
 own_broken (Some c) d o r other broken p = own c broken o r d other p
 
-goes_broken : (x : ℕ) (w v : World) (a : Aim) (r : Response) → Goes w a r v → SaysBroken (w.cube x) → ((o : Order) → a ≡ At x o → ¬ MayMend o) → SaysBroken (v.cube x)
+goes_broken : (x : ℕ) (w v : World) (a : Aim) (r : Response) → Goes w a r v → SaysBroken (w.cube x)
+    → ((o : Order) → a ≡ At x o → ¬ MayMend o) → SaysBroken (v.cube x)
 goes_broken x w v (Refuse y) r g broken none = subst (λ (u : World). SaysBroken (u.cube x)) (sym g.1) broken
 goes_broken x w v Listing r g broken none = subst (λ (u : World). SaysBroken (u.cube x)) (sym g.1) broken
 goes_broken x w v (At s o) r g broken none = subst (λ (u : World). SaysBroken (u.cube x)) (sym g.2) (⊎_elim here there (cases_eq x s))
@@ -100,7 +101,8 @@ goes_broken x w v (At s o) r g broken none = subst (λ (u : World). SaysBroken (
     here same =
         let at : nat_eq x s ≡ true = grind arith in
         let is : (with_slot w s g.0).cube x ≡ g.0 = ap (λ (b : Bool). cond b g.0 (w.cube x)) at in
-        subst SaysBroken (sym is) (own_broken (w.cube s) g.0 o r (none o (ap (λ (q : ℕ). At q o) (sym same))) (subst (λ (q : ℕ). SaysBroken (w.cube q)) same broken) g.1)
+        subst SaysBroken (sym is)
+        (own_broken (w.cube s) g.0 o r (none o (ap (λ (q : ℕ). At q o) (sym same))) (subst (λ (q : ℕ). SaysBroken (w.cube q)) same broken) g.1)
 
     there : x ≢ s → SaysBroken ((with_slot w s g.0).cube x)
     there other =
@@ -111,4 +113,5 @@ goes_broken x w v (At s o) r g broken none = subst (λ (u : World). SaysBroken (
 -- a cube that is broken stays so
 pub stays_broken : (x : ℕ) (w : World) (steps : List Answered) → Runs w steps → SaysBroken (w.cube x) → NoneMends x w steps → StaysBroken x w steps
 stays_broken x w [] runs broken none = broken
-stays_broken x w (a ∷ rest) runs broken none = (broken, stays_broken x a.then rest runs.1 (goes_broken x w a.then (aim w a.line) a.reply runs.0 broken none.0) none.1)
+stays_broken x w (a ∷ rest) runs broken none =
+    (broken, stays_broken x a.then rest runs.1 (goes_broken x w a.then (aim w a.line) a.reply runs.0 broken none.0) none.1)

@@ -67,7 +67,8 @@ alike_at w s d same x = elim (cases_Bool (nat_eq x s)) as (λ _. AlikeIn (w.cube
   | inr other ↦ subst (λ b. AlikeIn (w.cube x) (cond b d (w.cube x))) (sym other) (alike_same (w.cube x) (w.cube x) refl)
 ]
 
-fits_alike : (on : ℕ → Type 0) (w v : World) (i : Image) → v.slots ≡ w.slots → v.groups ≡ w.groups → ((x : ℕ) → AlikeIn (w.cube x) (v.cube x)) → FitsAt on v i → FitsAt on w i
+fits_alike : (on : ℕ → Type 0) (w v : World) (i : Image) → v.slots ≡ w.slots → v.groups ≡ w.groups
+    → ((x : ℕ) → AlikeIn (w.cube x) (v.cube x)) → FitsAt on v i → FitsAt on w i
 fits_alike on w v i slots groups same fits = record {
   tables = fits.tables;
   has = fits.has;

@@ -13,7 +13,8 @@ use Rattle.ice_run.specs.Runs.{Answered, AllNamed, Runs, RunsFirst, end, lines_o
 unfoldable pub push : List Answered → Line → Response → World → List Answered
 push steps line r v = steps ++ record { line = line; reply = r; then = v } ∷ []
 
-pub runs-push : (w : World) (steps : List Answered) (line : Line) (r : Response) (v : World) → Runs w steps → Step (end w steps) line r v → Runs w (push steps line r v)
+pub runs-push : (w : World) (steps : List Answered) (line : Line) (r : Response) (v : World) → Runs w steps → Step (end w steps) line r v
+    → Runs w (push steps line r v)
 unfolding push
 runs-push w [] line r v runs step = (step, tt)
 runs-push w (a ∷ rest) line r v runs step = (runs.0, runs-push a.then rest line r v runs.1 step)
@@ -35,7 +36,8 @@ texts-push [] line r v = append_nil (text r)
     append_nil : (xs : List ℕ) → xs ++ [] ≡ xs
     append_nil [] = refl
     append_nil (x ∷ xs) = ap (λ (y : List ℕ). x ∷ y) (append_nil xs)
-texts-push (a ∷ rest) line r v = ap (λ (x : List ℕ). text a.reply ++ x) (texts-push rest line r v) ∙ sym (append_assoc (text a.reply) (reply_texts rest) (text r))
+texts-push (a ∷ rest) line r v =
+    ap (λ (x : List ℕ). text a.reply ++ x) (texts-push rest line r v) ∙ sym (append_assoc (text a.reply) (reply_texts rest) (text r))
 
 pub named-push : (steps : List Answered) (line : Line) (r : Response) (v : World) → AllNamed steps → HasNames r → AllNamed (push steps line r v)
 unfolding push
@@ -53,7 +55,8 @@ faults-push [] line r v = omega arith
 faults-push (a ∷ rest) line r v = omega (arith, faults-push rest line r v)
 
 -- a run of the first lines of a script, with the next one
-pub first-push : (w : World) (script : List Line) (steps : List Answered) (line : Line) (ahead : List Line) (r : Response) (v : World) → RunsFirst w script steps → script ≡ lines_of steps ++ line ∷ ahead → Step (end w steps) line r v
+pub first-push : (w : World) (script : List Line) (steps : List Answered) (line : Line) (ahead : List Line) (r : Response) (v : World)
+    → RunsFirst w script steps → script ≡ lines_of steps ++ line ∷ ahead → Step (end w steps) line r v
     → RunsFirst w script (push steps line r v)
 first-push w script steps line ahead r v first is step = record {
   runs = runs-push w steps line r v first.runs step;
@@ -70,7 +73,8 @@ closings-none = refl
 pub closings-texts : (steps : List Answered) (tail : List ℕ) → AllNamed steps → closings tail ≡ 0 → closings (reply_texts steps ++ tail) ≡ length steps
 closings-texts [] tail named none = none
 closings-texts (a ∷ rest) tail named none =
-    ap closings (append_assoc (text a.reply) (reply_texts rest) tail) ∙ closings-text-append a.reply (reply_texts rest ++ tail) named.0 ∙ ap suc (closings-texts rest tail named.1 none)
+    ap closings (append_assoc (text a.reply) (reply_texts rest) tail) ∙ closings-text-append a.reply (reply_texts rest ++ tail) named.0
+    ∙ ap suc (closings-texts rest tail named.1 none)
 
 -- a front of a text that is shorter than it
 pub front : (xs : List ℕ) (m : ℕ) → m < length xs → IsProperPrefix (take m xs) xs

@@ -45,10 +45,16 @@ unfolding cut_of
 cut_of-push bytes b = fold-append add_byte _ bytes (b ∷ [])
 
 cut_of-ended : (bytes : List ℕ) (b : ℕ) → b ≡ 10 → cut_of (bytes ++ b ∷ []) ≡ record { lines = (cut_of bytes).lines ++ (cut_of bytes).rest ∷ []; rest = [] }
-cut_of-ended bytes b is = cut_of-push bytes b ∙ ap (λ (t : Bool). if t then record { lines = (cut_of bytes).lines ++ (cut_of bytes).rest ∷ []; rest = [] } else record { lines = (cut_of bytes).lines; rest = (cut_of bytes).rest ++ b ∷ [] }) (is_lf b is)
+cut_of-ended bytes b is =
+    cut_of-push bytes b
+    ∙ ap (λ (t : Bool). if t then record { lines = (cut_of bytes).lines ++ (cut_of bytes).rest ∷ []; rest = [] } else record { lines = (cut_of bytes).lines; rest = (cut_of bytes).rest ++ b ∷ [] })
+    (is_lf b is)
 
-cut_of-other : (bytes : List ℕ) (b : ℕ) → (nat_eq b 10 ≡ false) → cut_of (bytes ++ b ∷ []) ≡ record { lines = (cut_of bytes).lines; rest = (cut_of bytes).rest ++ b ∷ [] }
-cut_of-other bytes b is = cut_of-push bytes b ∙ ap (λ (t : Bool). if t then record { lines = (cut_of bytes).lines ++ (cut_of bytes).rest ∷ []; rest = [] } else record { lines = (cut_of bytes).lines; rest = (cut_of bytes).rest ++ b ∷ [] }) is
+cut_of-other : (bytes : List ℕ) (b : ℕ) → (nat_eq b 10 ≡ false)
+    → cut_of (bytes ++ b ∷ []) ≡ record { lines = (cut_of bytes).lines; rest = (cut_of bytes).rest ++ b ∷ [] }
+cut_of-other bytes b is =
+    cut_of-push bytes b
+    ∙ ap (λ (t : Bool). if t then record { lines = (cut_of bytes).lines ++ (cut_of bytes).rest ∷ []; rest = [] } else record { lines = (cut_of bytes).lines; rest = (cut_of bytes).rest ++ b ∷ [] }) is
 
 -- the line that an LF ends is the next one of the script
 pub next_line : (input taken ahead text : List ℕ) (b : ℕ) → b ≡ 10 → input ≡ taken ++ b ∷ ahead → text ≡ take 40001 (cut_of taken).rest
@@ -60,14 +66,18 @@ next_line input taken ahead text b lf is holds =
     let grown = grows_by ended ahead in
     let line : line_of text ≡ line_of c.rest = ap line_of holds ∙ line_of-take c.rest in
     let first : add_byte c b ≡ ended = ap (λ (t : Bool). if t then ended else record { lines = c.lines; rest = c.rest ++ b ∷ [] }) (is_lf b lf) in
-    let whole : closed (cut_of input) ≡ (c.lines ++ c.rest ∷ []) ++ grown.0 = ap (λ (x : List ℕ). closed (cut_of x)) is ∙ ap closed (fold-append add_byte _ taken (b ∷ ahead)) ∙ ap (λ (x : LinesAndRest). closed (fold add_byte x ahead)) first ∙ grown.1 in (
+    let whole : closed (cut_of input) ≡ (c.lines ++ c.rest ∷ []) ++ grown.0 = ap (λ (x : List ℕ). closed (cut_of x)) is
+    ∙ ap closed (fold-append add_byte _ taken (b ∷ ahead)) ∙ ap (λ (x : LinesAndRest). closed (fold add_byte x ahead)) first ∙ grown.1 in (
       map line_of grown.0,
-      ap (λ (x : List (List ℕ)). map line_of x) whole ∙ map-append line_of (c.lines ++ c.rest ∷ []) grown.0 ∙ ap (λ (x : List Line). x ++ map line_of grown.0) (map-append line_of c.lines (c.rest ∷ []))
-          ∙ append_assoc (map line_of c.lines) (line_of c.rest ∷ []) (map line_of grown.0) ∙ ap (λ (x : Line). map line_of c.lines ++ x ∷ map line_of grown.0) (sym line),
+      ap (λ (x : List (List ℕ)). map line_of x) whole ∙ map-append line_of (c.lines ++ c.rest ∷ []) grown.0
+          ∙ ap (λ (x : List Line). x ++ map line_of grown.0) (map-append line_of c.lines (c.rest ∷ []))
+          ∙ append_assoc (map line_of c.lines) (line_of c.rest ∷ []) (map line_of grown.0)
+          ∙ ap (λ (x : Line). map line_of c.lines ++ x ∷ map line_of grown.0) (sym line),
     )
 
 -- and then it is ended
-pub ended_lines-ended : (taken text : List ℕ) (b : ℕ) → b ≡ 10 → text ≡ take 40001 (cut_of taken).rest → ended_lines (taken ++ b ∷ []) ≡ ended_lines taken ++ line_of text ∷ []
+pub ended_lines-ended : (taken text : List ℕ) (b : ℕ) → b ≡ 10 → text ≡ take 40001 (cut_of taken).rest
+    → ended_lines (taken ++ b ∷ []) ≡ ended_lines taken ++ line_of text ∷ []
 ended_lines-ended taken text b is_lf holds =
     ap (λ (c : LinesAndRest). map line_of c.lines) (cut_of-ended taken b is_lf) ∙ map-append line_of (cut_of taken).lines ((cut_of taken).rest ∷ [])
     ∙ ap (λ (x : Line). map line_of (cut_of taken).lines ++ x ∷ []) (sym (ap line_of holds ∙ line_of-take (cut_of taken).rest))
@@ -79,19 +89,23 @@ rest-ended taken b is_lf = sym (ap (λ (c : LinesAndRest). take 40001 c.rest) (c
 pub ended_lines-other : (taken : List ℕ) (b : ℕ) → nat_eq b 10 ≡ false → ended_lines (taken ++ b ∷ []) ≡ ended_lines taken
 ended_lines-other taken b other = ap (λ (c : LinesAndRest). map line_of c.lines) (cut_of-other taken b other)
 
-pub rest-other : (taken old new : List ℕ) (b : ℕ) → nat_eq b 10 ≡ false → old ≡ take 40001 (cut_of taken).rest → new ≡ take 40001 (old ++ b ∷ []) → new ≡ take 40001 (cut_of (taken ++ b ∷ [])).rest
+pub rest-other : (taken old new : List ℕ) (b : ℕ) → nat_eq b 10 ≡ false → old ≡ take 40001 (cut_of taken).rest
+    → new ≡ take 40001 (old ++ b ∷ []) → new ≡ take 40001 (cut_of (taken ++ b ∷ [])).rest
 rest-other taken old new b other holds is =
-    is ∙ ap (λ (x : List ℕ). take 40001 (x ++ b ∷ [])) holds ∙ take-take-push (cut_of taken).rest b 40001 ∙ sym (ap (λ (c : LinesAndRest). take 40001 c.rest) (cut_of-other taken b other))
+    is ∙ ap (λ (x : List ℕ). take 40001 (x ++ b ∷ [])) holds ∙ take-take-push (cut_of taken).rest b 40001
+    ∙ sym (ap (λ (c : LinesAndRest). take 40001 c.rest) (cut_of-other taken b other))
 
 -- nothing stands behind the last LF where the reader holds nothing
 same_emptiness : (rest text : List ℕ) → text ≡ take 40001 rest → nat_eq (length rest) 0 ≡ nat_eq (length text) 0
 same_emptiness rest text holds = let e : length text ≡ min 40001 (length rest) = ap length holds ∙ length-take 40001 rest in grind (arith, nat_tests, e)
 
 -- a last line that no LF ended
-pub last_line : (taken text : List ℕ) → nat_eq (length text) 0 ≡ false → text ≡ take 40001 (cut_of taken).rest → script_lines taken ≡ ended_lines taken ++ line_of text ∷ []
+pub last_line : (taken text : List ℕ) → nat_eq (length text) 0 ≡ false → text ≡ take 40001 (cut_of taken).rest
+    → script_lines taken ≡ ended_lines taken ++ line_of text ∷ []
 last_line taken text some holds =
     let c = cut_of taken in
-    ap (λ (t : Bool). map line_of (if t then c.lines else c.lines ++ c.rest ∷ [])) (same_emptiness c.rest text holds ∙ some) ∙ map-append line_of c.lines (c.rest ∷ [])
+    ap (λ (t : Bool). map line_of (if t then c.lines else c.lines ++ c.rest ∷ [])) (same_emptiness c.rest text holds ∙ some)
+    ∙ map-append line_of c.lines (c.rest ∷ [])
     ∙ ap (λ (x : Line). map line_of c.lines ++ x ∷ []) (sym (ap line_of holds ∙ line_of-take c.rest))
 
 pub no_last_line : (taken text : List ℕ) → nat_eq (length text) 0 ≡ true → text ≡ take 40001 (cut_of taken).rest → script_lines taken ≡ ended_lines taken
@@ -127,5 +141,6 @@ unfolding cut_of
 ended_ahead taken ahead =
     let grown = lines_grow (cut_of taken) ahead in (
       map line_of grown.0,
-      ap (λ (x : LinesAndRest). map line_of x.lines) (fold-append add_byte _ taken ahead) ∙ ap (λ (x : List (List ℕ)). map line_of x) grown.1 ∙ map-append line_of (cut_of taken).lines grown.0,
+      ap (λ (x : LinesAndRest). map line_of x.lines) (fold-append add_byte _ taken ahead)
+          ∙ ap (λ (x : List (List ℕ)). map line_of x) grown.1 ∙ map-append line_of (cut_of taken).lines grown.0,
     )

@@ -43,7 +43,8 @@ module _ {D : Type 0} (state : D → DiskState) (left : D → ℕ → Image → 
   }
 
   -- a take between two lines
-  pub so_far_took : (lines : List Line) (start mid new : D) → SameDisk (state mid) (state new) → Leaves state left (λ out. out ≡ (state mid).streams.aside) mid new
+  pub so_far_took : (lines : List Line) (start mid new : D) → SameDisk (state mid) (state new)
+      → Leaves state left (λ out. out ≡ (state mid).streams.aside) mid new
       → (state new).streams.aside ≡ (state mid).streams.aside → SoFar state left w script v lines start mid → SoFar state left w script v lines start new
   so_far_took lines start mid new disk leaves same so_far = record {
     gave = record {
@@ -75,11 +76,14 @@ nothing_behind [] ys is = is
 nothing_behind (x ∷ xs) ys is = cc
 
 -- a line ended the session: which lines are in the bytes that were taken
-broke : {D : Type 0} (state : D → DiskState) (left : D → ℕ → Image → List ℕ → Type 0) (w : World) (start : D) (status : Status) (v : VolumeView) (taken : List ℕ) (heard : List Line) (new : D)
+broke : {D : Type 0} (state : D → DiskState) (left : D → ℕ → Image → List ℕ
+    → Type 0) (w : World) (start : D) (status : Status) (v : VolumeView) (taken : List ℕ) (heard : List Line) (new : D)
     → (state start).streams.intake ≡ taken ++ (state new).streams.intake → length taken ≤ longest_script → Heard taken (state new).streams.intake heard
     → BreaksOff state left w (script_lines (state start).streams.intake) status heard start new → Served state left w start status v new
-broke state left w start Sink v taken heard new took few all breaks = record { taken = taken; took = took; reaches = (few, record { heard = heard; all = all; breaks = breaks }) }
-broke state left w start Disk v taken heard new took few all breaks = record { taken = taken; took = took; reaches = (few, record { heard = heard; all = all; breaks = breaks }) }
+broke state left w start Sink v taken heard new took few all breaks =
+    record { taken = taken; took = took; reaches = (few, record { heard = heard; all = all; breaks = breaks }) }
+broke state left w start Disk v taken heard new took few all breaks =
+    record { taken = taken; took = took; reaches = (few, record { heard = heard; all = all; breaks = breaks }) }
 broke state left w start Done v taken heard new took few all breaks = absurd breaks
 broke state left w start Usage v taken heard new took few all breaks = absurd breaks
 broke state left w start Memory v taken heard new took few all breaks = absurd breaks
@@ -88,17 +92,21 @@ broke state left w start Volume v taken heard new took few all breaks = absurd b
 broke state left w start Script v taken heard new took few all breaks = absurd breaks
 broke state left w start Small v taken heard new took few all breaks = absurd breaks
 
-module _ {D : Type 0} (state : D → DiskState) (left : D → ℕ → Image → List ℕ → Type 0) (w : World) (start : D) (count : ℕ) (mid new : D) (v : VolumeView) (reader : Gathered) (fed : Fed state left w start count mid v reader)
-    (disk : SameDisk (state mid) (state new)) (leaves : Leaves state left (λ out. out ≡ (state mid).streams.aside) mid new) (only : TookOnly (state mid).streams (state new).streams) where
+module _ {D : Type 0} (state : D → DiskState) (left : D → ℕ → Image → List ℕ → Type 0) (w : World) (start : D) (count : ℕ) (mid new : D)
+    (v : VolumeView) (reader : Gathered) (fed : Fed state left w start count mid v reader)
+    (disk : SameDisk (state mid) (state new)) (leaves : Leaves state left (λ out. out ≡ (state mid).streams.aside) mid new)
+    (only : TookOnly (state mid).streams (state new).streams) where
   -- taking a piece answers nothing
   took_on : SoFar state left w (script_lines (state start).streams.intake) v (ended_lines fed.taken) start new
-  took_on = so_far_took state left w (script_lines (state start).streams.intake) v (ended_lines fed.taken) start mid new disk leaves only.aside fed.serving.so_far
+  took_on =
+      so_far_took state left w (script_lines (state start).streams.intake) v (ended_lines fed.taken) start mid new disk leaves only.aside fed.serving.so_far
 
   pub took_serving : Serving state left w v (state start).streams.intake fed.taken start new reader
   took_serving = record { so_far = took_on; holds = fed.serving.holds }
 
   pub source_failed : count ≤ longest_script → (state new).streams.intake ≡ (state mid).streams.intake → Served state left w start Source v new
-  source_failed le same = record { taken = fed.taken; took = fed.took ∙ ap (λ (x : List ℕ). fed.taken ++ x) (sym same); reaches = (omega (arith, fed.count_is), took_on) }
+  source_failed le same =
+      record { taken = fed.taken; took = fed.took ∙ ap (λ (x : List ℕ). fed.taken ++ x) (sym same); reaches = (omega (arith, fed.count_is), took_on) }
 
   module _ (n : ℕ) (piece : List ℕ) (took : TookPiece n piece (state mid).streams.intake (state new).streams.intake) where
     -- the input, with the piece behind what was taken
@@ -114,7 +122,8 @@ module _ {D : Type 0} (state : D → DiskState) (left : D → ℕ → Image → 
       took = took_more;
       reaches = (
         omega (arith, count_more),
-        subst (λ (x : List ℕ). SoFar state left w (script_lines (state start).streams.intake) v (ended_lines x) start new) (sym (front_of fed.taken (take n piece) longest_script (fed.count_is ∙ is))) took_on,
+        subst (λ (x : List ℕ). SoFar state left w (script_lines (state start).streams.intake) v (ended_lines x) start new)
+            (sym (front_of fed.taken (take n piece) longest_script (fed.count_is ∙ is))) took_on,
       );
     }
 
@@ -125,11 +134,17 @@ module _ {D : Type 0} (state : D → DiskState) (left : D → ℕ → Image → 
       took_later : (state start).streams.intake ≡ (fed.taken ++ take n piece) ++ (state later).streams.intake
       took_later = took_more ∙ ap (λ (x : List ℕ). (fed.taken ++ take n piece) ++ x) (sym intake)
 
-      pub fed_more : Serving state left w z (state start).streams.intake (fed.taken ++ take n piece) start later after → Fed state left w start (count + n) later z after × (n ≡ 0 → (state later).streams.intake ≡ [])
-      fed_more serving = (record { taken = fed.taken ++ take n piece; took = took_later; count_is = count_more; serving = serving }, λ none. intake ∙ ended_there none)
+      pub fed_more : Serving state left w z (state start).streams.intake (fed.taken ++ take n piece) start later after
+          → Fed state left w start (count + n) later z after × (n ≡ 0 → (state later).streams.intake ≡ [])
+      fed_more serving =
+          (record { taken = fed.taken ++ take n piece; took = took_later; count_is = count_more; serving = serving }, λ none. intake ∙ ended_there none)
 
-      pub broke_off : (status : Status) → count + n ≤ longest_script → BreaksOff state left w (script_lines (state start).streams.intake) status (ended_lines (fed.taken ++ take n piece)) start later → Served state left w start status z later
-      broke_off status le breaks = broke state left w start status z (fed.taken ++ take n piece) (ended_lines (fed.taken ++ take n piece)) later took_later (omega (arith, count_more)) (inl refl) breaks
+      pub broke_off : (status : Status) → count + n ≤ longest_script
+          → BreaksOff state left w (script_lines (state start).streams.intake) status (ended_lines (fed.taken ++ take n piece)) start later
+          → Served state left w start status z later
+      broke_off status le breaks =
+          broke state left w start status z (fed.taken ++ take n piece) (ended_lines (fed.taken ++ take n piece)) later took_later
+          (omega (arith, count_more)) (inl refl) breaks
 
 module _ {D : Type 0} (state : D → DiskState) (left : D → ℕ → Image → List ℕ → Type 0) (w : World) (start : D) where
   -- before the first piece
@@ -142,7 +157,8 @@ module _ {D : Type 0} (state : D → DiskState) (left : D → ℕ → Image → 
     serving = record { so_far = so_far_none state left w (script_lines (state start).streams.intake) v start stands; holds = empty };
   }
 
-  module _ (count : ℕ) (mid : D) (v : VolumeView) (reader : Gathered) (fed : Fed state left w start count mid v reader) (le : count ≤ longest_script) (ended : (state mid).streams.intake ≡ []) where
+  module _ (count : ℕ) (mid : D) (v : VolumeView) (reader : Gathered) (fed : Fed state left w start count mid v reader)
+      (le : count ≤ longest_script) (ended : (state mid).streams.intake ≡ []) where
     all_taken : fed.taken ≡ (state start).streams.intake
     all_taken = sym (fed.took ∙ ap (λ (x : List ℕ). fed.taken ++ x) ended ∙ append_nil fed.taken)
 
@@ -157,8 +173,13 @@ module _ {D : Type 0} (state : D → DiskState) (left : D → ℕ → Image → 
       took_all : (state start).streams.intake ≡ (state start).streams.intake ++ (state new).streams.intake
       took_all = sym (ap (λ (x : List ℕ). (state start).streams.intake ++ x) (intake ∙ ended) ∙ append_nil (state start).streams.intake)
 
-      pub all_done : SoFar state left w (script_lines (state start).streams.intake) z (script_lines (state start).streams.intake) start new → Served state left w start Done z new
+      pub all_done : SoFar state left w (script_lines (state start).streams.intake) z (script_lines (state start).streams.intake) start new
+          → Served state left w start Done z new
       all_done so_far = record { taken = (state start).streams.intake; took = took_all; reaches = (intake ∙ ended, long_enough, so_far) }
 
-      pub last_broke : (status : Status) → BreaksOff state left w (script_lines (state start).streams.intake) status (script_lines (state start).streams.intake) start new → Served state left w start status z new
-      last_broke status breaks = broke state left w start status z (state start).streams.intake (script_lines (state start).streams.intake) new took_all long_enough (inr (intake ∙ ended, refl)) breaks
+      pub last_broke : (status : Status)
+          → BreaksOff state left w (script_lines (state start).streams.intake) status (script_lines (state start).streams.intake) start new
+          → Served state left w start status z new
+      last_broke status breaks =
+          broke state left w start status z (state start).streams.intake
+          (script_lines (state start).streams.intake) new took_all long_enough (inr (intake ∙ ended, refl)) breaks

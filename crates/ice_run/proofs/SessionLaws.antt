@@ -59,7 +59,8 @@ pub rose_later : (n a b c : ℕ) → RoseBy n a b → b ≤ c → RoseBy n a c
 rose_later n a b c p q = omega (arith, p, q)
 
 -- whole replies were given, and the image fits a world that is reached
-pub between_lines : (w : World) (script lines : List Line) (old mid : DiskState) (image : Image) (out : List ℕ) (gave : GaveReplies w script lines [] old mid) (v : World) → Reached w script gave.steps [] v → Fits v image → out ≡ mid.streams.aside
+pub between_lines : (w : World) (script lines : List Line) (old mid : DiskState) (image : Image) (out : List ℕ) (gave : GaveReplies w script lines [] old mid) (v : World)
+    → Reached w script gave.steps [] v → Fits v image → out ≡ mid.streams.aside
     → SparesBroken old w gave.steps image → CrashLeaves old w script image out
 between_lines w script lines old mid image out gave v reached fits same spares = (
   reply_texts gave.steps,
@@ -78,7 +79,8 @@ between_lines w script lines old mid image out gave v reached fits same spares =
   },
 )
 
-module _ (w : World) (script lines ahead : List Line) (line : Line) (old mid : DiskState) (gave : GaveReplies w script lines [] old mid) (is : script ≡ lines ++ line ∷ ahead) where
+module _ (w : World) (script lines ahead : List Line) (line : Line) (old mid : DiskState) (gave : GaveReplies w script lines [] old mid)
+    (is : script ≡ lines ++ line ∷ ahead) where
   first_lines : script ≡ lines_of gave.steps ++ line ∷ ahead
   first_lines = is ∙ ap (λ (x : List Line). x ++ line ∷ ahead) (sym gave.asked)
 
@@ -86,10 +88,12 @@ module _ (w : World) (script lines ahead : List Line) (line : Line) (old mid : D
   next_to r v step = record { line = line; ahead = ahead; lines = first_lines; step = step }
 
   -- a crash while the line is in work
-  left_in_work : (image : Image) (out : List ℕ) → MayFit (end w gave.steps) line image → out ≡ mid.streams.aside → SparesBroken old w gave.steps image → CrashLeaves old w script image out
+  left_in_work : (image : Image) (out : List ℕ) → MayFit (end w gave.steps) line image → out ≡ mid.streams.aside
+      → SparesBroken old w gave.steps image → CrashLeaves old w script image out
   left_in_work image out may same spares = ⊎_elim
       (λ fits. between_lines w script lines old mid image out gave (end w gave.steps) (inl refl) fits same spares)
-      (λ next. between_lines w script lines old mid image out gave next.1 (inr (next.0, next_to next.0 next.1 next.2, next.3, part_empty next.0)) next.4 same spares)
+      (λ next. between_lines w script lines old mid image out gave next.1
+      (inr (next.0, next_to next.0 next.1 next.2, next.3, part_empty next.0)) next.4 same spares)
       may
 
   module _ (r : Response) (v : World) (step : Step (end w gave.steps) line r v) (names : HasNames r) where
@@ -97,51 +101,66 @@ module _ (w : World) (script lines ahead : List Line) (line : Line) (old mid : D
     more_steps = push gave.steps line r v
 
     -- all of the reply was given
-    gave_more : (at new : DiskState) → at.streams.aside ≡ mid.streams.aside → RoseBy (fault_in r) mid.faults new.faults → new.streams.aside ≡ at.streams.aside ++ text r → GaveReplies w script (lines ++ line ∷ []) [] old new
+    gave_more : (at new : DiskState) → at.streams.aside ≡ mid.streams.aside → RoseBy (fault_in r) mid.faults new.faults
+        → new.streams.aside ≡ at.streams.aside ++ text r → GaveReplies w script (lines ++ line ∷ []) [] old new
     unfolding more_steps
     gave_more at new still faults all = record {
       steps = more_steps;
       first = first-push w script gave.steps line ahead r v gave.first first_lines step;
       asked = lines_of-push gave.steps line r v ∙ ap (λ (x : List Line). x ++ line ∷ []) gave.asked;
       named = named-push gave.steps line r v gave.named names;
-      gives = shifted old.streams.aside (reply_texts gave.steps) mid.streams.aside (text r) new.streams.aside gave.gives (all ∙ ap (λ (x : List ℕ). x ++ text r) still)
+      gives =
+          shifted old.streams.aside (reply_texts gave.steps) mid.streams.aside (text r) new.streams.aside gave.gives
+          (all ∙ ap (λ (x : List ℕ). x ++ text r) still)
           ∙ ap (λ (x : List ℕ). old.streams.aside ++ x) (sym (texts-push gave.steps line r v)) ∙ sym (append_nil (old.streams.aside ++ reply_texts more_steps));
-      faults = subst (λ n. RoseBy n old.faults new.faults) (sym (faults-push gave.steps line r v)) (rose_more (faults_of gave.steps) (fault_in r) old.faults mid.faults new.faults gave.faults faults);
+      faults =
+          subst (λ n. RoseBy n old.faults new.faults) (sym (faults-push gave.steps line r v))
+          (rose_more (faults_of gave.steps) (fault_in r) old.faults mid.faults new.faults gave.faults faults);
     }
 
-    more_end : (at new : DiskState) (still : at.streams.aside ≡ mid.streams.aside) (faults : RoseBy (fault_in r) mid.faults new.faults) (all : new.streams.aside ≡ at.streams.aside ++ text r) → end w (gave_more at new still faults all).steps ≡ v
+    more_end : (at new : DiskState) (still : at.streams.aside
+        ≡ mid.streams.aside) (faults : RoseBy (fault_in r) mid.faults new.faults) (all : new.streams.aside ≡ at.streams.aside ++ text r)
+        → end w (gave_more at new still faults all).steps ≡ v
     unfolding more_steps gave_more
     more_end at new still faults all = end-push w gave.steps line r v
 
     -- a cube that stays broken keeps its lot, as it was
-    more_lots : (at new : DiskState) (still : at.streams.aside ≡ mid.streams.aside) (faults : RoseBy (fault_in r) mid.faults new.faults) (all : new.streams.aside ≡ at.streams.aside ++ text r) (x z : VolumeView)
+    more_lots : (at new : DiskState) (still : at.streams.aside
+        ≡ mid.streams.aside) (faults : RoseBy (fault_in r) mid.faults new.faults) (all : new.streams.aside ≡ at.streams.aside ++ text r) (x z : VolumeView)
         → ((y : ℕ) → SaysBroken ((end w gave.steps).cube y) → SaysBroken (v.cube y) → lot_of (tables_of z.system) y ≡ lot_of (tables_of x.system) y)
         → KeepsLots x old w gave.steps → KeepsLots z old w (gave_more at new still faults all).steps
     unfolding more_steps gave_more
     more_lots at new still faults all x z same lots = lots_push x z old w gave.steps line r v same lots
 
-    more_keeps : (at new : DiskState) (still : at.streams.aside ≡ mid.streams.aside) (faults : RoseBy (fault_in r) mid.faults new.faults) (all : new.streams.aside ≡ at.streams.aside ++ text r)
+    more_keeps : (at new : DiskState) (still : at.streams.aside
+        ≡ mid.streams.aside) (faults : RoseBy (fault_in r) mid.faults new.faults) (all : new.streams.aside ≡ at.streams.aside ++ text r)
         → KeepsBroken old w gave.steps new → KeepsBroken old w (gave_more at new still faults all).steps new
     unfolding more_steps gave_more
     more_keeps at new still faults all keeps = keeps_push old new w gave.steps line r v keeps
 
     -- a front of the reply was given
-    gave_part : (new : DiskState) (m : ℕ) → mid.faults ≤ new.faults → new.streams.aside ≡ mid.streams.aside ++ take m (text r) → GaveReplies w script lines (take m (text r)) old new
+    gave_part : (new : DiskState) (m : ℕ) → mid.faults ≤ new.faults → new.streams.aside ≡ mid.streams.aside ++ take m (text r)
+        → GaveReplies w script lines (take m (text r)) old new
     gave_part new m more part = record {
       steps = gave.steps;
       first = gave.first;
       asked = gave.asked;
       named = gave.named;
-      gives = shifted old.streams.aside (reply_texts gave.steps) mid.streams.aside (take m (text r)) new.streams.aside gave.gives part ∙ sym (append_assoc old.streams.aside (reply_texts gave.steps) (take m (text r)));
+      gives =
+          shifted old.streams.aside (reply_texts gave.steps) mid.streams.aside (take m (text r)) new.streams.aside gave.gives part
+          ∙ sym (append_assoc old.streams.aside (reply_texts gave.steps) (take m (text r)));
       faults = rose_later (faults_of gave.steps) old.faults mid.faults new.faults gave.faults more;
     }
 
     -- the world that an image fits where a front of the reply was given: after a refusal it is the one before as well
-    reached_by : (q : Response) → q ≡ r → (image : Image) (tail : List ℕ) → Fits v image → IsProperPrefix tail (text r) → (u : World) × Reached w script gave.steps tail u × Fits u image
+    reached_by : (q : Response) → q ≡ r → (image : Image) (tail : List ℕ) → Fits v image → IsProperPrefix tail (text r)
+        → (u : World) × Reached w script gave.steps tail u × Fits u image
     reached_by (Ok x) same image tail fits part = (v, inr (r, next_to r v step, subst IsOk same refl, part), fits)
-    reached_by (Err e) same image tail fits part = (end w gave.steps, inl refl, fits_refused (λ s. Unit {0}) (end w gave.steps) v line e image (subst (λ q. Step (end w gave.steps) line q v) (sym same) step) fits)
+    reached_by (Err e) same image tail fits part =
+        (end w gave.steps, inl refl, fits_refused (λ s. Unit {0}) (end w gave.steps) v line e image (subst (λ q. Step (end w gave.steps) line q v) (sym same) step) fits)
 
-    left_part : (image : Image) (out : List ℕ) (m : ℕ) → Fits v image → m < length (text r) → out ≡ mid.streams.aside ++ take m (text r) → SparesBroken old w gave.steps image → CrashLeaves old w script image out
+    left_part : (image : Image) (out : List ℕ) (m : ℕ) → Fits v image → m < length (text r) → out ≡ mid.streams.aside ++ take m (text r)
+        → SparesBroken old w gave.steps image → CrashLeaves old w script image out
     left_part image out m fits less part spares =
         let at = reached_by r refl image (take m (text r)) fits (front (text r) m less) in (
           reply_texts gave.steps ++ take m (text r),
@@ -160,17 +179,21 @@ module _ (w : World) (script lines ahead : List Line) (line : Line) (old mid : D
           },
         )
 
-    left_whole : (image : Image) (out : List ℕ) → Fits v image → out ≡ mid.streams.aside ++ text r → SparesBroken old w gave.steps image → CrashLeaves old w script image out
+    left_whole : (image : Image) (out : List ℕ) → Fits v image → out ≡ mid.streams.aside ++ text r → SparesBroken old w gave.steps image
+        → CrashLeaves old w script image out
     unfolding more_steps
     left_whole image out fits all spares = (
       reply_texts more_steps,
-      shifted old.streams.aside (reply_texts gave.steps) mid.streams.aside (text r) out gave.gives all ∙ ap (λ (x : List ℕ). old.streams.aside ++ x) (sym (texts-push gave.steps line r v)),
+      shifted old.streams.aside (reply_texts gave.steps) mid.streams.aside (text r) out gave.gives all
+          ∙ ap (λ (x : List ℕ). old.streams.aside ++ x) (sym (texts-push gave.steps line r v)),
       record {
         steps = more_steps;
         runs = first-push w script gave.steps line ahead r v gave.first first_lines step;
         tail = [];
         gives = sym (append_nil (reply_texts more_steps));
-        count = ap closings (sym (append_nil (reply_texts more_steps))) ∙ closings-texts more_steps [] (named-push gave.steps line r v gave.named names) closings-none;
+        count =
+            ap closings (sym (append_nil (reply_texts more_steps)))
+            ∙ closings-texts more_steps [] (named-push gave.steps line r v gave.named names) closings-none;
         front = inl refl;
         world = v;
         reached = inl (sym (end-push w gave.steps line r v));
@@ -180,13 +203,15 @@ module _ (w : World) (script lines ahead : List Line) (line : Line) (old mid : D
     )
 
     -- each crash while the reply is given leaves what a run may leave
-    left_in_reply : (image : Image) (out : List ℕ) → Fits v image → FirstOf mid.streams.aside (text r) (length (text r)) out → SparesBroken old w gave.steps image → CrashLeaves old w script image out
+    left_in_reply : (image : Image) (out : List ℕ) → Fits v image → FirstOf mid.streams.aside (text r) (length (text r)) out
+        → SparesBroken old w gave.steps image → CrashLeaves old w script image out
     left_in_reply image out fits first spares = ⊎_elim
         (λ less. left_part image out first.0 fits less first.2 spares)
         (λ same. left_whole image out fits (first.2 ∙ ap (λ (x : List ℕ). mid.streams.aside ++ x) (take_same (text r) first.0 same)) spares)
         (same_or_less first.0 (length (text r)) first.1)
 
-module _ {D : Type 0} (state : D → DiskState) (left : D → ℕ → Image → List ℕ → Type 0) (w : World) (script lines ahead : List Line) (line : Line) (start a b : D) (v : VolumeView)
+module _ {D : Type 0} (state : D → DiskState) (left : D → ℕ → Image → List ℕ → Type 0) (w : World) (script lines ahead : List Line)
+    (line : Line) (start a b : D) (v : VolumeView)
     (so_far : SoFar state left w script v lines start a) (is : script ≡ lines ++ line ∷ ahead) (streams : (state b).streams ≡ (state a).streams)
     (leaves : LeavesOnly left a b (With (state a).streams.aside (MayFit (end w so_far.gave.steps) line)))
     (sparing : Within state left (Outside (IsOfBroken (tables_of v.system) (end w so_far.gave.steps))) a b) where
@@ -206,7 +231,8 @@ module _ {D : Type 0} (state : D → DiskState) (left : D → ℕ → Image → 
   keeps_worked = keeps_on state left w v (state start) so_far.gave.steps a b so_far.lots so_far.spares sparing
 
   -- a change of the tables failed late
-  pub failed_late : Rose (state a).faults (state b).faults → IsTableOrder (aim (end w so_far.gave.steps) line) → FailedLate state left w script (lines ++ line ∷ []) start b
+  pub failed_late : Rose (state a).faults (state b).faults → IsTableOrder (aim (end w so_far.gave.steps) line)
+      → FailedLate state left w script (lines ++ line ∷ []) start b
   failed_late rose order = record {
     lines = lines;
     gave = record {
@@ -227,15 +253,19 @@ module _ {D : Type 0} (state : D → DiskState) (left : D → ℕ → Image → 
   }
 
   module _ (z : VolumeView) (r : Response) (u : World) (step : Step (end w so_far.gave.steps) line r u) (stands : StandsFor z (state b) u)
-      (lots : (x : ℕ) → SaysBroken ((end w so_far.gave.steps).cube x) → SaysBroken (u.cube x) → lot_of (tables_of z.system) x ≡ lot_of (tables_of v.system) x) (names : HasNames r) (faults : RoseBy (fault_in r) (state a).faults (state b).faults) (c : D)
-      (same : SameDisk (state b) (state c)) (gives : Leaves state left (FirstOf (state b).streams.aside (text r) (length (text r))) b c) (on : StandsFor z (state c) u) where
+      (lots : (x : ℕ) → SaysBroken ((end w so_far.gave.steps).cube x) → SaysBroken (u.cube x) → lot_of (tables_of z.system) x ≡ lot_of (tables_of v.system) x)
+      (names : HasNames r) (faults : RoseBy (fault_in r) (state a).faults (state b).faults) (c : D)
+      (same : SameDisk (state b) (state c)) (gives : Leaves state left (FirstOf (state b).streams.aside (text r) (length (text r))) b c)
+      (on : StandsFor z (state c) u) where
     aside_same : (state b).streams.aside ≡ (state a).streams.aside
     aside_same = ap (λ (x : Streams). x.aside) streams
 
     crash_given : CrashesSo state left w script start c
     crash_given = record {
       each = λ t image out l. ⊎_elim (λ before. crash_worked.each t image out before)
-          (λ here. inr (left_in_reply w script lines ahead line (state start) (state a) so_far.gave is r u step names image out (stands_fits z (state b) u stands image here.0)
+          (λ here. inr
+          (left_in_reply w script lines ahead line (state start) (state a) so_far.gave is r u step names image out
+          (stands_fits z (state b) u stands image here.0)
           (subst (λ (x : List ℕ). FirstOf x (text r) (length (text r)) out) aside_same here.1)
           (kept_spares (state start) (state b) w so_far.gave.steps image keeps_worked here.0)))
           (gives.left_new t image out l);
@@ -250,18 +280,26 @@ module _ {D : Type 0} (state : D → DiskState) (left : D → ℕ → Image → 
     pub answered_more : (state c).streams.aside ≡ (state b).streams.aside ++ text r → SoFar state left w script z (lines ++ line ∷ []) start c
     answered_more all = record {
       gave = gave_more w script lines ahead line (state start) (state a) so_far.gave is r u step names (state b) (state c) aside_same faults_on all;
-      stands = subst (λ (x : World). StandsFor z (state c) x) (sym (more_end w script lines ahead line (state start) (state a) so_far.gave is r u step names (state b) (state c) aside_same faults_on all)) on;
+      stands =
+          subst (λ (x : World). StandsFor z (state c) x)
+          (sym (more_end w script lines ahead line (state start) (state a) so_far.gave is r u step names (state b) (state c) aside_same faults_on all)) on;
       crash = crash_given;
-      lots = more_lots w script lines ahead line (state start) (state a) so_far.gave is r u step names (state b) (state c) aside_same faults_on all v z lots so_far.lots;
-      spares = more_keeps w script lines ahead line (state start) (state a) so_far.gave is r u step names (state b) (state c) aside_same faults_on all keeps_given;
+      lots =
+          more_lots w script lines ahead line (state start) (state a) so_far.gave is r u step names (state b)
+          (state c) aside_same faults_on all v z lots so_far.lots;
+      spares =
+          more_keeps w script lines ahead line (state start) (state a) so_far.gave is r u step names (state b) (state c) aside_same faults_on all keeps_given;
     }
 
-    pub cut_short : (state a).faults ≤ (state b).faults → CutOf (state b).streams.aside (text r) (state c).streams.aside → CutShort state left w script (lines ++ line ∷ []) start c
+    pub cut_short : (state a).faults ≤ (state b).faults → CutOf (state b).streams.aside (text r) (state c).streams.aside
+        → CutShort state left w script (lines ++ line ∷ []) start c
     unfolding gave_part
     cut_short more cut = record {
       lines = lines;
       tail = take cut.0 (text r);
-      gave = gave_part w script lines ahead line (state start) (state a) so_far.gave is r u step names (state c) cut.0 (omega (arith, more, same.faults)) (cut.2 ∙ ap (λ (x : List ℕ). x ++ take cut.0 (text r)) aside_same);
+      gave =
+          gave_part w script lines ahead line (state start) (state a) so_far.gave is r u step names (state c) cut.0
+          (omega (arith, more, same.faults)) (cut.2 ∙ ap (λ (x : List ℕ). x ++ take cut.0 (text r)) aside_same);
       reply = r;
       then = u;
       next = record { line = line; ahead = []; lines = ap (λ (x : List Line). x ++ line ∷ []) (sym so_far.gave.asked); step = step };

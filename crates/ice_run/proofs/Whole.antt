@@ -46,7 +46,8 @@ none_of (suc n) a b rose never = absurd (never (omega (arith, rose)))
 -- ---- a session that took and gave nothing
 
 module _ (w : World) (old new : DiskState) (starts : Starts old w) (same : new.streams ≡ old.streams) where
-  pub ends_silent : (status : Status) → EndsAt status w [] [] [] new.streams.intake → (status ≡ Done → ⊥) → RoseBy (fault_at status) old.faults new.faults → (NoneRose old new → EndsWell status old) → KeepsBroken old w [] new → Ends status w old new
+  pub ends_silent : (status : Status) → EndsAt status w [] [] [] new.streams.intake → (status ≡ Done → ⊥)
+      → RoseBy (fault_at status) old.faults new.faults → (NoneRose old new → EndsWell status old) → KeepsBroken old w [] new → Ends status w old new
   ends_silent status at undone rose well keeps = record {
     steps = [];
     runs = record { runs = tt; ahead = script_lines old.streams.intake; lines = refl };
@@ -65,7 +66,8 @@ module _ (w : World) (old new : DiskState) (starts : Starts old w) (same : new.s
   }
 
 -- before the first line
-pub at_start : (w : World) (script : List Line) (start : DiskState) (image : Image) (out : List ℕ) → Fits w image → out ≡ start.streams.aside → SparesBroken start w [] image → CrashLeaves start w script image out
+pub at_start : (w : World) (script : List Line) (start : DiskState) (image : Image) (out : List ℕ) → Fits w image
+    → out ≡ start.streams.aside → SparesBroken start w [] image → CrashLeaves start w script image out
 at_start w script start image out fits same spares = (
   [],
   same ∙ sym (append_nil start.streams.aside),
@@ -88,27 +90,34 @@ pub crash_since : {D : Type 0} (state : D → DiskState) (left : D → ℕ → I
     → ((image : Image) (out : List ℕ) → left old (state old).clock image out → AgreesOn Everywhere (state old) image × (out ≡ (state old).streams.aside))
     → Every Everywhere (state old) (Fits w) → LeavesOnly left old new (CrashLeaves (state old) w (script_lines (state old).streams.intake))
     → (image : Image) (out : List ℕ) → left new (state old).clock image out → CrashLeaves (state old) w (script_lines (state old).streams.intake) image out
-crash_since state left w old new agrees fits leaves = since_start state left old new (CrashLeaves (state old) w (script_lines (state old).streams.intake)) agrees
-    (λ i at. at_start w (script_lines (state old).streams.intake) (state old) i (state old).streams.aside (fits i at) refl (kept_spares (state old) (state old) w [] i (keeps_refl (state old) w []) at)) leaves
+crash_since state left w old new agrees fits leaves =
+    since_start state left old new (CrashLeaves (state old) w (script_lines (state old).streams.intake)) agrees
+    (λ i at. at_start w (script_lines (state old).streams.intake) (state old) i (state old).streams.aside (fits i at) refl
+    (kept_spares (state old) (state old) w [] i (keeps_refl (state old) w []) at)) leaves
 
 -- what each crash leaves while the volume is opened
-pub crash_opened : {D : Type 0} (state : D → DiskState) (left : D → ℕ → Image → List ℕ → Type 0) (w : World) (old d : D) → Within state left IsReplayed old d → LeavesOnly left old d (With (state old).streams.aside (Fits w))
+pub crash_opened : {D : Type 0} (state : D → DiskState) (left : D → ℕ → Image → List ℕ → Type 0) (w : World) (old d : D)
+    → Within state left IsReplayed old d → LeavesOnly left old d (With (state old).streams.aside (Fits w))
     → LeavesOnly left old d (CrashLeaves (state old) w (script_lines (state old).streams.intake))
 crash_opened state left w old d within leaves = record {
   each = λ t image out l. ⊎_elim (λ before. inl before)
       (λ here. ⊎_elim (λ before. inl before)
-      (λ agrees. inr (at_start w (script_lines (state old).streams.intake) (state old) image out here.0 here.1 (opened_spares state left IsReplayed replayed_low old d within w [] image agrees.0)))
+      (λ agrees. inr
+      (at_start w (script_lines (state old).streams.intake) (state old) image out here.0 here.1
+      (opened_spares state left IsReplayed replayed_low old d within w [] image agrees.0)))
       (within.left_new t image out l))
       (leaves.each t image out l);
 }
 
 -- what the opening of a volume keeps
-pub opened_keeps : {D : Type 0} (state : D → DiskState) (left : D → ℕ → Image → List ℕ → Type 0) (old d : D) → Within state left IsReplayed old d → (w : World) → KeepsBroken (state old) w [] (state d)
+pub opened_keeps : {D : Type 0} (state : D → DiskState) (left : D → ℕ → Image → List ℕ → Type 0) (old d : D)
+    → Within state left IsReplayed old d → (w : World) → KeepsBroken (state old) w [] (state d)
 opened_keeps state left old d within w = λ t has x stays. opened_kept state left IsReplayed replayed_low old d within t x
 
 -- ---- a session that was served
 
-module _ {D : Type 0} (state : D → DiskState) (left : D → ℕ → Image → List ℕ → Type 0) (w : World) (old mid new : D) (starts : Starts (state old) w) (within : Within state left IsReplayed old mid)
+module _ {D : Type 0} (state : D → DiskState) (left : D → ℕ → Image → List ℕ → Type 0) (w : World) (old mid new : D)
+    (starts : Starts (state old) w) (within : Within state left IsReplayed old mid)
     (tables : (t : Tables) → HasTables (state old).now t → HasTables (state mid).now t) where
   streams : (state mid).streams ≡ (state old).streams
   streams = within.streams
@@ -123,9 +132,13 @@ module _ {D : Type 0} (state : D → DiskState) (left : D → ℕ → Image → 
   script_is = ap (λ (x : Streams). script_lines x.intake) streams
 
   -- what was given since the volume was open was given since the start
-  module _ (status : Status) (lines : List Line) (tail : List ℕ) (gave : GaveReplies w (script_lines (state mid).streams.intake) lines tail (state mid) (state new)) (none : closings tail ≡ 0) (taken : List ℕ) (took : (state mid).streams.intake ≡ taken ++ (state new).streams.intake)
-      (at : EndsAt status w gave.steps tail taken (state new).streams.intake) (exit : status ≡ Done → Every Everywhere (state new) (Fits (finished (end w gave.steps))))
-      (rose : RoseBy (faults_of gave.steps + fault_at status) (state mid).faults (state new).faults) (well : NoneRose (state old) (state new) → EndsWell status (state old))
+  module _ (status : Status) (lines : List Line) (tail : List ℕ)
+      (gave : GaveReplies w (script_lines (state mid).streams.intake) lines tail (state mid) (state new)) (none : closings tail ≡ 0)
+      (taken : List ℕ) (took : (state mid).streams.intake ≡ taken ++ (state new).streams.intake)
+      (at : EndsAt status w gave.steps tail taken (state new).streams.intake)
+      (exit : status ≡ Done → Every Everywhere (state new) (Fits (finished (end w gave.steps))))
+      (rose : RoseBy (faults_of gave.steps + fault_at status) (state mid).faults (state new).faults)
+      (well : NoneRose (state old) (state new) → EndsWell status (state old))
       (keeps : KeepsBroken (state mid) w gave.steps (state new)) where
     ends_so : Ends status w (state old) (state new)
     ends_so = record {
@@ -150,30 +163,39 @@ module _ {D : Type 0} (state : D → DiskState) (left : D → ℕ → Image → 
     disk_rose : Rose (state mid).faults (state new).faults → NoneRose (state old) (state new) → ⊥
     disk_rose rose quiet = quiet.disk (omega (arith, rose, faults))
 
-    pub ends_served : (status : Status) → (status ≡ Done) ⊎ LoopCause status (state mid) (state new) → Concluded state left w mid status new → Ends status w (state old) (state new)
+    pub ends_served : (status : Status) → (status ≡ Done) ⊎ LoopCause status (state mid) (state new)
+        → Concluded state left w mid status new → Ends status w (state old) (state new)
     ends_served Done cause served =
         let r = served.concludes in
-        ends_so Done _ [] r.all.gave closings-none served.taken served.took (refl, r.none, r.few, r.all.gave.asked) (λ is. r.exit) (omega (arith, r.all.rose)) (λ quiet. tt) r.all.spares
+        ends_so Done _ [] r.all.gave closings-none served.taken served.took (refl, r.none, r.few, r.all.gave.asked) (λ is. r.exit)
+        (omega (arith, r.all.rose)) (λ quiet. tt) r.all.spares
     ends_served Source cause served =
         let r = served.concludes.1 in let gave = r.1.gave in
         ends_so Source _ [] gave closings-none served.taken served.took (refl, r.0, gave.asked) (λ is. absurd (cc is)) (omega (arith, gave.faults))
-        (λ quiet. ⊎_elim (λ is. absurd (cc is)) (λ rose. quiet.source (subst (λ (x : Streams). Rose x.source_faults (state new).streams.source_faults) streams rose)) cause) r.1.spares
+        (λ quiet. ⊎_elim (λ is. absurd (cc is))
+        (λ rose. quiet.source (subst (λ (x : Streams). Rose x.source_faults (state new).streams.source_faults) streams rose)) cause) r.1.spares
     ends_served Script cause served =
         let r = served.concludes.1 in let gave = r.1.gave in
-        ends_so Script _ [] gave closings-none served.taken served.took (refl, r.0, gave.asked) (λ is. absurd (cc is)) (omega (arith, gave.faults)) (λ quiet. longer served.taken r.0 served.took) r.1.spares
+        ends_so Script _ [] gave closings-none served.taken served.took (refl, r.0, gave.asked) (λ is. absurd (cc is))
+        (omega (arith, gave.faults)) (λ quiet. longer served.taken r.0 served.took) r.1.spares
       where
-        longer : (taken : List ℕ) → length taken ≡ longest_script + 1 → (state mid).streams.intake ≡ taken ++ (state new).streams.intake → longest_script < length (state old).streams.intake
-        longer taken is took = omega (arith, is, ap length (ap (λ (x : Streams). x.intake) (sym streams) ∙ took), length-append taken (state new).streams.intake)
+        longer : (taken : List ℕ) → length taken ≡ longest_script + 1 → (state mid).streams.intake ≡ taken ++ (state new).streams.intake
+            → longest_script < length (state old).streams.intake
+        longer taken is took =
+            omega (arith, is, ap length (ap (λ (x : Streams). x.intake) (sym streams) ∙ took), length-append taken (state new).streams.intake)
     ends_served Sink cause served =
         let r = served.concludes.1 in let cut = r.1.breaks in
         ends_so Sink cut.lines cut.tail cut.gave (closings-part cut.reply cut.tail cut.part.0 cut.names cut.part.2 cut.part.1) served.taken served.took
-        (r.0, record { lines = r.1.heard; heard = r.1.all; reply = cut.reply; then = cut.then; next = cut.next; part = cut.part }) (λ is. absurd (cc is)) (omega (arith, cut.gave.faults))
-        (λ quiet. ⊎_elim (λ is. absurd (cc is)) (λ rose. quiet.sink (subst (λ (x : Streams). Rose x.sink_faults (state new).streams.sink_faults) streams rose)) cause) cut.spares
+        (r.0, record { lines = r.1.heard; heard = r.1.all; reply = cut.reply; then = cut.then; next = cut.next; part = cut.part })
+        (λ is. absurd (cc is)) (omega (arith, cut.gave.faults))
+        (λ quiet. ⊎_elim (λ is. absurd (cc is))
+        (λ rose. quiet.sink (subst (λ (x : Streams). Rose x.sink_faults (state new).streams.sink_faults) streams rose)) cause) cut.spares
     ends_served Disk cause served = ⊎_elim
         (λ (broken : Broken state left w mid Disk served.taken new).
         let cut = broken.breaks in
         ends_so Disk cut.lines [] cut.gave closings-none served.taken served.took
-        (refl, served.concludes.0, inr (inl (record { lines = broken.heard; heard = broken.all; line = cut.line; ahead = cut.ahead; next = cut.next; order = cut.order }))) (λ is. absurd (cc is)) cut.faults
+        (refl, served.concludes.0, inr (inl (record { lines = broken.heard; heard = broken.all; line = cut.line; ahead = cut.ahead; next = cut.next; order = cut.order }))) (λ is. absurd
+        (cc is)) cut.faults
         (λ quiet. ⊎_elim (λ is. absurd (cc is)) (λ rose. disk_rose rose quiet) cause) cut.spares)
         (λ (failed : EndsFailed state left w mid served.taken new).
         ends_so Disk _ [] failed.all.gave closings-none served.taken served.took
@@ -186,29 +208,38 @@ module _ {D : Type 0} (state : D → DiskState) (left : D → ℕ → Image → 
     ends_served Small cause served = absurd served.concludes.1
 
   -- what each crash leaves afterwards
-  crash_in : (status : Status) → Concluded state left w mid status new → LeavesOnly left mid new (CrashLeaves (state mid) w (script_lines (state mid).streams.intake))
+  crash_in : (status : Status) → Concluded state left w mid status new
+      → LeavesOnly left mid new (CrashLeaves (state mid) w (script_lines (state mid).streams.intake))
   crash_in Done served = served.concludes.all.crash
   crash_in Source served = served.concludes.1.1.crash
   crash_in Script served = served.concludes.1.1.crash
   crash_in Sink served = served.concludes.1.1.breaks.crash
-  crash_in Disk served = ⊎_elim (λ (broken : Broken state left w mid Disk served.taken new). broken.breaks.crash) (λ (failed : EndsFailed state left w mid served.taken new). failed.all.crash) served.concludes.1
+  crash_in Disk served =
+      ⊎_elim (λ (broken : Broken state left w mid Disk served.taken new). broken.breaks.crash)
+      (λ (failed : EndsFailed state left w mid served.taken new). failed.all.crash) served.concludes.1
   crash_in Usage served = absurd served.concludes.1
   crash_in Memory served = absurd served.concludes.1
   crash_in Volume served = absurd served.concludes.1
   crash_in Small served = absurd served.concludes.1
 
-  pub crash_served : (status : Status) → Concluded state left w mid status new → LeavesOnly left old mid (With (state old).streams.aside (Fits w)) → LeavesOnly left old new (CrashLeaves (state old) w (script_lines (state old).streams.intake))
+  pub crash_served : (status : Status) → Concluded state left w mid status new
+      → LeavesOnly left old mid (With (state old).streams.aside (Fits w))
+      → LeavesOnly left old new (CrashLeaves (state old) w (script_lines (state old).streams.intake))
   crash_served status served leaves = record {
-    each = λ t image out l. ⊎_elim (λ before. (crash_opened state left w old mid within leaves).each t image out before) (λ here. inr (since image out here)) ((crash_in status served).each t image out l);
+    each =
+        λ t image out l. ⊎_elim (λ before. (crash_opened state left w old mid within leaves).each t image out before)
+        (λ here. inr (since image out here)) ((crash_in status served).each t image out l);
   }
     where
       -- what is left of a run since the volume is open is left of one since the start
-      since : (image : Image) (out : List ℕ) → CrashLeaves (state mid) w (script_lines (state mid).streams.intake) image out → CrashLeaves (state old) w (script_lines (state old).streams.intake) image out
+      since : (image : Image) (out : List ℕ) → CrashLeaves (state mid) w (script_lines (state mid).streams.intake) image out
+          → CrashLeaves (state old) w (script_lines (state old).streams.intake) image out
       since image out here =
           let moved : LeftSo Fits (SparesBroken (state mid) w) (state old).streams.aside w (script_lines (state old).streams.intake) image out =
           subst (λ (x : Streams). LeftSo Fits (SparesBroken (state mid) w) x.aside w (script_lines x.intake) image out) streams here in (
             moved.0,
             moved.1,
-            after_more (λ v. Fits v image) (λ v. Fits v image) (λ steps. SparesBroken (state mid) w steps image) (λ steps. SparesBroken (state old) w steps image) w (script_lines (state old).streams.intake) moved.0
+            after_more (λ v. Fits v image) (λ v. Fits v image) (λ steps. SparesBroken (state mid) w steps image)
+                (λ steps. SparesBroken (state old) w steps image) w (script_lines (state old).streams.intake) moved.0
                 (λ v fits. fits) (λ steps spares. spares_since state left IsReplayed replayed_low old mid within tables w steps image spares) moved.2,
           )

@@ -39,7 +39,8 @@ formats image (Some sup) = Some (Formats image sup)
 -- `format IMAGE --slots S --groups N`, S of 1 to 16 and N of 1 to 1,024
 abbrev pub format_form : List (List ℕ) → Option Request
 format_form words =
-    if bytes_eq (nth_word words 0) (codes "format") && (is_image (nth_word words 1) && (bytes_eq (nth_word words 2) (codes "--slots") && bytes_eq (nth_word words 4) (codes "--groups")))
+    if bytes_eq (nth_word words 0)
+    (codes "format") && (is_image (nth_word words 1) && (bytes_eq (nth_word words 2) (codes "--slots") && bytes_eq (nth_word words 4) (codes "--groups")))
     then formats (nth_word words 1) (geometry_of (number_in 1 16 (number_of (nth_word words 3))) (number_in 1 1024 (number_of (nth_word words 5))))
     else None
 

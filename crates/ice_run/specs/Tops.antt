@@ -13,7 +13,8 @@ use Rattle.ice_volume.specs.Sessions.{Starts}
 
 -- The making of an image. It changes blocks 0 to 31 alone, takes and gives nothing, and at Done they are the fresh image and nothing is loose.
 -- So a session may start from it, in the world without cubes. Small comes exactly where there are too few blocks, and then nothing was done.
-pub record FormatsImage {D : Type 0} (state : D → DiskState) (left : D → ℕ → Image → List ℕ → Type 0) (sup : Super) (status : Status) (old new : D) : Type 0 where
+pub record FormatsImage {D : Type 0} (state : D → DiskState) (left : D → ℕ → Image → List ℕ → Type 0) (sup : Super) (status : Status)
+    (old new : D) : Type 0 where
   pub within : Within state left (Below 32) old new
   pub cause : FormatCause sup status (state old) (state new)
   pub room : (state old).size < total_blocks sup.slots sup.groups → (status ≡ Small) × (new ≡ old)

@@ -50,7 +50,8 @@ shown gs (Some r) c e = (ap (off r.offline) e, ap (many (length gs)) e)
 
 module _ (v : VolumeView) (s : DiskState) (u : World) (stands : StandsFor v s u) where
   -- the cube of a slot as the tables show it
-  pub meant_slot : (x : ℕ) (c : Cube) (line : Line) (o : Order) (offline : Bool) → u.cube x ≡ Some c → is_marked (row_at v.system.names x) ≡ offline → aim u line ≡ At x o → IsMeant v x line o offline u
+  pub meant_slot : (x : ℕ) (c : Cube) (line : Line) (o : Order) (offline : Bool) → u.cube x ≡ Some c
+      → is_marked (row_at v.system.names x) ≡ offline → aim u line ≡ At x o → IsMeant v x line o offline u
   meant_slot x c line o offline is mark aims =
       let entry = shown (groups_of (tables_of v.system) x) (row_at v.system.names x) c (stands.shows.entries x ∙ ap (option_map cube_entry) is) in
       record { aims = aims; cube = c; is = is; mark = sym entry.0 ∙ mark; groups = sym entry.1 }
@@ -61,8 +62,10 @@ module _ (v : VolumeView) (s : DiskState) (u : World) (stands : StandsFor v s u)
       here = cube_of (u.cube x) p (sym (row_path v s u stands x) ∙ at)
 
       -- a line to the cube of a path that was found
-      pub meant_path : (line : Line) (o : Order) (offline : Bool) → aim u line ≡ to_cube (slot_with_path u p) o → is_marked (row_at v.system.names x) ≡ offline → IsMeant v x line o offline u
-      meant_path line o offline is mark = meant_slot x here.0 line o offline here.1 mark (is ∙ ap (λ (q : Option ℕ). to_cube q o) (slot_found v s u stands p x less at))
+      pub meant_path : (line : Line) (o : Order) (offline : Bool) → aim u line ≡ to_cube (slot_with_path u p) o
+          → is_marked (row_at v.system.names x) ≡ offline → IsMeant v x line o offline u
+      meant_path line o offline is mark =
+          meant_slot x here.0 line o offline here.1 mark (is ∙ ap (λ (q : Option ℕ). to_cube q o) (slot_found v s u stands p x less at))
 
       -- its slot is not free
       pub not_free : u.cube x ≡ None → ⊥
@@ -72,7 +75,8 @@ module _ (v : VolumeView) (s : DiskState) (u : World) (stands : StandsFor v s u)
     pub aims_none : (line : Line) (o : Order) → aim u line ≡ to_cube (slot_with_path u p) o → NoneHas v.system.names p → aim u line ≡ Refuse why.NoCube
     aims_none line o is none = is ∙ ap (λ (q : Option ℕ). to_cube q o) (slot_none v s u stands p none)
 
-  refused_answers : (line : Line) (r : Refusal) (room : RoomContent) (y : Why) → refused_of r ≡ Because y → aim u line ≡ Refuse y → Answers v v s s line u (meant (Err r) room)
+  refused_answers : (line : Line) (r : Refusal) (room : RoomContent) (y : Why) → refused_of r ≡ Because y → aim u line ≡ Refuse y
+      → Answers v v s s line u (meant (Err r) room)
   refused_answers line r room y because aims = record {
     then = u;
     step = subst (λ (z : Aim). Goes u z (Err (refused_of r)) u) (sym aims) (ap (λ (q : reply.Refused). Err q) because, refl);
@@ -88,7 +92,8 @@ module _ (v : VolumeView) (s : DiskState) (u : World) (stands : StandsFor v s u)
       empty : length (groups_of (tables_of v.system) x) ≡ 0
       empty = sym (ap (λ (y : LotView). length y.groups) is) ∙ none
 
-      by : (o : Option Row) (d : Option Cube) → row_at v.system.names x ≡ o → entry_with (groups_of (tables_of v.system) x) o ≡ option_map cube_entry d → d ≡ None
+      by : (o : Option Row) (d : Option Cube) → row_at v.system.names x ≡ o
+          → entry_with (groups_of (tables_of v.system) x) o ≡ option_map cube_entry d → d ≡ None
       by None None row e = refl
       by None (Some c) row e = absurd (cc e)
       by (Some r) d row e =
@@ -101,16 +106,19 @@ module _ (v : VolumeView) (s : DiskState) (u : World) (stands : StandsFor v s u)
 
 module _ {D X : Type 0} (state : D → DiskState) (left : D → ℕ → Image → List ℕ → Type 0) (line : Line) (v : VolumeView) (room : RoomContent) (a : D) where
   -- a refusal of what the line is meant for
-  pub refusal_line : (r : Refusal) → fault_in (Err (refused_of r)) ≡ 0 → ((u : World) → StandsFor v (state a) u → (y : Why) × (refused_of r ≡ Because y) × (aim u line ≡ Refuse y))
+  pub refusal_line : (r : Refusal) → fault_in (Err (refused_of r)) ≡ 0
+      → ((u : World) → StandsFor v (state a) u → (y : Why) × (refused_of r ≡ Because y) × (aim u line ≡ Refuse y))
       → AnswersLine {X = X} state left line v v room (Ok (Err r)) a a
   refusal_line r none refuses = refused_line state left line v room r a none
       (λ u stands. let y = refuses u stands in refused_answers v (state a) u stands line r room y.0 y.1 y.2)
 
   -- no cube has the path
-  pub none_line : (p : List (List ℕ)) (o : Order) → ((u : World) → aim u line ≡ to_cube (slot_with_path u p) o) → NoneHas v.system.names p → AnswersLine {X = X} state left line v v room (Ok (Err code.NoCube)) a a
+  pub none_line : (p : List (List ℕ)) (o : Order) → ((u : World) → aim u line ≡ to_cube (slot_with_path u p) o) → NoneHas v.system.names p
+      → AnswersLine {X = X} state left line v v room (Ok (Err code.NoCube)) a a
   none_line p o is none = refusal_line code.NoCube refl (λ u stands. (why.NoCube, refl, aims_none v (state a) u stands p line o (is u) none))
 
   -- a slot whose cube is known is not free
   pub free_line : (x : ℕ) (p : List (List ℕ)) → x < v.system.names.slots → path_at v.system.names x ≡ Some p
       → ((s : DiskState) (u : World) → StandsFor v s u → u.cube x ≡ None) → AnswersLine {X = X} state left line v v room (Ok (Err code.NoCube)) a a
-  free_line x p less at free = refused_line state left line v room code.NoCube a refl (λ u stands. absurd (not_free v (state a) u stands p x less at (free (state a) u stands)))
+  free_line x p less at free =
+      refused_line state left line v room code.NoCube a refl (λ u stands. absurd (not_free v (state a) u stands p x less at (free (state a) u stands)))

@@ -49,7 +49,8 @@ use Rattle.ice_volume.proofs.Telling.{IsOpen, open_record, sound_leaves, sound_u
 -- ---- a command of a tree
 
 -- what a command of a cube says
-pub record CommandSays {D : Type 0} (state : D → DiskState) (left : D → ℕ → Image → List ℕ → Type 0) (e f : CubeView) (op : Operation) (room : RoomContent) (r : Result Value Refusal) (a b : D) : Type 0 where
+pub record CommandSays {D : Type 0} (state : D → DiskState) (left : D → ℕ → Image → List ℕ → Type 0) (e f : CubeView) (op : Operation)
+    (room : RoomContent) (r : Result Value Refusal) (a b : D) : Type 0 where
   pub lot : f.lot ≡ e.lot
   pub failed : Caused state code.Fault r a b
   pub tallies : Tallies r room
@@ -58,7 +59,8 @@ pub record CommandSays {D : Type 0} (state : D → DiskState) (left : D → ℕ 
   pub own : (c : Cube) → HoldsRecord e (state a) c → AnswersOwn f (state b) c (order.OnTree op) (meant r room)
   pub crash : (g : Form) (mode : Mode) (h : History) → Holds g mode h e (state a) → CrashStep state left (extent e.lot) (HasHistory e.lot g mode h) a b
 
-module _ {D : Type 0} (state : D → DiskState) (left : D → ℕ → Image → List ℕ → Type 0) (e f : CubeView) (op : Operation) (a b : D) (offline : Bool) (room : RoomContent) (r : Result Value Refusal) (s : CommandSays state left e f op room r a b) where
+module _ {D : Type 0} (state : D → DiskState) (left : D → ℕ → Image → List ℕ → Type 0) (e f : CubeView) (op : Operation) (a b : D)
+    (offline : Bool) (room : RoomContent) (r : Result Value Refusal) (s : CommandSays state left e f op room r a b) where
   command_frame : (p : Bool) → is_change op ≡ p → Within state left (WritesIn e.lot (order.OnTree op) (meant r room)) a b
   command_frame true is = within_more state left (extent e.lot) (WritesIn e.lot (order.OnTree op) (meant r room)) a b (λ k own. (is, own)) s.within
   command_frame false is = within_more state left Nowhere (WritesIn e.lot (order.OnTree op) (meant r room)) a b (λ k never. absurd never) (s.looks is).within
@@ -92,7 +94,8 @@ check_meant (Ok s) room = refl
 check_meant (Err check.Disk) room = refl
 check_meant (Err (check.Damaged x)) room = refl
 
-check_faults : (r : Result Summary CheckFault) (room : RoomContent) (m n : ℕ) → m ≤ n → (IsErrOf r check.Disk → Rose m n) → RoseBy (fault_in (meant (told_check r) room)) m n
+check_faults : (r : Result Summary CheckFault) (room : RoomContent) (m n : ℕ) → m ≤ n → (IsErrOf r check.Disk → Rose m n)
+    → RoseBy (fault_in (meant (told_check r) room)) m n
 check_faults (Ok s) room m n le cause = omega (arith, le)
 check_faults (Err check.Disk) room m n le cause = cause refl
 check_faults (Err (check.Damaged x)) room m n le cause = omega (arith, le)
@@ -103,7 +106,8 @@ check_tallies (Err check.Disk) room = tt
 check_tallies (Err (check.Damaged x)) room = tt
 
 -- what a check of a cube says
-pub record CheckSays {D : Type 0} (state : D → DiskState) (left : D → ℕ → Image → List ℕ → Type 0) (e f : CubeView) (r : Result Summary CheckFault) (a b : D) : Type 0 where
+pub record CheckSays {D : Type 0} (state : D → DiskState) (left : D → ℕ → Image → List ℕ → Type 0) (e f : CubeView)
+    (r : Result Summary CheckFault) (a b : D) : Type 0 where
   pub lot : f.lot ≡ e.lot
   pub still : Still state left a b
   pub failed : Caused state check.Disk r a b
@@ -117,9 +121,12 @@ module _ {D : Type 0} (state : D → DiskState) (left : D → ℕ → Image → 
   still_kept = kept_within state left (extent lot) Nowhere a b (λ k own never. never) still.within
 
   still_leaves : (cell : Cell) (c : Cube) → Carries cell lot (state a) (Some c) → LeavesOnly left a b (With (state a).streams.aside (λ i. Has lot i (Some c)))
-  still_leaves cell c carries = leaves_apart state left (extent lot) Nowhere a b (λ i. Has lot i (Some c)) (λ k own never. never) still.within (carries_has cell lot (state a) (Some c) carries)
+  still_leaves cell c carries =
+      leaves_apart state left (extent lot) Nowhere a b (λ i. Has lot i (Some c))
+      (λ k own never. never) still.within (carries_has cell lot (state a) (Some c) carries)
 
-module _ {D : Type 0} (state : D → DiskState) (left : D → ℕ → Image → List ℕ → Type 0) (e f : CubeView) (live : e.stopped ≡ false) (a b : D) (offline : Bool) (room : RoomContent) (r : Result Summary CheckFault) (s : CheckSays state left e f r a b) where
+module _ {D : Type 0} (state : D → DiskState) (left : D → ℕ → Image → List ℕ → Type 0) (e f : CubeView) (live : e.stopped ≡ false)
+    (a b : D) (offline : Bool) (room : RoomContent) (r : Result Summary CheckFault) (s : CheckSays state left e f r a b) where
   check_each : (c : Cube) → IsRecord e.lot offline (Open e) (state a) c → Becomes state left e.lot order.Check (Open f) a b c (meant (told_check r) room)
   check_each c rec =
       let at = open_record e offline (state a) c rec in
@@ -170,7 +177,8 @@ idle_state lot offline (Open e) s c idle rec = subst IsIdleState (sym (rec.carri
 pub record_now : (lot : LotView) (offline : Bool) (cell : Cell) (s : DiskState) (c : Cube) → IsRecord lot offline cell s c → Has lot s.now (Some c)
 record_now lot offline cell s c rec = carries_has cell lot s (Some c) rec.carries s.now (record { count = rec.whole; same = λ k own settled. refl })
 
-check_sound : (c : Cube) (h : History) (j : ℕ) (s : StateWord) → IsIdleState s → j ≤ length h.since → CheckFinds c (Sound h) s (on_check c (tree_at h j) (floor h + j))
+check_sound : (c : Cube) (h : History) (j : ℕ) (s : StateWord) → IsIdleState s → j ≤ length h.since
+    → CheckFinds c (Sound h) s (on_check c (tree_at h j) (floor h + j))
 check_sound c h j word.Mounted idle few = absurd idle
 check_sound c h j word.Unmounted idle few = (j, few, refl)
 check_sound c h j word.Stopped idle few = (j, few, refl)
@@ -195,23 +203,31 @@ found_fault lot i word.Stopped = tt
 found_fault lot i word.Offline = tt
 
 -- what a check of a lot says
-pub record LotCheckSays {D : Type 0} (state : D → DiskState) (left : D → ℕ → Image → List ℕ → Type 0) (lot : LotView) (r : Result Summary CheckFault) (a b : D) : Type 0 where
+pub record LotCheckSays {D : Type 0} (state : D → DiskState) (left : D → ℕ → Image → List ℕ → Type 0) (lot : LotView)
+    (r : Result Summary CheckFault) (a b : D) : Type 0 where
   pub recovers : (m : ℕ → List ℕ) → (state a).tells ≡ true → effective_of lot (state a).now ≡ Some m → IfOk r (Sums lot m)
   pub refused : (state a).tells ≡ true → effective_of lot (state a).now ≡ None → IsErr r
-  pub exact : (f : Form) (mode k : ℕ) (t : Tree) (m : ℕ → List ℕ) → f ≡ form_of f.version → (state a).tells ≡ true → effective_of lot (state a).now ≡ Some m → MapRecovers f mode lot m t k → IfErr r IsDisk
+  pub exact : (f : Form) (mode k : ℕ) (t : Tree) (m : ℕ → List ℕ) → f ≡ form_of f.version → (state a).tells ≡ true
+      → effective_of lot (state a).now ≡ Some m → MapRecovers f mode lot m t k → IfErr r IsDisk
   pub named : (state a).tells ≡ true → IfErr r (LotNamed lot (effective_of lot (state a).now))
   pub still : Still state left a b
   pub failed : Caused state check.Disk r a b
 
-module _ {D : Type 0} (state : D → DiskState) (left : D → ℕ → Image → List ℕ → Type 0) (lot : LotView) (cell : Cell) (idle : IsIdle cell) (a b : D) (offline : Bool) (room : RoomContent) (r : Result Summary CheckFault) (s : LotCheckSays state left lot r a b) where
+module _ {D : Type 0} (state : D → DiskState) (left : D → ℕ → Image → List ℕ → Type 0) (lot : LotView) (cell : Cell) (idle : IsIdle cell)
+    (a b : D) (offline : Bool) (room : RoomContent) (r : Result Summary CheckFault) (s : LotCheckSays state left lot r a b) where
   module _ (c : Cube) (rec : IsRecord lot offline cell (state a) c) where
     some_tree : (q : Summary) → r ≡ Ok q → RecoversOf lot (state a).now q.blocks q.nodes q.done
-    some_tree = check_some lot (state a).now r (λ m e. s.recovers m rec.told e) (s.refused rec.told) (λ f mode k t m g e v. s.exact f mode k t m g rec.told e v) (s.named rec.told)
+    some_tree =
+        check_some lot (state a).now r (λ m e. s.recovers m rec.told e) (s.refused rec.told)
+        (λ f mode k t m g e v. s.exact f mode k t m g rec.told e v) (s.named rec.told)
 
     no_tree : (x : Rule) → r ≡ Err (check.Damaged x) → RecoversNothing lot (state a).now × LotMayName lot (effective_of lot (state a).now) x
-    no_tree = check_none lot (state a).now r (λ m e. s.recovers m rec.told e) (s.refused rec.told) (λ f mode k t m g e v. s.exact f mode k t m g rec.told e v) (s.named rec.told)
+    no_tree =
+        check_none lot (state a).now r (λ m e. s.recovers m rec.told e) (s.refused rec.told)
+        (λ f mode k t m g e v. s.exact f mode k t m g rec.told e v) (s.named rec.told)
 
-    finds_tree : (q : Summary) → RecoversOf lot (state a).now q.blocks q.nodes q.done → (x : Content) → HasContent lot (state a).now c.form c.mode x → IsKnown lot (state a).now c x
+    finds_tree : (q : Summary) → RecoversOf lot (state a).now q.blocks q.nodes q.done → (x : Content)
+        → HasContent lot (state a).now c.form c.mode x → IsKnown lot (state a).now c x
         → (t : Tree) × (k : ℕ) × CheckFinds c x c.state (on_check c t k) × (Checked q.blocks q.nodes q.done ≡ Checked (blocks c.form t) (nodes t) k)
     finds_tree q of (Sound h) has known =
         let j = has.0 in
@@ -219,7 +235,8 @@ module _ {D : Type 0} (state : D → DiskState) (left : D → ℕ → Image → 
           tree_at h j,
           floor h + j,
           check_sound c h j c.state (idle_state lot offline cell (state a) c idle rec) has.1,
-          let cost : q.blocks ≡ blocks c.form (tree_at h j) = of.cost_is ∙ ap (λ (g : Form). blocks g of.tree) one.0 ∙ ap (λ (t : Tree). blocks c.form t) one.1 in
+          let cost : q.blocks ≡ blocks c.form (tree_at h j) = of.cost_is ∙ ap (λ (g : Form). blocks g of.tree) one.0
+              ∙ ap (λ (t : Tree). blocks c.form t) one.1 in
               let number : q.nodes ≡ nodes (tree_at h j) = of.nodes_are ∙ ap nodes one.1 in
               ap (λ (n : ℕ). Checked n q.nodes q.done) cost ∙ ap (λ (n : ℕ). Checked (blocks c.form (tree_at h j)) n q.done) number
               ∙ ap (λ (n : ℕ). Checked (blocks c.form (tree_at h j)) (nodes (tree_at h j)) n) one.2,
@@ -230,10 +247,12 @@ module _ {D : Type 0} (state : D → DiskState) (left : D → ℕ → Image → 
           of.tree,
           q.done,
           inr (of.tree, q.done, refl),
-          ap (λ (n : ℕ). Checked n q.nodes q.done) (of.cost_is ∙ ap (λ (g : Form). blocks g of.tree) form) ∙ ap (λ (n : ℕ). Checked (blocks c.form of.tree) n q.done) of.nodes_are,
+          ap (λ (n : ℕ). Checked n q.nodes q.done) (of.cost_is ∙ ap (λ (g : Form). blocks g of.tree) form)
+              ∙ ap (λ (n : ℕ). Checked (blocks c.form of.tree) n q.done) of.nodes_are,
         )
 
-    finds_damage : (y : Rule) → RecoversNothing lot (state a).now × LotMayName lot (effective_of lot (state a).now) y → (x : Content) → HasContent lot (state a).now c.form c.mode x → IsKnown lot (state a).now c x
+    finds_damage : (y : Rule) → RecoversNothing lot (state a).now × LotMayName lot (effective_of lot (state a).now) y → (x : Content)
+        → HasContent lot (state a).now c.form c.mode x → IsKnown lot (state a).now c x
         → CheckFinds c x c.state (No (why.Damaged (rule_number y)))
     finds_damage y damage (Sound h) has known = absurd (damage.0 c.form c.mode (tree_at h has.0) (floor h + has.0) has.2)
     finds_damage y damage (Broken rules) has known = (rule_number y, known.named.all y damage.1, refl)
@@ -258,7 +277,9 @@ module _ {D : Type 0} (state : D → DiskState) (left : D → ℕ → Image → 
     lot_check_each (Ok q) is =
         let of = some_tree q is in
         let found = finds_tree q of c.content (record_now lot offline cell (state a) c rec) (carries_known cell lot (state a) c rec.carries) in
-        same_record (Ok (Checked q.blocks q.nodes q.done)) (inl (on_check c found.0 found.1, found.2, (ap (λ (y : Accepted). Ok y) found.3, refl))) (found_tree lot (state a).now c.state q.blocks q.nodes q.done of)
+        same_record (Ok (Checked q.blocks q.nodes q.done))
+        (inl (on_check c found.0 found.1, found.2, (ap (λ (y : Accepted). Ok y) found.3, refl)))
+        (found_tree lot (state a).now c.state q.blocks q.nodes q.done of)
     lot_check_each (Err check.Disk) is = same_record (Err reply.Fault) (inr (inl (refl, refl, refl))) (found_fault lot (state a).now c.state)
     lot_check_each (Err (check.Damaged y)) is =
         let damage = no_tree y is in

@@ -30,7 +30,8 @@ high_settled : (t : Tables) (x k : ℕ) → extent (lot_of t x) k → ¬ IsRepla
 high_settled t x k own low = let high = lot_high t x k own in ⊎_elim (λ gate. absurd (omega (arith, high, gate))) (λ table. omega (arith, high, table.1)) low
 
 -- what an image opens of a cube is known in an image with the same lot
-known_opened : (lot : LotView) (i j : Image) (c : Cube) (x : Content) → ((k : ℕ) → extent lot k → block j k ≡ block i k) → OpensContent lot i c x → IsKnown lot j c x
+known_opened : (lot : LotView) (i j : Image) (c : Cube) (x : Content) → ((k : ℕ) → extent lot k → block j k ≡ block i k)
+    → OpensContent lot i c x → IsKnown lot j c x
 known_opened lot i j c (Sound h) same o = tt
 known_opened lot i j c (Broken rules) same o = record {
   nothing = λ f mode t k r. o.nothing f mode t k (recovers_rests lot f mode t k j i (λ b own. sym (same b own)) r);
@@ -40,7 +41,8 @@ known_opened lot i j c (Broken rules) same o = record {
 }
 known_opened lot i j c Unread same o = absurd o
 
-carries_opened : (lot : LotView) (i : Image) (s : DiskState) (c : Option Cube) → ((k : ℕ) → extent lot k → block s.now k ≡ block i k) → OpensCube lot i c → EachHas lot s c → Carries Closed lot s c
+carries_opened : (lot : LotView) (i : Image) (s : DiskState) (c : Option Cube) → ((k : ℕ) → extent lot k → block s.now k ≡ block i k)
+    → OpensCube lot i c → EachHas lot s c → Carries Closed lot s c
 carries_opened lot i s None same o each = tt
 carries_opened lot i s (Some c) same o each = record { each = each; known = known_opened lot i s.now c c.content same o.1; is = o.0 }
 
@@ -79,7 +81,8 @@ module _ (s : DiskState) (w : World) (whole : s.tells ≡ true → length s.now 
   host_refuses new Disk refuses = inl refl
   host_refuses new Memory refuses = inr refl
 
-module _ {D : Type 0} (state : D → DiskState) (left : D → ℕ → Image → List ℕ → Type 0) (w : World) (a b : D) (whole : (state a).tells ≡ true → length (state a).now ≡ (state a).size) (starts : Starts (state a) w)
+module _ {D : Type 0} (state : D → DiskState) (left : D → ℕ → Image → List ℕ → Type 0) (w : World) (a b : D)
+    (whole : (state a).tells ≡ true → length (state a).now ≡ (state a).size) (starts : Starts (state a) w)
     (within : Within state left IsReplayed a b) where
   abbrev there : Fits w (state a).now
   there = opens_fits (state a).now w starts.opens
@@ -90,20 +93,24 @@ module _ {D : Type 0} (state : D → DiskState) (left : D → ℕ → Image → 
       let t = tables_of v.system in
       let is : there.tables ≡ t = tables_one (state a).now there.tables t there.has holds.has in
       let opened : starts.opens.tables ≡ t = tables_one (state a).now starts.opens.tables t starts.opens.has holds.has in
-      let kept : (x k : ℕ) → extent (lot_of t x) k → block (state b).now k ≡ block (state a).now k = λ x k own. within.same k (high_settled t x k own) in record {
+      let kept : (x k : ℕ) → extent (lot_of t x) k
+      → block (state b).now k ≡ block (state a).now k = λ x k own. within.same k (high_settled t x k own) in record {
         live = live;
         tables = holds.rest;
         room = subst (λ n. total t ≤ n) (sym within.size) (subst (λ (u : Tables). total u ≤ (state a).size) is (room_there (state a) w whole starts));
         shows = subst (λ (u : Tables). ShowCubes u w) is there.shows;
         cubes = λ x. subst (λ cell. Carries cell (lot_of t x) (state b) (w.cube x)) (sym (closed x))
-            (carries_opened (lot_of t x) (state a).now (state b) (w.cube x) (kept x) (subst (λ (u : Tables). OpensCube (lot_of u x) (state a).now (w.cube x)) opened (starts.opens.cubes x))
+            (carries_opened (lot_of t x) (state a).now (state b) (w.cube x) (kept x)
+            (subst (λ (u : Tables). OpensCube (lot_of u x) (state a).now (w.cube x)) opened (starts.opens.cubes x))
             (λ i agrees. has_rests (lot_of t x) (w.cube x) (state a).now i
             (λ k own. agrees.same k own (holds.settled.settled k tt) ∙ kept x k own)
             (subst (λ (u : Tables). Has (lot_of u x) (state a).now (w.cube x)) is (there.cubes x tt))));
       }
 
   -- each crash while the tables are attached leaves an image that fits the world
-  pub attach_leaves : ((t : Tables) → (state a).tells ≡ true → Every (Below 19) (state a) (λ i. HasTables i t) → CrashStep state left (Below 19) (λ i. HasTables i t) a b) → LeavesOnly left a b (With (state a).streams.aside (Fits w))
+  pub attach_leaves : ((t : Tables) → (state a).tells ≡ true
+      → Every (Below 19) (state a) (λ i. HasTables i t) → CrashStep state left (Below 19) (λ i. HasTables i t) a b)
+      → LeavesOnly left a b (With (state a).streams.aside (Fits w))
   attach_leaves crash =
       let step = crash there.tables starts.settled.told (low_at_start (state a) w whole starts) in record {
         each = λ m i out l. ⊎_elim (λ before. inl before) (λ here. ⊎_elim (λ before. inl before) (λ low. inr (

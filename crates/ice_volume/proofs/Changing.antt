@@ -39,7 +39,8 @@ use Rattle.ice_volume.proofs.Slots.{carries_has, carries_kept, carries_none, eac
 -- ---- what a cell and its lot carry
 
 -- the cell and the lot carry the record still, where the blocks of the lot are kept
-pub carries_where : (cell : Cell) (lot : LotView) (a b : DiskState) (c : Option Cube) → (IsSome c → Kept (extent lot) a b) → Carries cell lot a c → Carries cell lot b c
+pub carries_where : (cell : Cell) (lot : LotView) (a b : DiskState) (c : Option Cube) → (IsSome c → Kept (extent lot) a b)
+    → Carries cell lot a c → Carries cell lot b c
 carries_where cell lot a b None kept is = carries_none cell lot a b is
 carries_where cell lot a b (Some c) kept is = carries_kept lot a b (kept refl) cell (Some c) is
 
@@ -59,7 +60,9 @@ put_again v s w x stands = record {
   shows = record {
     slots = stands.shows.slots;
     groups = stands.shows.groups;
-    entries = each_slot w x (w.cube x) (λ y c. entry_at (tables_of v.system) y ≡ option_map cube_entry c) (stands.shows.entries x) (λ y other. stands.shows.entries y);
+    entries =
+        each_slot w x (w.cube x) (λ y c. entry_at (tables_of v.system) y ≡ option_map cube_entry c) (stands.shows.entries x)
+        (λ y other. stands.shows.entries y);
   };
   cubes = each_slot w x (w.cube x) (λ y c. Carries (cell_at v.cells y) (lot_of (tables_of v.system) y) s c) (stands.cubes x) (λ y other. stands.cubes y);
 }
@@ -108,7 +111,8 @@ module _ (t u : Tables) (x : ℕ) (row : Option Row) (groups : List ℕ) (become
     groups = becomes.image ∙ shows.groups;
     entries = each_slot w x d (λ y c. entry_at u y ≡ option_map cube_entry c)
         (ap (entry_with (groups_of u x)) becomes.row_here ∙ ap (λ (gs : List ℕ). entry_with gs row) becomes.groups_here ∙ same)
-        (λ y other. ap (entry_with (groups_of u y)) (becomes.row_else y other) ∙ ap (λ (gs : List ℕ). entry_with gs (t.row y)) (becomes.groups_else y other) ∙ shows.entries y);
+        (λ y other. ap (entry_with (groups_of u y)) (becomes.row_else y other)
+        ∙ ap (λ (gs : List ℕ). entry_with gs (t.row y)) (becomes.groups_else y other) ∙ shows.entries y);
   }
 
 -- ---- writes before the tables change
@@ -163,7 +167,8 @@ module _ {D : Type 0} (state : D → DiskState) (left : D → ℕ → Image → 
 
 -- What an accepted order to the cube of a slot makes of the world: the record after it, which the new row and groups show and each crash leaves in the new lot.
 -- Where the change is done, the cell and the lot carry the record as well.
-pub record Becomes (v : VolumeView) (x : ℕ) (row : Option Row) (groups : List ℕ) (cell : Cell) (Done : Type 0) (line : Line) (o : Order) (s t : DiskState) (u : World) : Type 0 where
+pub record Becomes (v : VolumeView) (x : ℕ) (row : Option Row) (groups : List ℕ) (cell : Cell) (Done : Type 0) (line : Line) (o : Order)
+    (s t : DiskState) (u : World) : Type 0 where
   pub aims : aim u line ≡ At x o
   pub then : Option Cube
   pub says : Own (u.cube x) o (Ok reply.Plain) then
@@ -177,8 +182,10 @@ pub record Becomes (v : VolumeView) (x : ℕ) (row : Option Row) (groups : List 
 abbrev pub FindsNothing : Order → Type 0
 FindsNothing o = (lot : LotView) (i : Image) (r : Response) (c d : Option Cube) → OrderFound lot i o r c d
 
-module _ {D : Type 0} (state : D → DiskState) (left : D → ℕ → Image → List ℕ → Type 0) (v : VolumeView) (x : ℕ) (row : Option Row) (groups : List ℕ) (cell : Cell) (Done : Type 0) (line : Line) (o : Order)
-    (finds : FindsNothing o) (w : World) (P : ℕ → Type 0) (a b c : D) (stands : StandsFor v (state a) w) (spare : IsSpare v w P) (early : Within state left P a b)
+module _ {D : Type 0} (state : D → DiskState) (left : D → ℕ → Image → List ℕ → Type 0) (v : VolumeView) (x : ℕ) (row : Option Row)
+    (groups : List ℕ) (cell : Cell) (Done : Type 0) (line : Line) (o : Order)
+    (finds : FindsNothing o) (w : World) (P : ℕ → Type 0) (a b c : D) (stands : StandsFor v (state a) w) (spare : IsSpare v w P)
+    (early : Within state left P a b)
     (to : Becomes v x row groups cell Done line o (state b) (state c) w) (within : Within state left IsChange b c) where
   mid : StandsFor v (state b) w
   mid = early_stands state left v w P a b stands spare early
@@ -187,7 +194,9 @@ module _ {D : Type 0} (state : D → DiskState) (left : D → ℕ → Image → 
   step_by r d own = subst (λ (z : Aim). Goes w z r (with_slot w x d)) (sym to.aims) (d, own, refl)
 
   found_by : (r : Response) (u : World) → LineFound (tables_of v.system) (state a).now (aim w line) r w u
-  found_by r u = subst (λ (z : Aim). LineFound (tables_of v.system) (state a).now z r w u) (sym to.aims) (finds (lot_of (tables_of v.system) x) (state a).now r (w.cube x) (u.cube x))
+  found_by r u =
+      subst (λ (z : Aim). LineFound (tables_of v.system) (state a).now z r w u) (sym to.aims)
+      (finds (lot_of (tables_of v.system) x) (state a).now r (w.cube x) (u.cube x))
 
   -- an image that agrees outside of the journal and the tables, with these tables
   fits_with : (t : Tables) (z : World) (i : Image) → AgreesOn (Outside IsChange) (state b) i → HasTables i t → total t ≤ (state b).size → ShowCubes t z
@@ -219,7 +228,8 @@ module _ {D : Type 0} (state : D → DiskState) (left : D → ℕ → Image → 
   aside_same = ap (λ (y : Streams). y.aside) early.streams
 
   -- each crash before the change or in it leaves the one or the other world
-  change_leaves : (t : Tables) → SlotBecomes x row groups (tables_of v.system) t → LeavesOnly left b c (With (state b).streams.aside (EitherTables (tables_of v.system) t))
+  change_leaves : (t : Tables) → SlotBecomes x row groups (tables_of v.system) t
+      → LeavesOnly left b c (With (state b).streams.aside (EitherTables (tables_of v.system) t))
       → LeavesOnly left a c (With (state a).streams.aside (MayFit w line))
   change_leaves t becomes leaves = record {
     each = λ m i out l. ⊎_elim (λ before. (early_leaves state left v w P a b stands spare early line).each m i out before) (λ here.
@@ -242,7 +252,8 @@ module _ {D : Type 0} (state : D → DiskState) (left : D → ℕ → Image → 
   kept_lot t y = kept_within state left (extent (lot_of t y)) IsChange b c (λ k own low. low_apart t y k own low) within
 
   -- the volume after it stands for the world after it
-  change_stands : (z : VolumeView) → z.system.failed ≡ false → SlotBecomes x row groups (tables_of v.system) (tables_of z.system) → CellBecomes x cell v.cells z.cells
+  change_stands : (z : VolumeView) → z.system.failed ≡ false → SlotBecomes x row groups (tables_of v.system) (tables_of z.system)
+      → CellBecomes x cell v.cells z.cells
       → Done → Sure IsTable (AtRest (tables_of z.system)) (state c) → StandsFor z (state c) (with_slot w x to.then)
   change_stands z live becomes cells done sure = record {
     live = live;
@@ -251,10 +262,12 @@ module _ {D : Type 0} (state : D → DiskState) (left : D → ℕ → Image → 
     shows = shows_new (tables_of z.system) becomes;
     cubes = each_slot w x to.then (λ y d. Carries (cell_at z.cells y) (lot_of (tables_of z.system) y) (state c) d)
         (subst (λ (e : Cell). Carries e (lot_of (tables_of z.system) x) (state c) to.then) (sym cells.here)
-        (subst (λ (lot : LotView). Carries cell lot (state c) to.then) (sym (lot_here (tables_of v.system) (tables_of z.system) x row groups becomes)) (to.carries done)))
+        (subst (λ (lot : LotView). Carries cell lot (state c) to.then)
+        (sym (lot_here (tables_of v.system) (tables_of z.system) x row groups becomes)) (to.carries done)))
         (λ y other. subst (λ (e : Cell). Carries e (lot_of (tables_of z.system) y) (state c) (w.cube y)) (sym (cells.others y other))
         (carries_where (cell_at v.cells y) (lot_of (tables_of z.system) y) (state b) (state c) (w.cube y) (λ live. kept_lot (tables_of z.system) y)
-        (subst (λ (lot : LotView). Carries (cell_at v.cells y) lot (state b) (w.cube y)) (sym (lot_else (tables_of v.system) (tables_of z.system) x row groups becomes y other)) (mid.cubes y))));
+        (subst (λ (lot : LotView). Carries (cell_at v.cells y) lot (state b) (w.cube y))
+        (sym (lot_else (tables_of v.system) (tables_of z.system) x row groups becomes y other)) (mid.cubes y))));
   }
 
   -- a change that came to nothing leaves the world
@@ -264,7 +277,9 @@ module _ {D : Type 0} (state : D → DiskState) (left : D → ℕ → Image → 
     tables = sure;
     room = subst (λ n. total (tables_of v.system) ≤ n) (sym within.size) mid.room;
     shows = stands.shows;
-    cubes = λ y. carries_where (cell_at v.cells y) (lot_of (tables_of v.system) y) (state b) (state c) (w.cube y) (λ live. kept_lot (tables_of v.system) y) (mid.cubes y);
+    cubes =
+        λ y. carries_where (cell_at v.cells y) (lot_of (tables_of v.system) y) (state b) (state c) (w.cube y)
+        (λ live. kept_lot (tables_of v.system) y) (mid.cubes y);
   }
 
 -- ---- lines
@@ -290,13 +305,16 @@ stands_same v z s w system cells stands =
     (subst (λ (cs : List Cell). StandsFor (record { system = v.system; cells = cs }) s w) (sym cells) stands)
 
 -- an answer to a change of the tables
-module _ {D : Type 0} (state : D → DiskState) (left : D → ℕ → Image → List ℕ → Type 0) (x : ℕ) (row : Option Row) (groups : List ℕ) (cell : Cell) (Done : Type 0) (line : Line) (o : Order)
-    (order : IsTableOrder (At x o)) (finds : FindsNothing o) (room : RoomContent) (v z : VolumeView) (P : ℕ → Type 0) (a b c : D) (early : Within state left P a b) where
+module _ {D : Type 0} (state : D → DiskState) (left : D → ℕ → Image → List ℕ → Type 0) (x : ℕ) (row : Option Row) (groups : List ℕ)
+    (cell : Cell) (Done : Type 0) (line : Line) (o : Order)
+    (order : IsTableOrder (At x o)) (finds : FindsNothing o) (room : RoomContent) (v z : VolumeView) (P : ℕ → Type 0) (a b c : D)
+    (early : Within state left P a b) where
   change_within : (S : ℕ → Type 0) → ((k : ℕ) → IsChange k ⊎ P k → S k) → Within state left IsChange b c → Within state left S a c
   change_within S sub within = within_more state left (λ k. IsChange k ⊎ P k) S a c sub
       (within_next state left (within_more state left P (λ k. IsChange k ⊎ P k) a b (λ k here. inr here) early) within (λ k here. inl here))
 
-  change_size : {A : Type 0} (r : Result A SystemFault) → Changes state left x row groups v.system z.system r b c → total (tables_of z.system) ≡ total (tables_of v.system)
+  change_size : {A : Type 0} (r : Result A SystemFault) → Changes state left x row groups v.system z.system r b c
+      → total (tables_of z.system) ≡ total (tables_of v.system)
   change_size (Ok y) ch = total_same (tables_of v.system) (tables_of z.system) x row groups ch.done
   change_size (Err Before) ch = ap (λ (s : SystemView). total (tables_of s)) (ch.before refl).0
   change_size (Err After) ch = ap (λ (s : SystemView). total (tables_of s)) (ch.after refl).0
@@ -304,17 +322,20 @@ module _ {D : Type 0} (state : D → DiskState) (left : D → ℕ → Image → 
   rose_after : Rose (state b).faults (state c).faults → Rose (state a).faults (state c).faults
   rose_after rose = let more = early.faults in omega (arith, more, rose)
 
-  change_cause : {A : Type 0} (r : Result A SystemFault) → Changes state left x row groups v.system z.system r b c → OnErr (told_of r) (v.system.failed ≡ false → Rose (state a).faults (state c).faults)
+  change_cause : {A : Type 0} (r : Result A SystemFault) → Changes state left x row groups v.system z.system r b c
+      → OnErr (told_of r) (v.system.failed ≡ false → Rose (state a).faults (state c).faults)
   change_cause (Ok y) ch = tt
   change_cause (Err Before) ch = tt
   change_cause (Err After) ch = λ live. ⊎_elim (λ late. absurd (cc (sym late ∙ live))) (λ rose. rose_after rose) (ch.after refl).1
 
-  change_live : {A : Type 0} (r : Result A SystemFault) → Changes state left x row groups v.system z.system r b c → OnOk (told_of r) (z.system.failed ≡ v.system.failed)
+  change_live : {A : Type 0} (r : Result A SystemFault) → Changes state left x row groups v.system z.system r b c
+      → OnOk (told_of r) (z.system.failed ≡ v.system.failed)
   change_live (Ok y) ch = ch.ready.1 ∙ sym ch.ready.0
   change_live (Err Before) ch = ap (λ (s : SystemView). s.failed) (ch.before refl).0
   change_live (Err After) ch = tt
 
-  change_faults : {A : Type 0} (r : Result A SystemFault) → Changes state left x row groups v.system z.system r b c → IfOk (told_of r) (λ q. RoseBy (fault_in (meant q room)) (state a).faults (state c).faults)
+  change_faults : {A : Type 0} (r : Result A SystemFault) → Changes state left x row groups v.system z.system r b c
+      → IfOk (told_of r) (λ q. RoseBy (fault_in (meant q room)) (state a).faults (state c).faults)
   change_faults (Ok y) ch = let more = ch.within.faults in let first = early.faults in omega (arith, more, first)
   change_faults (Err Before) ch = rose_after (ch.before refl).2
   change_faults (Err After) ch = tt
@@ -324,16 +345,20 @@ module _ {D : Type 0} (state : D → DiskState) (left : D → ℕ → Image → 
   change_tallies (Err Before) = tt
   change_tallies (Err After) = tt
 
-  module _ (to : (w : World) → StandsFor v (state a) w → Becomes v x row groups cell Done line o (state b) (state c) w) (spare : (w : World) → StandsFor v (state a) w → IsSpare v w P) where
+  module _ (to : (w : World) → StandsFor v (state a) w → Becomes v x row groups cell Done line o (state b) (state c) w)
+      (spare : (w : World) → StandsFor v (state a) w → IsSpare v w P) where
     -- a cube that stays broken keeps its lot
     change_lots : (w : World) (stands : StandsFor v (state a) w) → SlotBecomes x row groups (tables_of v.system) (tables_of z.system)
-        → (y : ℕ) → SaysBroken (w.cube y) → SaysBroken ((with_slot w x (to w stands).then).cube y) → lot_of (tables_of z.system) y ≡ lot_of (tables_of v.system) y
-    change_lots w stands becomes y broken still = ⊎_elim here (λ other. lot_else (tables_of v.system) (tables_of z.system) x row groups becomes y other) (cases_eq y x)
+        → (y : ℕ) → SaysBroken (w.cube y) → SaysBroken ((with_slot w x (to w stands).then).cube y)
+        → lot_of (tables_of z.system) y ≡ lot_of (tables_of v.system) y
+    change_lots w stands becomes y broken still =
+        ⊎_elim here (λ other. lot_else (tables_of v.system) (tables_of z.system) x row groups becomes y other) (cases_eq y x)
       where
         here : y ≡ x → lot_of (tables_of z.system) y ≡ lot_of (tables_of v.system) y
         here same =
             let was : SaysBroken (w.cube x) = subst SaysBroken (ap w.cube same) broken in
-            let is : SaysBroken (to w stands).then = subst SaysBroken (ap (with_slot w x (to w stands).then).cube same ∙ with_here w x (to w stands).then) still in
+            let is : SaysBroken (to w stands).then = subst SaysBroken
+            (ap (with_slot w x (to w stands).then).cube same ∙ with_here w x (to w stands).then) still in
             let lot : lot_of (tables_of z.system) x ≡ lot_of (tables_of v.system) x = lot_here (tables_of v.system) (tables_of z.system) x row groups becomes
             ∙ ap (λ (gs : List ℕ). lot_with (tables_of v.system) x gs) ((to w stands).same was is) in
             ap (lot_of (tables_of z.system)) same ∙ lot ∙ sym (ap (lot_of (tables_of v.system)) same)
@@ -345,26 +370,35 @@ module _ {D : Type 0} (state : D → DiskState) (left : D → ℕ → Image → 
         (λ low. low_apart (tables_of v.system) broken.0 k broken.2 low)
         (λ early. (spare w stands).lots broken.0 (broken_some (w.cube broken.0) broken.1) k broken.2 early) here) within
 
-    change_goes : {A : Type 0} (r : Result A SystemFault) → Changes state left x row groups v.system z.system r b c → OnOk r (CellBecomes x cell v.cells z.cells) → OnErr r (z.cells ≡ v.cells)
+    change_goes : {A : Type 0} (r : Result A SystemFault) → Changes state left x row groups v.system z.system r b c
+        → OnOk r (CellBecomes x cell v.cells z.cells) → OnErr r (z.cells ≡ v.cells)
         → OnOk r Done → (w : World) → StandsFor v (state a) w → IfOk (told_of r) (λ q. Answers v z (state a) (state c) line w (meant q room))
     change_goes (Ok y) ch cells same done w stands =
         let m = ch.moves stands.live (early_stands state left v w P a b stands (spare w stands) early).tables in
         let t = to w stands in record {
           then = with_slot w x t.then;
           step = step_by state left v x row groups cell Done line o finds w P a b c stands (spare w stands) early t ch.within (Ok reply.Plain) t.then t.says;
-          stands = change_stands state left v x row groups cell Done line o finds w P a b c stands (spare w stands) early t ch.within z ch.ready.1 ch.done cells done
+          stands =
+              change_stands state left v x row groups cell Done line o finds w P a b c stands (spare w stands) early t ch.within z ch.ready.1 ch.done cells done
               (subst (λ (u : Tables). Sure IsTable (AtRest u) (state c)) (sym m.2) m.3.done);
-          found = found_by state left v x row groups cell Done line o finds w P a b c stands (spare w stands) early t ch.within (Ok reply.Plain) (with_slot w x t.then);
+          found =
+              found_by state left v x row groups cell Done line o finds w P a b c stands
+              (spare w stands) early t ch.within (Ok reply.Plain) (with_slot w x t.then);
           lots = change_lots w stands ch.done;
         }
     change_goes (Err Before) ch cells same done w stands =
         let m = ch.moves stands.live (early_stands state left v w P a b stands (spare w stands) early).tables in
         let t = to w stands in record {
           then = with_slot w x (w.cube x);
-          step = step_by state left v x row groups cell Done line o finds w P a b c stands (spare w stands) early t ch.within (Err reply.Fault) (w.cube x) t.faulty;
+          step =
+              step_by state left v x row groups cell Done line o finds w P a b c stands
+              (spare w stands) early t ch.within (Err reply.Fault) (w.cube x) t.faulty;
           stands = stands_same v z (state c) (with_slot w x (w.cube x)) (ch.before refl).0 same
-              (put_again v (state c) w x (rest_stands state left v x row groups cell Done line o finds w P a b c stands (spare w stands) early t ch.within (m.3.before refl)));
-          found = found_by state left v x row groups cell Done line o finds w P a b c stands (spare w stands) early t ch.within (Err reply.Fault) (with_slot w x (w.cube x));
+              (put_again v (state c) w x
+              (rest_stands state left v x row groups cell Done line o finds w P a b c stands (spare w stands) early t ch.within (m.3.before refl)));
+          found =
+              found_by state left v x row groups cell Done line o finds w P a b c stands
+              (spare w stands) early t ch.within (Err reply.Fault) (with_slot w x (w.cube x));
           lots = λ y broken still. ap (λ (sys : SystemView). lot_of (tables_of sys) y) (ch.before refl).0;
         }
     change_goes (Err After) ch cells same done w stands = tt
@@ -374,7 +408,8 @@ module _ {D : Type 0} (state : D → DiskState) (left : D → ℕ → Image → 
     change_stops (Err Before) w stands = tt
     change_stops (Err After) w stands = subst IsTableOrder (sym (to w stands).aims) order
 
-    change_frame : ((w : World) → StandsFor v (state a) w → OrderMayWrite (tables_of v.system) x o P) → {A : Type 0} (r : Result A SystemFault) → Within state left IsChange b c → (w : World) → StandsFor v (state a) w
+    change_frame : ((w : World) → StandsFor v (state a) w → OrderMayWrite (tables_of v.system) x o P)
+        → {A : Type 0} (r : Result A SystemFault) → Within state left IsChange b c → (w : World) → StandsFor v (state a) w
         → IfOk (told_of r) (λ q. Within state left (LineWrites (tables_of v.system) (aim w line) (meant q room)) a c)
     change_frame may (Ok y) within w stands =
         subst (λ (z : Aim). Within state left (LineWrites (tables_of v.system) z (Ok reply.Plain)) a c) (sym (to w stands).aims)
@@ -385,7 +420,8 @@ module _ {D : Type 0} (state : D → DiskState) (left : D → ℕ → Image → 
     change_frame may (Err After) within w stands = tt
 
     -- the line, whose blocks before the change lie past the tables and are no cube's
-    pub changed : IsEarly v P → ((w : World) → StandsFor v (state a) w → OrderMayWrite (tables_of v.system) x o P) → {A : Type 0} (r : Result A SystemFault) → Changes state left x row groups v.system z.system r b c
+    pub changed : IsEarly v P → ((w : World) → StandsFor v (state a) w → OrderMayWrite (tables_of v.system) x o P)
+        → {A : Type 0} (r : Result A SystemFault) → Changes state left x row groups v.system z.system r b c
         → OnOk r (CellBecomes x cell v.cells z.cells) → OnErr r (z.cells ≡ v.cells)
         → OnOk r Done → AnswersLine state left line v z room (told_of r) a c
     changed past may r ch cells same done = record {
@@ -397,7 +433,8 @@ module _ {D : Type 0} (state : D → DiskState) (left : D → ℕ → Image → 
       tallies = change_tallies r;
       leaves = λ w stands.
           let m = ch.moves stands.live (early_stands state left v w P a b stands (spare w stands) early).tables in
-          change_leaves state left v x row groups cell Done line o finds w P a b c stands (spare w stands) early (to w stands) ch.within m.0 m.1 m.3.crash.leaves;
+          change_leaves state left v x row groups cell Done line o finds w P a b c stands (spare w stands) early
+          (to w stands) ch.within m.0 m.1 m.3.crash.leaves;
       goes = change_goes r ch cells same done;
       frame = change_frame may r ch.within;
       spares = change_spares ch.within;
@@ -405,19 +442,23 @@ module _ {D : Type 0} (state : D → DiskState) (left : D → ℕ → Image → 
     }
 
 -- what a change of the tables alone leaves of a lot and its record
-pub still_carried : {D : Type 0} (state : D → DiskState) (left : D → ℕ → Image → List ℕ → Type 0) (t : Tables) (x : ℕ) (groups : List ℕ) (b c : D) (cell : Cell) (d : Option Cube)
+pub still_carried : {D : Type 0} (state : D → DiskState) (left : D → ℕ → Image → List ℕ
+    → Type 0) (t : Tables) (x : ℕ) (groups : List ℕ) (b c : D) (cell : Cell) (d : Option Cube)
     → Within state left IsChange b c → Carries cell (lot_with t x groups) (state b) d → Carries cell (lot_with t x groups) (state c) d
 still_carried state left t x groups b c cell d within is = carries_where cell (lot_with t x groups) (state b) (state c) d
     (λ live. kept_within state left (extent (lot_with t x groups)) IsChange b c (λ k own low. with_high t x groups k own low) within) is
   where
     with_high : (t : Tables) (x : ℕ) (groups : List ℕ) (k : ℕ) → extent (lot_with t x groups) k → ¬ IsChange k
-    with_high t x groups k own low = ⊎_elim (λ inside. omega (arith, inside.0, low.1)) (λ group. omega (arith, group.2, low.1)) (extent_cases (lot_with t x groups) k own)
+    with_high t x groups k own low =
+        ⊎_elim (λ inside. omega (arith, inside.0, low.1)) (λ group. omega (arith, group.2, low.1)) (extent_cases (lot_with t x groups) k own)
 
 -- ---- lines that change no table
 
 -- a line that is answered without a call on the disk, by a reply that is no fault
-pub unchanged : {D X : Type 0} (state : D → DiskState) (left : D → ℕ → Image → List ℕ → Type 0) (line : Line) (v : VolumeView) (room : RoomContent) (r : Result Value Refusal) (a : D)
-    → fault_in (meant r room) ≡ 0 → Tallies r room → ((w : World) → StandsFor v (state a) w → Answers v v (state a) (state a) line w (meant r room)) → AnswersLine {X = X} state left line v v room (Ok r) a a
+pub unchanged : {D X : Type 0} (state : D → DiskState) (left : D → ℕ → Image → List ℕ
+    → Type 0) (line : Line) (v : VolumeView) (room : RoomContent) (r : Result Value Refusal) (a : D)
+    → fault_in (meant r room) ≡ 0 → Tallies r room
+    → ((w : World) → StandsFor v (state a) w → Answers v v (state a) (state a) line w (meant r room)) → AnswersLine {X = X} state left line v v room (Ok r) a a
 unchanged state left line v room r a none tallies goes = record {
   within = within_refl state left (IsWritable v) a;
   size = refl;
@@ -433,8 +474,10 @@ unchanged state left line v room r a none tallies goes = record {
 }
 
 -- a line whose writes before the tables change met a fault
-pub faulted : {D X : Type 0} (state : D → DiskState) (left : D → ℕ → Image → List ℕ → Type 0) (x : ℕ) (line : Line) (o : Order) (finds : FindsNothing o) (v : VolumeView) (room : RoomContent) (P : ℕ → Type 0) (a b : D)
-    → Within state left P a b → IsEarly v P → ((w : World) → StandsFor v (state a) w → OrderMayWrite (tables_of v.system) x o P) → ((w : World) → StandsFor v (state a) w → IsSpare v w P)
+pub faulted : {D X : Type 0} (state : D → DiskState) (left : D → ℕ → Image → List ℕ
+    → Type 0) (x : ℕ) (line : Line) (o : Order) (finds : FindsNothing o) (v : VolumeView) (room : RoomContent) (P : ℕ → Type 0) (a b : D)
+    → Within state left P a b → IsEarly v P → ((w : World) → StandsFor v (state a) w → OrderMayWrite (tables_of v.system) x o P)
+    → ((w : World) → StandsFor v (state a) w → IsSpare v w P)
     → ((w : World) → StandsFor v (state a) w → (aim w line ≡ At x o) × Own (w.cube x) o (Err reply.Fault) (w.cube x))
     → Rose (state a).faults (state b).faults → AnswersLine {X = X} state left line v v room (Ok (Err code.Fault)) a b
 faulted state left x line o finds v room P a b early past may spare own rose = record {
@@ -463,12 +506,15 @@ faulted state left x line o finds v room P a b early past may spare own rose = r
 -- ---- the sessions after a change
 
 -- the sessions of the other slots stay, and the cell of the slot has its new lot
-pub sessions_become : (v z : VolumeView) (x : ℕ) (row : Option Row) (groups : List ℕ) (cell : Cell) → AreSessions v → SlotBecomes x row groups (tables_of v.system) (tables_of z.system)
+pub sessions_become : (v z : VolumeView) (x : ℕ) (row : Option Row) (groups : List ℕ) (cell : Cell) → AreSessions v
+    → SlotBecomes x row groups (tables_of v.system) (tables_of z.system)
     → CellBecomes x cell v.cells z.cells → length z.cells ≡ 16 → IsSession (tables_of z.system) x cell → AreSessions z
 sessions_become v z x row groups cell are becomes cells count is = record { count = count; each = λ y. ⊎_elim here (others y) (cases_eq y x) }
   where
     here : {y : ℕ} → y ≡ x → IsSession (tables_of z.system) y (cell_at z.cells y)
-    here {y} same = subst (λ (q : ℕ). IsSession (tables_of z.system) q (cell_at z.cells q)) (sym same) (subst (λ (e : Cell). IsSession (tables_of z.system) x e) (sym cells.here) is)
+    here {y} same =
+        subst (λ (q : ℕ). IsSession (tables_of z.system) q (cell_at z.cells q)) (sym same)
+        (subst (λ (e : Cell). IsSession (tables_of z.system) x e) (sym cells.here) is)
 
     moved : (y : ℕ) → y ≢ x → (e : Cell) → IsSession (tables_of v.system) y e → IsSession (tables_of z.system) y e
     moved y other Closed was = tt
@@ -485,5 +531,7 @@ sessions_become v z x row groups cell are becomes cells count is = record { coun
 pub sessions_same : (v z : VolumeView) → tables_of z.system ≡ tables_of v.system → z.cells ≡ v.cells → AreSessions v → AreSessions z
 sessions_same v z tables cells are = record {
   count = ap (λ (xs : List Cell). length xs) cells ∙ are.count;
-  each = λ y. subst (λ (t : Tables). IsSession t y (cell_at z.cells y)) (sym tables) (subst (λ (xs : List Cell). IsSession (tables_of v.system) y (cell_at xs y)) (sym cells) (are.each y));
+  each =
+      λ y. subst (λ (t : Tables). IsSession t y (cell_at z.cells y)) (sym tables)
+      (subst (λ (xs : List Cell). IsSession (tables_of v.system) y (cell_at xs y)) (sym cells) (are.each y));
 }

@@ -76,7 +76,8 @@ parts : (test : ℕ → ℕ → Bool) (whole : ℕ → Bool) (xs gs : List ℕ) 
     → sum_by (λ x. length (filter (test x) gs)) xs ≡ length (filter whole gs)
 parts test whole xs [] each = sum_zero (λ x. 0) xs (λ x. refl)
 parts test whole xs (g ∷ gs) each =
-    sum_same (λ x. length (filter (test x) (g ∷ gs))) (λ x. bit (test x g) + length (filter (test x) gs)) xs (λ x. length_cond g (filter (test x) gs) (test x g))
+    sum_same (λ x. length (filter (test x) (g ∷ gs))) (λ x. bit (test x g) + length (filter (test x) gs)) xs
+    (λ x. length_cond g (filter (test x) gs) (test x g))
     ∙ sum_add (λ x. bit (test x g)) (λ x. length (filter (test x) gs)) xs
     ∙ omega (arith, each g, parts test whole xs gs each, length_cond g (filter whole gs) (whole g))
 
@@ -84,7 +85,8 @@ parts test whole xs (g ∷ gs) each =
 
 module _ (t : Tables) where
   -- as many groups as belong to the slot
-  slot_count : (s : ℕ) → ((g : ℕ) → t.holder g ≡ Some s → t.ordinal g < 64) → length (groups_of t s) ≡ length (filter (λ g. is_slot (t.holder g) s) (range_with_len 0 t.groups))
+  slot_count : (s : ℕ) → ((g : ℕ) → t.holder g ≡ Some s → t.ordinal g < 64)
+      → length (groups_of t s) ≡ length (filter (λ g. is_slot (t.holder g) s) (range_with_len 0 t.groups))
   unfolding groups_of
   slot_count s low =
       length_flat (λ o. filter (λ g. is_slot (t.holder g) s && t.ordinal g == o) (range_with_len 0 t.groups)) (range_with_len 0 64)
@@ -97,7 +99,8 @@ module _ (t : Tables) where
 
   -- the slots' groups make up those that belong to one
   held_count : ((g s : ℕ) → t.holder g ≡ Some s → s < t.slots)
-      → sum_by (λ s. length (filter (λ g. is_slot (t.holder g) s) (range_with_len 0 t.groups))) (range_with_len 0 t.slots) ≡ length (filter (λ g. is_some (t.holder g)) (range_with_len 0 t.groups))
+      → sum_by (λ s. length (filter (λ g. is_slot (t.holder g) s) (range_with_len 0 t.groups))) (range_with_len 0 t.slots)
+      ≡ length (filter (λ g. is_some (t.holder g)) (range_with_len 0 t.groups))
   held_count low =
       parts (λ s g. is_slot (t.holder g) s) (λ g. is_some (t.holder g)) (range_with_len 0 t.slots) (range_with_len 0 t.groups)
       (λ g. by (t.holder g) (low g))
@@ -108,11 +111,13 @@ module _ (t : Tables) where
 
   -- a group belongs to a slot, or it is free
   free_or_held : (a n : ℕ) → a + n ≤ t.groups
-      → length (filter (λ g. nat_lt g t.groups && is_none (t.holder g)) (range_with_len a n)) + length (filter (λ g. is_some (t.holder g)) (range_with_len a n)) ≡ n
+      → length (filter (λ g. nat_lt g t.groups && is_none (t.holder g)) (range_with_len a n))
+      + length (filter (λ g. is_some (t.holder g)) (range_with_len a n)) ≡ n
   free_or_held a zero few = refl
   free_or_held a (suc n) few =
       let rest = free_or_held (a + 1) n (omega (arith, few)) in
-      let free = length_cond a (filter (λ g. nat_lt g t.groups && is_none (t.holder g)) (range_with_len (a + 1) n)) (nat_lt a t.groups && is_none (t.holder a)) in
+      let free = length_cond a (filter (λ g. nat_lt g t.groups && is_none (t.holder g)) (range_with_len (a + 1) n))
+      (nat_lt a t.groups && is_none (t.holder a)) in
       let held = length_cond a (filter (λ g. is_some (t.holder g)) (range_with_len (a + 1) n)) (is_some (t.holder a)) in
       let inside : nat_lt a t.groups ≡ true = grind (arith, nat_tests) in
       omega (arith, rest, free, held, by (nat_lt a t.groups) (t.holder a) inside)
@@ -142,7 +147,8 @@ module _ (i : Image) (t : Tables) (has : HasTables i t) where
   all_groups : length (free_groups t) + sum_by (λ s. length (groups_of t s)) (range_with_len 0 t.slots) ≡ t.groups
   unfolding free_groups
   all_groups =
-      let held = sum_same (λ s. length (groups_of t s)) (λ s. length (filter (λ g. is_slot (t.holder g) s) (range_with_len 0 t.groups))) (range_with_len 0 t.slots)
+      let held = sum_same (λ s. length (groups_of t s)) (λ s. length (filter (λ g. is_slot (t.holder g) s) (range_with_len 0 t.groups)))
+      (range_with_len 0 t.slots)
       (λ s. slot_count t s (λ g is. ordinal_low g s is)) ∙ held_count t holder_low in
       omega (arith, held, free_or_held t 0 t.groups (omega arith))
 

@@ -73,7 +73,8 @@ one_cube x y is = cc is
 pub tree_entry : (c d : Cube) (op : Operation) (r : Response) → Own (Some c) (order.OnTree op) r (Some d) → cube_entry d ≡ cube_entry c
 tree_entry c d op r (inl said) = one_entry (cube_entry d) (cube_entry c) (entry_said c d r said.0 (mounted_shows c op c.state said.0 said.1) said.2)
 tree_entry c d op r (inr (inl fault)) =
-    ap cube_entry (one_cube d (cond (is_change op) (with_state word.Stopped c) c) fault.2) ∙ fault_entry c (is_change op) (not_offline c.state (and_first (is_mounted c.state) _ fault.0))
+    ap cube_entry (one_cube d (cond (is_change op) (with_state word.Stopped c) c) fault.2)
+    ∙ fault_entry c (is_change op) (not_offline c.state (and_first (is_mounted c.state) _ fault.0))
 tree_entry c d op r (inr (inr lack)) = ap cube_entry (one_cube d c lack.2)
 
 -- so they do after a check

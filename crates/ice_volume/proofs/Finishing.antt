@@ -49,8 +49,10 @@ use Rattle.ice_volume.proofs.Telling.{faults_said, sound_unbroken}
 settled_has : (lot : LotView) (f : Form) (mode : Mode) (h : History) (i : Image) → HasHistory lot f mode (settled h) i → HasHistory lot f mode h i
 settled_has lot f mode h i has =
     let none : has.0 ≡ 0 = omega (arith, has.1) in
-    let at_none : Recovers lot i f mode (tree_after (h.sure ++ h.since) h.base) (floor (settled h) + 0) = subst (λ (n : ℕ). Recovers lot i f (mode_after mode (settled h) n) (tree_at (settled h) n) (floor (settled h) + n)) none has.2 in
-    let tree : tree_after (h.sure ++ h.since) h.base ≡ tree_at h (length h.since) = after_append h.sure h.since h.base ∙ ap (λ (ops : List Operation). tree_after ops (tree_after h.sure h.base)) (sym (take-length h.since)) in
+    let at_none : Recovers lot i f mode (tree_after (h.sure ++ h.since) h.base) (floor (settled h) + 0) = subst
+    (λ (n : ℕ). Recovers lot i f (mode_after mode (settled h) n) (tree_at (settled h) n) (floor (settled h) + n)) none has.2 in
+    let tree : tree_after (h.sure ++ h.since) h.base ≡ tree_at h (length h.since) = after_append h.sure h.since h.base
+    ∙ ap (λ (ops : List Operation). tree_after ops (tree_after h.sure h.base)) (sym (take-length h.since)) in
     let count : floor (settled h) + 0 ≡ floor h + length h.since = omega (arith, length-append h.sure h.since) in
     (length h.since, omega arith, subst (λ (t : Tree). Recovers lot i f mode t (floor h + length h.since)) tree (subst (λ (k : ℕ). Recovers lot i f mode (tree_after (h.sure ++ h.since) h.base) k) count at_none))
 
@@ -72,7 +74,8 @@ away_other c other = by c.state refl
     by word.Stopped is = refl
     by word.Offline is = refl
 
-away_mounted : (c : Cube) (h : History) → c.state ≡ word.Mounted → c.content ≡ Sound h → put_away c.state c.content c ≡ record c { state = word.Unmounted; content = Sound (settled h) }
+away_mounted : (c : Cube) (h : History) → c.state ≡ word.Mounted → c.content ≡ Sound h
+    → put_away c.state c.content c ≡ record c { state = word.Unmounted; content = Sound (settled h) }
 away_mounted c h mounted sound = ap (λ s. put_away s c.content c) mounted ∙ ap (λ x. put_away word.Mounted x c) sound
 
 stopped_mounted : (c : Cube) → c.state ≡ word.Mounted → give_up c.state c ≡ with_state word.Stopped c
@@ -95,7 +98,8 @@ same_away c d r same other = record {
   broken = λ was. subst SaysBroken (sym same) was;
 }
 
-settled_good : (c : Cube) (h : History) → c.state ≡ word.Mounted → c.content ≡ Sound h → IsAsGood (Some c) (Some (with_state word.Unmounted (with_history (settled h) c)))
+settled_good : (c : Cube) (h : History) → c.state ≡ word.Mounted → c.content ≡ Sound h
+    → IsAsGood (Some c) (Some (with_state word.Unmounted (with_history (settled h) c)))
 settled_good c h mounted sound = record {
   entry = ap (λ s. Some (record { path = c.path; groups = c.groups; offline = is_offline s })) (sym mounted);
   has = λ lot i had. subst (HasContent lot i c.form c.mode) (sym sound) (settled_has lot c.form c.mode h i had);
@@ -116,10 +120,12 @@ goes_as c d e r same goes = record {
 }
 
 -- a refusal leaves the record
-refused_away : (c : Cube) (d : Option Cube) (r : Response) (why : Why) (v : Verdict) → v ≡ No why → c.state ≢ word.Mounted → Says v (Some c) r d → GoesAway (Some c) r d
+refused_away : (c : Cube) (d : Option Cube) (r : Response) (why : Why) (v : Verdict) → v ≡ No why → c.state ≢ word.Mounted
+    → Says v (Some c) r d → GoesAway (Some c) r d
 refused_away c d r why v is other says = same_away c d r (subst (λ (x : Verdict). Says x (Some c) r d) is says).1 other
 
-plain_away : (c : Cube) (d : Option Cube) (r : Response) (v : Verdict) (s : StateWord) (x : Content) → c.state ≡ s → c.content ≡ x → IfMounted s (OfSound x (on_sync c word.Unmounted)) v → Says v (Some c) r d → GoesAway (Some c) r d
+plain_away : (c : Cube) (d : Option Cube) (r : Response) (v : Verdict) (s : StateWord) (x : Content) → c.state ≡ s → c.content ≡ x
+    → IfMounted s (OfSound x (on_sync c word.Unmounted)) v → Says v (Some c) r d → GoesAway (Some c) r d
 plain_away c d r v word.Unmounted x state content is says = refused_away c d r _ v is (λ mounted. absurd (cc (sym mounted ∙ state))) says
 plain_away c d r v word.Stopped x state content is says = refused_away c d r _ v is (λ mounted. absurd (cc (sym mounted ∙ state))) says
 plain_away c d r v word.Offline x state content is says = refused_away c d r _ v is (λ mounted. absurd (cc (sym mounted ∙ state))) says
@@ -134,7 +140,8 @@ plain_away c d r v word.Mounted (Sound h) state content is says =
 plain_away c d r v word.Mounted (Broken rules) state content is says = absurd is
 plain_away c d r v word.Mounted Unread state content is says = absurd is
 
-fault_away : (c : Cube) (d : Option Cube) (r : Response) → c.state ≡ word.Mounted → r ≡ Err reply.Fault → d ≡ Some (with_state word.Stopped c) → GoesAway (Some c) r d
+fault_away : (c : Cube) (d : Option Cube) (r : Response) → c.state ≡ word.Mounted → r ≡ Err reply.Fault
+    → d ≡ Some (with_state word.Stopped c) → GoesAway (Some c) r d
 fault_away c d r mounted fault same = goes_as (Some c) d (Some (with_state word.Stopped c)) r same (record {
   good = stopped_good c mounted;
   away = λ none. absurd (none fault);
@@ -201,7 +208,8 @@ puts_none v s w x free stands = record {
     live = stands.live;
     tables = stands.tables;
     room = stands.room;
-    shows = record { slots = stands.shows.slots; groups = stands.shows.groups; entries = each_slot w x (w.cube x) (λ y c. entry_at (tables_of v.system) y ≡ option_map cube_entry c) (stands.shows.entries x) (λ y other. stands.shows.entries y) };
+    shows =
+        record { slots = stands.shows.slots; groups = stands.shows.groups; entries = each_slot w x (w.cube x) (λ y c. entry_at (tables_of v.system) y ≡ option_map cube_entry c) (stands.shows.entries x) (λ y other. stands.shows.entries y) };
     cubes = each_slot w x (w.cube x) (λ y c. Carries (cell_at v.cells y) (lot_of (tables_of v.system) y) s c) (stands.cubes x) (λ y other. stands.cubes y);
   };
   good = same_good (w.cube x) (w.cube x) refl;
@@ -223,7 +231,8 @@ free_cube v s w x none stands = by (w.cube x) (sym (row_path v s w stands x) ∙
     by (Some c) is = absurd (cc is)
 
 -- the slot of a path is put away by the line that unmounts its cube
-module _ (v : VolumeView) (s : DiskState) (w : World) (stands : StandsFor v s w) (p : List (List ℕ)) (x : ℕ) (less : x < v.system.names.slots) (at : path_at v.system.names x ≡ Some p) where
+module _ (v : VolumeView) (s : DiskState) (w : World) (stands : StandsFor v s w) (p : List (List ℕ)) (x : ℕ)
+    (less : x < v.system.names.slots) (at : path_at v.system.names x ≡ Some p) where
   -- the world after the line
   pub record StepsAway (r : Response) (u : World) : Type 0 where
     pub next : Option Cube
@@ -237,15 +246,18 @@ module _ (v : VolumeView) (s : DiskState) (w : World) (stands : StandsFor v s w)
       record { next = g.0; is = g.2; goes = own_away (w.cube x) g.0 r g.1 }
 
   -- each crash leaves an image that fits the world
-  pub leaves_fit : {D : Type 0} (left : D → ℕ → Image → List ℕ → Type 0) (a b : D) (aside : List ℕ) → LeavesOnly left a b (With aside (MayFit w (Asks (line.Unmount p)))) → LeavesOnly left a b (With aside (Fits w))
+  pub leaves_fit : {D : Type 0} (left : D → ℕ → Image → List ℕ → Type 0) (a b : D) (aside : List ℕ)
+      → LeavesOnly left a b (With aside (MayFit w (Asks (line.Unmount p)))) → LeavesOnly left a b (With aside (Fits w))
   leaves_fit left a b aside leaves = record {
     each = λ m i out l. ⊎_elim (λ before. inl before)
-        (λ here. inr (⊎_elim (λ fits. fits) (λ gone. let away = step_away gone.0 gone.1 gone.2 in good_fits w x away.next i away.goes.good (subst (λ (z : World). Fits z i) away.is gone.4)) here.0, here.1))
+        (λ here. inr
+        (⊎_elim (λ fits. fits) (λ gone. let away = step_away gone.0 gone.1 gone.2 in good_fits w x away.next i away.goes.good (subst (λ (z : World). Fits z i) away.is gone.4)) here.0, here.1))
         (leaves.each m i out l);
   }
 
   -- the cube was put away, or its unmount failed
-  pub line_puts : (z : VolumeView) (new : DiskState) (r : Response) (ok : Bool) → (ok ≡ true → r ≢ Err reply.Fault) → Answers v z s new (Asks (line.Unmount p)) w r → PutsAway x ok z new w
+  pub line_puts : (z : VolumeView) (new : DiskState) (r : Response) (ok : Bool) → (ok ≡ true → r ≢ Err reply.Fault)
+      → Answers v z s new (Asks (line.Unmount p)) w r → PutsAway x ok z new w
   line_puts z new r ok fine answers =
       let away = step_away r answers.then answers.step in record {
         next = away.next;
@@ -285,13 +297,16 @@ and_true true b is = (refl, is)
 and_true false b is = absurd (cc is)
 
 -- one slot more was put away
-pub away_more : (v z : VolumeView) (s t : DiskState) (w : World) (n : ℕ) (a b : Bool) (so : HasPutAway n a v s w) → PutsAway n b z t so.next → HasPutAway (n + 1) (a && b) z t w
+pub away_more : (v z : VolumeView) (s t : DiskState) (w : World) (n : ℕ) (a b : Bool) (so : HasPutAway n a v s w)
+    → PutsAway n b z t so.next → HasPutAway (n + 1) (a && b) z t w
 away_more v z s t w n a b so puts = record {
   next = with_slot so.next n puts.next;
   stands = puts.stands;
   slots = so.slots;
   groups = so.groups;
-  good = each_slot so.next n puts.next (λ y c. IsAsGood (w.cube y) c) (good_then (w.cube n) (so.next.cube n) puts.next (so.good n) puts.good) (λ y other. so.good y);
+  good =
+      each_slot so.next n puts.next (λ y c. IsAsGood (w.cube y) c) (good_then (w.cube n) (so.next.cube n) puts.next (so.good n) puts.good)
+      (λ y other. so.good y);
   away = λ is. let both = and_true a b is in
       each_slot so.next n puts.next (λ y c. c ≡ away_below (n + 1) w.cube y)
       (puts.away both.1 ∙ ap away_at (so.away both.0 n ∙ at_here) ∙ sym at_more)
@@ -339,7 +354,8 @@ away_all n v s w few so = record {
     below : (x : ℕ) → (b : Bool) → nat_lt x n ≡ b → away_below n w.cube x ≡ away_at (w.cube x)
     below x true is = ap (λ b. cond b (away_at (w.cube x)) (w.cube x)) is
     below x false is =
-        let none : so.next.cube x ≡ None = no_cube s.now (tables_of v.system) so.next x so.stands.tables.now.has so.stands.shows (grind (arith, nat_tests, is, few)) in
+        let none : so.next.cube x ≡ None = no_cube s.now (tables_of v.system) so.next x so.stands.tables.now.has so.stands.shows
+        (grind (arith, nat_tests, is, few)) in
         let here : w.cube x ≡ None = sym (ap (λ b. cond b (away_at (w.cube x)) (w.cube x)) is) ∙ sym (so.away refl x) ∙ none in
         ap (λ b. cond b (away_at (w.cube x)) (w.cube x)) is ∙ here ∙ sym (ap away_at here)
 
@@ -366,14 +382,16 @@ and_false : (a b : Bool) → (a && b) ≡ false → (a ≡ false) ⊎ (b ≡ fal
 and_false true b is = inr is
 and_false false b is = inl refl
 
-module _ {D : Type 0} (state : D → DiskState) (left : D → ℕ → Image → List ℕ → Type 0) (v z : VolumeView) (a m b : D) (size : total (tables_of z.system) ≡ total (tables_of v.system))
+module _ {D : Type 0} (state : D → DiskState) (left : D → ℕ → Image → List ℕ → Type 0) (v z : VolumeView) (a m b : D)
+    (size : total (tables_of z.system) ≡ total (tables_of v.system))
     (so : Within state left (IsWritable v) a m) (more : Within state left (IsWritable z) m b) where
   -- the blocks of a session alone change
   pub finish_within : Within state left (IsWritable v) a b
   finish_within = within_then state left (IsWritable v) a m b so (within_more state left (IsWritable z) (IsWritable v) m b (writable_same v z size) more)
 
   -- no block of a broken cube is written
-  pub finish_spares : (w u : World) → ((y : ℕ) → SaysBroken (w.cube y) → lot_of (tables_of z.system) y ≡ lot_of (tables_of v.system) y) → ((y : ℕ) → SaysBroken (w.cube y) → SaysBroken (u.cube y))
+  pub finish_spares : (w u : World) → ((y : ℕ) → SaysBroken (w.cube y) → lot_of (tables_of z.system) y ≡ lot_of (tables_of v.system) y)
+      → ((y : ℕ) → SaysBroken (w.cube y) → SaysBroken (u.cube y))
       → Within state left (Outside (IsOfBroken (tables_of v.system) w)) a m → Within state left (Outside (IsOfBroken (tables_of z.system) u)) m b
       → Within state left (Outside (IsOfBroken (tables_of v.system) w)) a b
   finish_spares w u lots stays first second = within_then state left (Outside (IsOfBroken (tables_of v.system) w)) a m b first
@@ -381,7 +399,8 @@ module _ {D : Type 0} (state : D → DiskState) (left : D → ℕ → Image → 
       (λ k other broken. other (broken.0, stays broken.0 broken.1, subst (λ (lot : LotView). extent lot k) (sym (lots broken.0 broken.1)) broken.2)) second)
 
   -- a fault has its cause
-  pub finish_cause : (p q : Bool) → (p && q) ≡ false → (p ≡ false → Rose (state a).faults (state m).faults) → (q ≡ false → Rose (state m).faults (state b).faults) → Rose (state a).faults (state b).faults
+  pub finish_cause : (p q : Bool) → (p && q) ≡ false → (p ≡ false → Rose (state a).faults (state m).faults)
+      → (q ≡ false → Rose (state m).faults (state b).faults) → Rose (state a).faults (state b).faults
   finish_cause p q is first second = let before = so.faults in let after = more.faults in
       ⊎_elim (λ f. let rose = first f in omega (arith, rose, after)) (λ f. let rose = second f in omega (arith, rose, before)) (and_false p q is)
 

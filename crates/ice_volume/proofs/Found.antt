@@ -24,7 +24,9 @@ use Rattle.ice_volume.specs.Lines.{RecoversOf}
 
 -- ---- a sub-super block that breaks no rule has version 1 and mode 0
 
-tests_pass : (a b c d e : Bool) (v w x y z : Rule) → (if not a then Some v else if not b then Some w else if not c then Some x else if not d then Some y else if not e then Some z else None) ≡ None → (b ≡ true) × (d ≡ true)
+tests_pass : (a b c d e : Bool) (v w x y z : Rule)
+    → (if not a then Some v else if not b then Some w else if not c then Some x else if not d then Some y else if not e then Some z else None) ≡ None
+    → (b ≡ true) × (d ≡ true)
 tests_pass true true true true e v w x y z h = (refl, refl)
 tests_pass true true true false e v w x y z h = absurd (cc h)
 tests_pass true true false d e v w x y z h = absurd (cc h)
@@ -34,7 +36,8 @@ tests_pass false b c d e v w x y z h = absurd (cc h)
 sub_first : (slot : ℕ) (bytes : List ℕ) → sub_rule slot bytes ≡ None → ((sub_of bytes).version ≡ 1) × ((sub_of bytes).mode ≡ 0)
 unfolding sub_rule
 sub_first slot bytes sound =
-    let t = tests_pass (word_at bytes 0 == sub_magic) (word_at bytes 4 == 1) (slice_index bytes 8 == slot) (slice_index bytes 9 == 0) (nat_lt (long_at bytes 16) (2 ^ 63)) rule.Magic rule.Version rule.Slot rule.Mode rule.Done sound in
+    let t = tests_pass (word_at bytes 0 == sub_magic) (word_at bytes 4 == 1) (slice_index bytes 8 == slot) (slice_index bytes 9 == 0)
+    (nat_lt (long_at bytes 16) (2 ^ 63)) rule.Magic rule.Version rule.Slot rule.Mode rule.Done sound in
     (let is = t.0 in grind (arith, nat_tests), let is = t.1 in grind (arith, nat_tests))
 
 mode_zero : (m : Mode) → mode_byte m ≡ 0 → m ≡ Plain
@@ -52,7 +55,8 @@ recovers_first lot i f m t k r =
     (form_first f r.form (sym sub.version ∙ first.0), mode_zero m (sym sub.mode ∙ first.1))
 
 -- two recoveries have one tree and one count
-pub recovers_alike : (lot : LotView) (i : Image) (f g : Form) (m n : Mode) (t u : Tree) (k j : ℕ) → Recovers lot i f m t k → Recovers lot i g n u j → (f ≡ g) × (t ≡ u) × (k ≡ j)
+pub recovers_alike : (lot : LotView) (i : Image) (f g : Form) (m n : Mode) (t u : Tree) (k j : ℕ) → Recovers lot i f m t k
+    → Recovers lot i g n u j → (f ≡ g) × (t ≡ u) × (k ≡ j)
 recovers_alike lot i f g m n t u k j a b =
     let same : b.blocks ≡ a.blocks = sym (ap (λ o. unwrap_or o a.blocks) (sym a.effective ∙ b.effective)) in
     let there : MapRecovers g (mode_byte n) lot a.blocks u j = subst (λ (x : ℕ → List ℕ). MapRecovers g (mode_byte n) lot x u j) same b.recovers in

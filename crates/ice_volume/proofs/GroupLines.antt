@@ -48,10 +48,13 @@ use Rattle.ice_volume.proofs.TableLines.{always, lot_kept}
 no_fault : (r : Refusal) (y : why.Why) → refused_of r ≡ Because y → fault_in (Err (refused_of r)) ≡ 0
 no_fault r y is = subst (λ (q : Refused). fault_in (Err q) ≡ 0) (sym is) refl
 
-module _ {D X : Type 0} (state : D → DiskState) (left : D → ℕ → Image → List ℕ → Type 0) (v : VolumeView) (p : List (List ℕ)) (n : ℕ) (room : RoomContent) (a : D) where
-  refused_line : (line : Line) (r : Refusal) (y : why.Why) → refused_of r ≡ Because y → ((w : World) → StandsFor v (state a) w → aim w line ≡ Refuse y) → AnswersLine {X = X} state left line v v room (Ok (Err r)) a a
+module _ {D X : Type 0} (state : D → DiskState) (left : D → ℕ → Image → List ℕ → Type 0) (v : VolumeView) (p : List (List ℕ)) (n : ℕ)
+    (room : RoomContent) (a : D) where
+  refused_line : (line : Line) (r : Refusal) (y : why.Why) → refused_of r ≡ Because y
+      → ((w : World) → StandsFor v (state a) w → aim w line ≡ Refuse y) → AnswersLine {X = X} state left line v v room (Ok (Err r)) a a
   refused_line line r y same aims = unchanged state left line v room (Err r) a (no_fault r y same) tt
-      (λ w stands. subst (λ (q : Refused). Answers v v (state a) (state a) line w (Err q)) (sym same) (answers_refused v (state a) w stands p n line y (aims w stands)))
+      (λ w stands. subst (λ (q : Refused). Answers v v (state a) (state a) line w (Err q)) (sym same)
+      (answers_refused v (state a) w stands p n line y (aims w stands)))
 
   -- a planned cube is refused
   pub create_refused : (r : Refusal) → RefusesCreate (tables_of v.system) p n r → AnswersLine {X = X} state left (Asks (Create p n)) v v room (Ok (Err r)) a a
@@ -61,10 +64,12 @@ module _ {D X : Type 0} (state : D → DiskState) (left : D → ℕ → Image �
 
   -- no cube has the path
   pub grow_none : NoneHas v.system.names p → AnswersLine {X = X} state left (Asks (Grow p n)) v v room (Ok (Err code.NoCube)) a a
-  grow_none none = refused_line (Asks (Grow p n)) code.NoCube why.NoCube refl (λ w stands. ap (λ (o : Option ℕ). to_grow w n o) (slot_none v (state a) w stands p none))
+  grow_none none =
+      refused_line (Asks (Grow p n)) code.NoCube why.NoCube refl (λ w stands. ap (λ (o : Option ℕ). to_grow w n o) (slot_none v (state a) w stands p none))
 
   -- further groups are refused
-  pub grow_refuses : (x : ℕ) → x < v.system.names.slots → path_at v.system.names x ≡ Some p → (r : Refusal) → RefusesGroups (tables_of v.system) (length (groups_of (tables_of v.system) x)) n r
+  pub grow_refuses : (x : ℕ) → x < v.system.names.slots → path_at v.system.names x ≡ Some p → (r : Refusal)
+      → RefusesGroups (tables_of v.system) (length (groups_of (tables_of v.system) x)) n r
       → AnswersLine {X = X} state left (Asks (Grow p n)) v v room (Ok (Err r)) a a
   grow_refuses x less at r is =
       let y = groups_because (tables_of v.system) (length (groups_of (tables_of v.system) x)) n r is in
@@ -77,13 +82,15 @@ pub create_planned : (t : Tables) (p : List (List ℕ)) (n : ℕ) (lot : LotView
 create_planned t p n lot plan = free_is t n lot plan.slot.low plan.base plan.groups
 
 -- is sited in the image
-pub create_sited : (t : Tables) (p : List (List ℕ)) (n : ℕ) (lot : LotView) (size : ℕ) → PlansCreate t p n lot → 1 ≤ n → total t ≤ size → is_sited lot size ≡ true
+pub create_sited : (t : Tables) (p : List (List ℕ)) (n : ℕ) (lot : LotView) (size : ℕ) → PlansCreate t p n lot → 1 ≤ n → total t ≤ size
+    → is_sited lot size ≡ true
 create_sited t p n lot size plan some room =
     let count : length lot.groups ≡ n = ap (λ (gs : List ℕ). length gs) plan.groups ∙ length-take-le n (free_groups t) plan.can.enough in
     let few = plan.can.few in
     planned_sited t lot size (create_planned t p n lot plan).of_image room (omega (arith, some, count)) (omega (arith, few, count))
 
-module _ {D : Type 0} (state : D → DiskState) (left : D → ℕ → Image → List ℕ → Type 0) (v : VolumeView) (p : List (List ℕ)) (n : ℕ) (room : RoomContent) (lot : LotView) (plan : PlansCreate (tables_of v.system) p n lot) where
+module _ {D : Type 0} (state : D → DiskState) (left : D → ℕ → Image → List ℕ → Type 0) (v : VolumeView) (p : List (List ℕ)) (n : ℕ)
+    (room : RoomContent) (lot : LotView) (plan : PlansCreate (tables_of v.system) p n lot) where
   create_early : IsEarly v (extent lot)
   create_early = record {
     high = λ k own. planned_high (tables_of v.system) lot k (create_planned (tables_of v.system) p n lot plan).of_image own;
@@ -96,23 +103,30 @@ module _ {D : Type 0} (state : D → DiskState) (left : D → ℕ → Image → 
       (unchanged state left (Asks (Create p n)) v room (Err code.Memory) a refl tt (λ w stands. create_memory v (state a) w stands p n lot plan))
 
   -- the lot could not be made
-  pub create_faulted : {X : Type 0} (a b : D) → Within state left (extent lot) a b → Rose (state a).faults (state b).faults → AnswersLine {X = X} state left (Asks (Create p n)) v v room (Ok (Err code.Fault)) a b
+  pub create_faulted : {X : Type 0} (a b : D) → Within state left (extent lot) a b → Rose (state a).faults (state b).faults
+      → AnswersLine {X = X} state left (Asks (Create p n)) v v room (Ok (Err code.Fault)) a b
   create_faulted a b made rose = faulted state left lot.slot (Asks (Create p n)) (order.Create p n) (create_finds p n) v room (extent lot) a b made create_early
       (λ w stands. create_may v (state a) w stands p n lot plan) (λ w stands. create_spare v (state a) w stands p n lot plan)
       (λ w stands. (makes_aim v (state a) w stands p n lot plan, create_fault v (state a) w stands p n lot plan)) rose
 
   create_kept : (b c : D) → Within state left IsChange b c → Kept (extent lot) (state b) (state c)
-  create_kept b c within = kept_within state left (extent lot) IsChange b c (λ k own low. let high = create_early.high k own in omega (arith, high, low.1)) within
+  create_kept b c within =
+      kept_within state left (extent lot) IsChange b c (λ k own low. let high = create_early.high k own in omega (arith, high, low.1)) within
 
   -- the lot was made, and the tables were to name it
-  pub create_answers : {A : Type 0} (z : VolumeView) (a b c : D) (e : CubeView) → e.lot ≡ lot → e.stopped ≡ false → ((state a).tells ≡ true → Holds form_one Plain (fresh (Dir Nil) 0) e (state b))
-      → Within state left (extent lot) a b → (r : Result A SystemFault) → Changes state left lot.slot (Some (record { path = p; offline = false })) lot.groups v.system z.system r b c
-      → OnOk r (CellBecomes lot.slot (Open e) v.cells z.cells) → OnErr r (z.cells ≡ v.cells) → AnswersLine state left (Asks (Create p n)) v z room (told_of r) a c
+  pub create_answers : {A : Type 0} (z : VolumeView) (a b c : D) (e : CubeView) → e.lot ≡ lot → e.stopped ≡ false
+      → ((state a).tells ≡ true → Holds form_one Plain (fresh (Dir Nil) 0) e (state b))
+      → Within state left (extent lot) a b → (r : Result A SystemFault)
+      → Changes state left lot.slot (Some (record { path = p; offline = false })) lot.groups v.system z.system r b c
+      → OnOk r (CellBecomes lot.slot (Open e) v.cells z.cells) → OnErr r (z.cells ≡ v.cells)
+      → AnswersLine state left (Asks (Create p n)) v z room (told_of r) a c
   create_answers z a b c e same live holds made r ch cells others =
-      changed state left lot.slot (Some (record { path = p; offline = false })) lot.groups (Open e) ⊤ (Asks (Create p n)) (order.Create p n) tt (create_finds p n) room v z (extent lot) a b c made
+      changed state left lot.slot (Some (record { path = p; offline = false })) lot.groups (Open e) ⊤ (Asks (Create p n))
+      (order.Create p n) tt (create_finds p n) room v z (extent lot) a b c made
       (λ w stands. makes v (state a) w stands p n lot plan (state b) (state c) e (create_kept b c ch.within)
       (made_carries v (state a) w stands p n lot plan (state b) e same live (holds stands.tables.settled.told)))
-      (λ w stands. create_spare v (state a) w stands p n lot plan) create_early (λ w stands. create_may v (state a) w stands p n lot plan) r ch cells others (always r)
+      (λ w stands. create_spare v (state a) w stands p n lot plan) create_early
+      (λ w stands. create_may v (state a) w stands p n lot plan) r ch cells others (always r)
 
 -- ---- further groups
 
@@ -124,19 +138,22 @@ grow_sited t x n lot size less plan some room =
     planned_sited t lot size (planned_is t x n lot less plan.slot plan.base plan.groups).of_image room (omega (arith, some, count)) (omega (arith, few, count))
 
 -- the writes of further groups are those of new blocks
-pub grow_within : {D : Type 0} (state : D → DiskState) (left : D → ℕ → Image → List ℕ → Type 0) (t : Tables) (x n : ℕ) (lot : LotView) (first : ℕ) (a b : D) → IsLot lot → PlansGrow t x n lot → first ≡ length (groups_of t x)
+pub grow_within : {D : Type 0} (state : D → DiskState) (left : D → ℕ → Image → List ℕ → Type 0) (t : Tables) (x n : ℕ) (lot : LotView) (first : ℕ) (a b : D)
+    → IsLot lot → PlansGrow t x n lot → first ≡ length (groups_of t x)
     → Within state left (IsHeadFrom lot first) a b → Within state left (IsNewBlock (lot_of t x) lot) a b
 grow_within state left t x n lot first a b is plan same within = within_more state left (IsHeadFrom lot first) (IsNewBlock (lot_of t x) lot) a b
     (λ k here. head_new (lot_of t x) lot (plan_wider t x n lot is plan) k (subst (λ (q : ℕ). IsHeadFrom lot q k) same here)) within
 
 -- what the writes of further groups leave
-pub grow_new : (old lot : LotView) (first : ℕ) (s : DiskState) → first ≡ length old.groups → Settled Everywhere s → HasFreshGroups lot first s.now → HasNewGroups old lot s
+pub grow_new : (old lot : LotView) (first : ℕ) (s : DiskState) → first ≡ length old.groups → Settled Everywhere s
+    → HasFreshGroups lot first s.now → HasNewGroups old lot s
 grow_new old lot first s same settled new = record {
   settled = record { told = settled.told; settled = λ k here. settled.settled k tt };
   fresh = subst (λ (k : ℕ). HasFreshGroups lot k s.now) same new;
 }
 
-module _ {D : Type 0} (state : D → DiskState) (left : D → ℕ → Image → List ℕ → Type 0) (v : VolumeView) (p : List (List ℕ)) (n : ℕ) (room : RoomContent) (x : ℕ) (less : x < v.system.names.slots)
+module _ {D : Type 0} (state : D → DiskState) (left : D → ℕ → Image → List ℕ → Type 0) (v : VolumeView) (p : List (List ℕ)) (n : ℕ)
+    (room : RoomContent) (x : ℕ) (less : x < v.system.names.slots)
     (at : path_at v.system.names x ≡ Some p) (lot : LotView) (is : IsLot lot) (plan : PlansGrow (tables_of v.system) x n lot) where
   grow_early : IsEarly v (IsNewBlock (lot_of (tables_of v.system) x) lot)
   grow_early =
@@ -146,30 +163,38 @@ module _ {D : Type 0} (state : D → DiskState) (left : D → ℕ → Image → 
       }
 
   -- the further groups could not be made
-  pub grow_faulted : {X : Type 0} (a b : D) → Within state left (IsNewBlock (lot_of (tables_of v.system) x) lot) a b → Rose (state a).faults (state b).faults → AnswersLine {X = X} state left (Asks (Grow p n)) v v room (Ok (Err code.Fault)) a b
-  grow_faulted a b early rose = faulted state left x (Asks (Grow p n)) (order.Grow n) (grow_finds n) v room (IsNewBlock (lot_of (tables_of v.system) x) lot) a b early grow_early
+  pub grow_faulted : {X : Type 0} (a b : D) → Within state left (IsNewBlock (lot_of (tables_of v.system) x) lot) a b
+      → Rose (state a).faults (state b).faults → AnswersLine {X = X} state left (Asks (Grow p n)) v v room (Ok (Err code.Fault)) a b
+  grow_faulted a b early rose =
+      faulted state left x (Asks (Grow p n)) (order.Grow n) (grow_finds n) v room (IsNewBlock (lot_of (tables_of v.system) x) lot) a b early grow_early
       (λ w stands. grow_may (tables_of v.system) x n lot plan) (λ w stands. grow_spare v (state a) w stands p n x less at lot plan)
       (λ w stands. grow_fault v (state a) w stands p n x less at lot plan) rose
 
   wide_kept : (b c : D) → Within state left IsChange b c → Kept (extent lot) (state b) (state c)
   wide_kept b c within = kept_within state left (extent lot) IsChange b c
-      (λ k own low. let high = planned_high (tables_of v.system) lot k (planned_is (tables_of v.system) x n lot less plan.slot plan.base plan.groups).of_image own in omega (arith, high, low.1)) within
+      (λ k own low. let high = planned_high (tables_of v.system) lot k
+      (planned_is (tables_of v.system) x n lot less plan.slot plan.base plan.groups).of_image own in omega (arith, high, low.1)) within
 
   -- the further groups were made, and the tables were to name them
   pub grow_answers : {A : Type 0} (law : WiderHas) (z : VolumeView) (a b c : D) → Within state left (IsNewBlock (lot_of (tables_of v.system) x) lot) a b
       → ((state a).tells ≡ true → HasNewGroups (lot_of (tables_of v.system) x) lot (state b)) → (r : Result A SystemFault)
       → Changes state left x (row_at v.system.names x) lot.groups v.system z.system r b c → OnOk r (CellBecomes x (cell_at z.cells x) v.cells z.cells)
-      → OnOk r (IsWidened lot (state c) (cell_at v.cells x) (cell_at z.cells x)) → OnErr r (z.cells ≡ v.cells) → AnswersLine state left (Asks (Grow p n)) v z room (told_of r) a c
+      → OnOk r (IsWidened lot (state c) (cell_at v.cells x) (cell_at z.cells x)) → OnErr r (z.cells ≡ v.cells)
+      → AnswersLine state left (Asks (Grow p n)) v z room (told_of r) a c
   grow_answers law z a b c early new r ch cells widened others =
-      changed state left x (row_at v.system.names x) lot.groups (cell_at z.cells x) (IsWidened lot (state c) (cell_at v.cells x) (cell_at z.cells x)) (Asks (Grow p n)) (order.Grow n) tt (grow_finds n) room v z
+      changed state left x (row_at v.system.names x) lot.groups (cell_at z.cells x)
+      (IsWidened lot (state c) (cell_at v.cells x) (cell_at z.cells x)) (Asks (Grow p n)) (order.Grow n) tt (grow_finds n) room v z
       (IsNewBlock (lot_of (tables_of v.system) x) lot) a b c early
       (λ w stands.
-      let mid = early_stands state left v w (IsNewBlock (lot_of (tables_of v.system) x) lot) a b stands (grow_spare v (state a) w stands p n x less at lot plan) early in
+      let mid = early_stands state left v w (IsNewBlock (lot_of (tables_of v.system) x) lot) a b stands
+      (grow_spare v (state a) w stands p n x less at lot plan) early in
       let has = new stands.tables.settled.told in
       grows v (state a) w stands p n x less at lot plan law is (state b) (state c) (cell_at z.cells x) mid has
-      (carries_where (cell_at v.cells x) (lot_of (tables_of v.system) x) (state b) (state c) (w.cube x) (λ live. lot_kept state left (tables_of v.system) x b c ch.within) (mid.cubes x))
+      (carries_where (cell_at v.cells x) (lot_of (tables_of v.system) x) (state b) (state c) (w.cube x)
+      (λ live. lot_kept state left (tables_of v.system) x b c ch.within) (mid.cubes x))
       (new_groups_kept (lot_of (tables_of v.system) x) lot (state b) (state c) (wide_kept b c ch.within) has))
-      (λ w stands. grow_spare v (state a) w stands p n x less at lot plan) grow_early (λ w stands. grow_may (tables_of v.system) x n lot plan) r ch cells others widened
+      (λ w stands. grow_spare v (state a) w stands p n x less at lot plan) grow_early
+      (λ w stands. grow_may (tables_of v.system) x n lot plan) r ch cells others widened
 
 -- ---- sessions
 
@@ -182,13 +207,16 @@ create_session t u p n lot row e plan same becomes = (
 )
 
 -- and the widened cell of a cube with further groups
-pub grow_session : (t u : Tables) (x n : ℕ) (lot : LotView) (row : Option Row) (s : DiskState) (cell after : Cell) → PlansGrow t x n lot → IsSome row → IsWidened lot s cell after
+pub grow_session : (t u : Tables) (x n : ℕ) (lot : LotView) (row : Option Row) (s : DiskState) (cell after : Cell) → PlansGrow t x n lot
+    → IsSome row → IsWidened lot s cell after
     → SlotBecomes x row lot.groups t u → IsSession u x after
 grow_session t u x n lot row s cell after plan live widened becomes =
-    widened_session u x lot s cell after (plan_lot t x n lot plan ∙ sym (lot_here t u x row lot.groups becomes)) (subst (λ (o : Option Row). IsSome o) (sym becomes.row_here) live) widened
+    widened_session u x lot s cell after (plan_lot t x n lot plan ∙ sym (lot_here t u x row lot.groups becomes))
+    (subst (λ (o : Option Row). IsSome o) (sym becomes.row_here) live) widened
 
 -- where the change came to its end
-pub grow_session_on : {A : Type 0} (r : Result A SystemFault) (t u : Tables) (x n : ℕ) (lot : LotView) (row : Option Row) (s : DiskState) (cell after : Cell) → PlansGrow t x n lot → IsSome row → OnOk r (IsWidened lot s cell after)
+pub grow_session_on : {A : Type 0} (r : Result A SystemFault) (t u : Tables) (x n : ℕ) (lot : LotView) (row : Option Row) (s : DiskState) (cell after : Cell)
+    → PlansGrow t x n lot → IsSome row → OnOk r (IsWidened lot s cell after)
     → OnOk r (SlotBecomes x row lot.groups t u → IsSession u x after)
 grow_session_on (Ok y) t u x n lot row s cell after plan live widened = λ becomes. grow_session t u x n lot row s cell after plan live widened becomes
 grow_session_on (Err e) t u x n lot row s cell after plan live widened = tt

@@ -52,14 +52,16 @@ head_extent lot from k is = subst (extent lot) (sym is.3.2)
 
 -- those of further groups are no blocks of the lot without these
 pub head_new : (old lot : LotView) (wider : IsWider old lot) (k : ℕ) → IsHeadFrom lot (length old.groups) k → IsNewBlock old lot k
-head_new old lot wider k is = (head_extent lot (length old.groups) k is, new_heads_apart old lot wider.more k wider.is_lot wider.slot wider.base wider.groups is)
+head_new old lot wider k is =
+    (head_extent lot (length old.groups) k is, new_heads_apart old lot wider.more k wider.is_lot wider.slot wider.base wider.groups is)
 
 -- fresh groups outlast calls that keep the lot's blocks
 pub new_groups_kept : (old lot : LotView) (a b : DiskState) → Kept (extent lot) a b → HasNewGroups old lot a → HasNewGroups old lot b
 new_groups_kept old lot a b kept h = record {
   settled = record { told = kept.tells ∙ h.settled.told; settled = λ k here. kept.settled k here.0 (h.settled.settled k here) };
   fresh = λ o from less p low.
-      kept.same (place lot (256 * o + p)) (head_extent lot (length old.groups) (place lot (256 * o + p)) (o, from, less, (p, low, refl))) ∙ h.fresh o from less p low;
+      kept.same (place lot (256 * o + p)) (head_extent lot (length old.groups) (place lot (256 * o + p)) (o, from, less, (p, low, refl)))
+      ∙ h.fresh o from less p low;
 }
 
 -- ---- the record with further groups
@@ -69,8 +71,10 @@ abbrev pub WiderHas : Type 0
 WiderHas = (old lot : LotView) (f : Form) (mode : Mode) (h : History) (s : DiskState) → IsWider old lot
     → HasNewGroups old lot s → Every (extent old) s (HasHistory old f mode h) → Every (extent lot) s (HasHistory lot f mode h)
 
-module _ (law : WiderHas) (old lot : LotView) (s : DiskState) (wider : IsWider old lot) (new : HasNewGroups old lot s) (n : ℕ) (more : length lot.groups ≡ length old.groups + n) where
-  each_mended : (f : Form) (mode : Mode) (x : Content) → Every (extent old) s (λ i. HasContent old i f mode x) → Every (extent lot) s (λ i. HasContent lot i f mode (mended x))
+module _ (law : WiderHas) (old lot : LotView) (s : DiskState) (wider : IsWider old lot) (new : HasNewGroups old lot s) (n : ℕ)
+    (more : length lot.groups ≡ length old.groups + n) where
+  each_mended : (f : Form) (mode : Mode) (x : Content) → Every (extent old) s (λ i. HasContent old i f mode x)
+      → Every (extent lot) s (λ i. HasContent lot i f mode (mended x))
   each_mended f mode (Sound h) each = law old lot f mode h s wider new each
   each_mended f mode (Broken rules) each = λ i agrees. tt
   each_mended f mode Unread each = λ i agrees. tt
@@ -87,12 +91,15 @@ module _ (law : WiderHas) (old lot : LotView) (s : DiskState) (wider : IsWider o
   rests_grown : (state : StateWord) (c : Cube) → Rests old s state c → Rests lot s state (grown n c)
   rests_grown state c r = record { each = each_grown c r.each; known = known_grown c c.content r.known; is = r.is }
 
-  open_grown : (e : CubeView) (c : Cube) → ((f : Form) (mode : Mode) (h : History) → HasNewGroups e.lot lot s → Holds f mode h e s → Holds f mode h (record e { lot = lot }) s)
+  open_grown : (e : CubeView) (c : Cube)
+      → ((f : Form) (mode : Mode) (h : History) → HasNewGroups e.lot lot s → Holds f mode h e s → Holds f mode h (record e { lot = lot }) s)
       → HasOpen old s e c → HasOpen lot s (record e { lot = lot }) (grown n c)
   open_grown e c widened o = record {
     lot_is = refl;
     record_is = record {
-      groups = let same : length e.lot.groups ≡ length old.groups = ap (λ (l : LotView). length l.groups) o.lot_is in let groups = o.record_is.groups in omega (arith, same, groups, more);
+      groups =
+          let same : length e.lot.groups ≡ length old.groups = ap (λ (l : LotView). length l.groups) o.lot_is in
+          let groups = o.record_is.groups in omega (arith, same, groups, more);
       state = o.record_is.state;
       history = o.record_is.history;
       sound = ap mended o.record_is.sound;
@@ -106,10 +113,12 @@ module _ (law : WiderHas) (old lot : LotView) (s : DiskState) (wider : IsWider o
   carries_grown Stopped after c is carries = subst (λ (e : Cell). Carries e lot s (Some (grown n c))) (sym is) (rests_grown _ c carries)
   carries_grown (Open e) after c is carries = subst (λ (e : Cell). Carries e lot s (Some (grown n c))) (sym is.0) (open_grown e c is.1 carries)
 
-shown_grown : (gs hs : List ℕ) (n : ℕ) (o : Option Row) (c : Cube) → length hs ≡ length gs + n → entry_with gs o ≡ Some (cube_entry c) → entry_with hs o ≡ Some (cube_entry (grown n c))
+shown_grown : (gs hs : List ℕ) (n : ℕ) (o : Option Row) (c : Cube) → length hs ≡ length gs + n → entry_with gs o ≡ Some (cube_entry c)
+    → entry_with hs o ≡ Some (cube_entry (grown n c))
 shown_grown gs hs n None c more e = absurd (cc e)
 shown_grown gs hs n (Some r) c more e =
-    ap (λ (k : ℕ). Some (record { path = r.path; groups = k; offline = r.offline })) more ∙ ap (option_map (λ (y : Entry). record y { groups = y.groups + n })) e
+    ap (λ (k : ℕ). Some (record { path = r.path; groups = k; offline = r.offline })) more
+    ∙ ap (option_map (λ (y : Entry). record y { groups = y.groups + n })) e
 
 -- ---- the order
 
@@ -128,7 +137,8 @@ plan_more t x n lot plan =
 -- it is the lot of the slot with its new groups, and the one that the frame has
 pub plan_lot : (t : Tables) (x n : ℕ) (lot : LotView) → PlansGrow t x n lot → lot ≡ lot_with t x lot.groups
 plan_lot t x n lot plan =
-    ap (λ (q : ℕ). record { slot = q; base = lot.base; groups = lot.groups }) plan.slot ∙ ap (λ (b : ℕ). record { slot = x; base = b; groups = lot.groups }) plan.base
+    ap (λ (q : ℕ). record { slot = q; base = lot.base; groups = lot.groups }) plan.slot
+    ∙ ap (λ (b : ℕ). record { slot = x; base = b; groups = lot.groups }) plan.base
 
 plan_same : (t : Tables) (x n : ℕ) (lot : LotView) → PlansGrow t x n lot → lot ≡ planned_lot t x n
 plan_same t x n lot plan = plan_lot t x n lot plan ∙ ap (λ (gs : List ℕ). lot_with t x gs) plan.groups
@@ -152,12 +162,14 @@ plan_widens t x n lot Stopped is plan session = tt
 plan_widens t x n lot (Open e) is plan session = subst (λ (l : LotView). IsWider l lot) (sym session.0) (plan_wider t x n lot is plan)
 
 -- and is a session of the slot then
-pub widened_session : (t : Tables) (x : ℕ) (lot : LotView) (s : DiskState) (cell after : Cell) → lot ≡ lot_of t x → (IsSome (t.row x)) → IsWidened lot s cell after → IsSession t x after
+pub widened_session : (t : Tables) (x : ℕ) (lot : LotView) (s : DiskState) (cell after : Cell) → lot ≡ lot_of t x → (IsSome (t.row x))
+    → IsWidened lot s cell after → IsSession t x after
 widened_session t x lot s Closed after same live is = subst (λ (e : Cell). IsSession t x e) (sym is) tt
 widened_session t x lot s Stopped after same live is = subst (λ (e : Cell). IsSession t x e) (sym is) tt
 widened_session t x lot s (Open e) after same live is = subst (λ (e : Cell). IsSession t x e) (sym is.0) (same, live)
 
-module _ (v : VolumeView) (s : DiskState) (w : World) (stands : StandsFor v s w) (p : List (List ℕ)) (n x : ℕ) (less : x < v.system.names.slots) (at : path_at v.system.names x ≡ Some p) where
+module _ (v : VolumeView) (s : DiskState) (w : World) (stands : StandsFor v s w) (p : List (List ℕ)) (n x : ℕ)
+    (less : x < v.system.names.slots) (at : path_at v.system.names x ≡ Some p) where
   to_slot : aim w (Asks (Grow p n)) ≡ with_groups w (length (groups_of (tables_of v.system) x)) n (At x (order.Grow n))
   to_slot =
       ap (λ (o : Option ℕ). to_grow w n o) (slot_found v s w stands p x less at)
@@ -167,7 +179,8 @@ module _ (v : VolumeView) (s : DiskState) (w : World) (stands : StandsFor v s w)
   count = free_shown s.now (tables_of v.system) stands.tables.now.has w stands.shows
 
   -- why there are no further groups
-  pub grow_refused : (r : Refusal) (y : why.Why) → RefusesGroups (tables_of v.system) (length (groups_of (tables_of v.system) x)) n r → refused_of r ≡ Because y → aim w (Asks (Grow p n)) ≡ Refuse y
+  pub grow_refused : (r : Refusal) (y : why.Why) → RefusesGroups (tables_of v.system) (length (groups_of (tables_of v.system) x)) n r
+      → refused_of r ≡ Because y → aim w (Asks (Grow p n)) ≡ Refuse y
   grow_refused r y is same = to_slot ∙ cannot_aim (tables_of v.system) w (length (groups_of (tables_of v.system) x)) n count (At x (order.Grow n)) r y is same
 
   module _ (lot : LotView) (plan : PlansGrow (tables_of v.system) x n lot) where
@@ -203,11 +216,14 @@ module _ (v : VolumeView) (s : DiskState) (w : World) (stands : StandsFor v s w)
         let wider = plan_wider (tables_of v.system) x n lot is plan in
         let more = plan_more (tables_of v.system) x n lot plan in
         let each : EachHas (lot_of (tables_of v.system) x) b (Some c.0) =
-        subst (λ (d : Option Cube). EachHas (lot_of (tables_of v.system) x) b d) c.1 (carries_has (cell_at v.cells x) (lot_of (tables_of v.system) x) b (w.cube x) (mid.cubes x)) in
+        subst (λ (d : Option Cube). EachHas (lot_of (tables_of v.system) x) b d) c.1
+        (carries_has (cell_at v.cells x) (lot_of (tables_of v.system) x) b (w.cube x) (mid.cubes x)) in
         record {
           aims = grow_aim;
           then = Some (grown n c.0);
-          says = subst (λ (d : Option Cube). Own d (order.Grow n) (Ok reply.Plain) (Some (grown n c.0))) (sym c.1) (inl (Yes reply.Plain (Some (grown n c.0)), refl, (refl, refl)));
+          says =
+              subst (λ (d : Option Cube). Own d (order.Grow n) (Ok reply.Plain) (Some (grown n c.0))) (sym c.1)
+              (inl (Yes reply.Plain (Some (grown n c.0)), refl, (refl, refl)));
           faulty = own_fault;
           shows = shown_grown (groups_of (tables_of v.system) x) lot.groups n (row_at v.system.names x) c.0 more (entry_here v s w stands p x less at);
           each = subst (λ (l : LotView). EachHas l b (Some (grown n c.0))) (plan_lot (tables_of v.system) x n lot plan)

@@ -20,7 +20,8 @@ module _ (v : VolumeView) (room : RoomContent) (n : ℕ) (s : DiskState) (none :
   lists : (u : World) → StandsFor v s u → Answers v v s s (Asks Cubes) u (meant (Ok (Listed n)) room)
   lists u stands = record {
     then = u;
-    step = (ap (λ (es : List Entry). Ok (reply.Listed es room.rows)) none ∙ ap (λ (rs : List CubeRow). Ok (reply.Listed [] rs)) (rows ∙ rows_shown v s u stands), refl);
+    step =
+        (ap (λ (es : List Entry). Ok (reply.Listed es room.rows)) none ∙ ap (λ (rs : List CubeRow). Ok (reply.Listed [] rs)) (rows ∙ rows_shown v s u stands), refl);
     stands = stands;
     found = tt;
     lots = λ x broken still. refl;

@@ -44,7 +44,8 @@ prefix_both [] [] a b = refl
 prefix_both [] (d ∷ q) a b = absurd (cc b)
 prefix_both (c ∷ p) [] a b = absurd (cc a)
 prefix_both (c ∷ p) (d ∷ q) a b =
-    ap (λ (x : List ℕ). x ∷ p) (same_name c d (and_left (is_same_name c d) _ a)) ∙ ap (λ (x : List (List ℕ)). d ∷ x) (prefix_both p q (and_right (is_same_name c d) _ a) (and_right (is_same_name d c) _ b))
+    ap (λ (x : List ℕ). x ∷ p) (same_name c d (and_left (is_same_name c d) _ a))
+    ∙ ap (λ (x : List (List ℕ)). d ∷ x) (prefix_both p q (and_right (is_same_name c d) _ a) (and_right (is_same_name d c) _ b))
 
 path_same : (p q : List (List ℕ)) → is_same_path p q ≡ true → p ≡ q
 path_same p q is = prefix_both p q (and_left (is_prefix p q) _ is) (and_right (is_prefix p q) _ is)
@@ -93,10 +94,12 @@ some_path (suc mark) txt p is = (λ none. absurd (omega (arith, none)), ap (or p
     or p None = p
     or p (Some q) = q
 
-row_says : (slots : ℕ) (m : ℕ → List ℕ) (s : ℕ) (p : List (List ℕ)) → path_of (row_in slots m s) ≡ Some p → (s < slots) × (mark_at m s ≢ 0) × (path_names (text_at m s) ≡ p)
+row_says : (slots : ℕ) (m : ℕ → List ℕ) (s : ℕ) (p : List (List ℕ)) → path_of (row_in slots m s) ≡ Some p
+    → (s < slots) × (mark_at m s ≢ 0) × (path_names (text_at m s) ≡ p)
 row_says slots m s p is = by (nat_lt s slots) refl is
   where
-    by : (b : Bool) → nat_lt s slots ≡ b → path_of (if b then row_of (mark_at m s) (text_at m s) else None) ≡ Some p → (s < slots) × (mark_at m s ≢ 0) × (path_names (text_at m s) ≡ p)
+    by : (b : Bool) → nat_lt s slots ≡ b → path_of (if b then row_of (mark_at m s) (text_at m s) else None) ≡ Some p
+        → (s < slots) × (mark_at m s ≢ 0) × (path_names (text_at m s) ≡ p)
     by true less e = let q = some_path (mark_at m s) (text_at m s) p e in (grind (arith, nat_tests, less), q.0, q.1)
     by false less e = absurd (cc e)
 
@@ -132,7 +135,8 @@ module _ (v : VolumeView) (s : DiskState) (w : World) (stands : StandsFor v s w)
   unfolding entry_path
   row_path x = of_row (row_at v.system.names x) ∙ ap entry_path (stands.shows.entries x) ∙ of_cube (w.cube x)
     where
-      of_row : (o : Option Row) → path_of o ≡ entry_path (option_map (λ (r : Row). record { path = r.path; groups = length (groups_of (tables_of v.system) x); offline = r.offline }) o)
+      of_row : (o : Option Row)
+          → path_of o ≡ entry_path (option_map (λ (r : Row). record { path = r.path; groups = length (groups_of (tables_of v.system) x); offline = r.offline }) o)
       of_row None = refl
       of_row (Some r) = refl
 
@@ -150,20 +154,26 @@ module _ (v : VolumeView) (s : DiskState) (w : World) (stands : StandsFor v s w)
   -- no cube has a path that was not found
   pub slot_none : (p : List (List ℕ)) → NoneHas v.system.names p → slot_with_path w p ≡ None
   unfolding slot_with_path
-  slot_none p none = find_none (λ y. has_path p (w.cube y)) 0 w.slots (λ k. true_or_false (has_path p (w.cube k)) (λ here. none k (row_path k ∙ path_had p (w.cube k) here)))
+  slot_none p none =
+      find_none (λ y. has_path p (w.cube y)) 0 w.slots (λ k. true_or_false (has_path p (w.cube k)) (λ here. none k (row_path k ∙ path_had p (w.cube k) here)))
 
   row_shown : (x : ℕ) → at_most_one (shown_row v x (row_at v.system.names x)) ≡ cube_row_at x (w.cube x)
   row_shown x = by (row_at v.system.names x) (w.cube x) (stands.shows.entries x) (stands.cubes x)
     where
-      by : (o : Option Row) (c : Option Cube) → option_map (λ (r : Row). record { path = r.path; groups = length (groups_of (tables_of v.system) x); offline = r.offline }) o ≡ option_map cube_entry c → Carries (cell_at v.cells x) (lot_of (tables_of v.system) x) s c
+      by : (o : Option Row) (c : Option Cube)
+          → option_map (λ (r : Row). record { path = r.path; groups = length (groups_of (tables_of v.system) x); offline = r.offline }) o
+          ≡ option_map cube_entry c
+          → Carries (cell_at v.cells x) (lot_of (tables_of v.system) x) s c
           → at_most_one (shown_row v x o) ≡ cube_row_at x c
       by None None e carries = refl
       by None (Some c) e carries = absurd (cc e)
       by (Some r) None e carries = absurd (cc e)
       by (Some r) (Some c) e carries =
-          let same : record { path = r.path; groups = length (groups_of (tables_of v.system) x); offline = r.offline } ≡ cube_entry c = ap (or (cube_entry c)) e in
+          let same : record { path = r.path; groups = length (groups_of (tables_of v.system) x); offline = r.offline } ≡ cube_entry c = ap
+          (or (cube_entry c)) e in
           ap (λ (y : Entry). record { slot = x; groups = y.groups; state = cell_state (cell_at v.cells x) y.offline; path = y.path } ∷ []) same
-          ∙ ap (λ z. record { slot = x; groups = c.groups; state = z; path = c.path } ∷ []) (sym (carried_state (cell_at v.cells x) (lot_of (tables_of v.system) x) s c carries))
+          ∙ ap (λ z. record { slot = x; groups = c.groups; state = z; path = c.path } ∷ [])
+          (sym (carried_state (cell_at v.cells x) (lot_of (tables_of v.system) x) s c carries))
         where
           or : Entry → Option Entry → Entry
           or d None = d
@@ -176,7 +186,9 @@ module _ (v : VolumeView) (s : DiskState) (w : World) (stands : StandsFor v s w)
     where
       all : (xs : List ℕ) → flat_map (λ x. at_most_one (shown_row v x (row_at v.system.names x))) xs ≡ flat_map (λ x. cube_row_at x (w.cube x)) xs
       all [] = refl
-      all (x ∷ xs) = ap (λ ys. ys ++ flat_map (λ y. at_most_one (shown_row v y (row_at v.system.names y))) xs) (row_shown x) ∙ ap (λ ys. cube_row_at x (w.cube x) ++ ys) (all xs)
+      all (x ∷ xs) =
+          ap (λ ys. ys ++ flat_map (λ y. at_most_one (shown_row v y (row_at v.system.names y))) xs) (row_shown x)
+          ∙ ap (λ ys. cube_row_at x (w.cube x) ++ ys) (all xs)
 
 -- ---- rows that were listed so far
 
@@ -197,7 +209,8 @@ shown_none v = refl
 pub shown_more : (v : VolumeView) (n : ℕ) → shown_rows v (n + 1) ≡ shown_rows v n ++ at_most_one (shown_row v n (row_at v.system.names n))
 unfolding shown_rows
 shown_more v n =
-    ap (λ (k : ℕ). flat_map row (range_with_len 0 k)) next ∙ ap (flat_map row) (range_more 0 n n (omega arith)) ∙ flat_map-append row (range_with_len 0 n) (n ∷ []) ∙ ap (λ ys. flat_map row (range_with_len 0 n) ++ ys) (append_none (row n))
+    ap (λ (k : ℕ). flat_map row (range_with_len 0 k)) next ∙ ap (flat_map row) (range_more 0 n n (omega arith))
+    ∙ flat_map-append row (range_with_len 0 n) (n ∷ []) ∙ ap (λ ys. flat_map row (range_with_len 0 n) ++ ys) (append_none (row n))
   where
     next : n + 1 ≡ suc n
     next = omega arith

@@ -61,7 +61,8 @@ module _ (t : Tables) (w : World) (has n : ℕ) (free : world.free_groups w ≡ 
       let few = is.0 in let less = is.1 in
       let full : nat_lt 64 (has + n) ≡ false = grind (arith, nat_tests) in
       let lack : nat_lt (world.free_groups w) n ≡ true = grind (arith, nat_tests) in
-      ap (λ b. refuse_if b why.CubeFull (refuse_if (nat_lt (world.free_groups w) n) why.NoGroups a)) full ∙ ap (λ b. refuse_if b why.NoGroups a) lack ∙ ap (λ z. Refuse z) (cc same)
+      ap (λ b. refuse_if b why.CubeFull (refuse_if (nat_lt (world.free_groups w) n) why.NoGroups a)) full
+      ∙ ap (λ b. refuse_if b why.NoGroups a) lack ∙ ap (λ z. Refuse z) (cc same)
   cannot_aim r y is same = absurd is
 
 -- each has a cause
@@ -93,7 +94,8 @@ module _ (test : ℕ → Bool) where
       (λ other. find_later a n s (least a (omega (arith, low, other))) (find_least (a + 1) n s (omega (arith, low, other)) (omega (arith, high)) here least))
       (cases_eq a s)
 
-  find_rest : (a n : ℕ) (b : Bool) → test a ≡ b → cond b (Some a) (find test (range_with_len (a + 1) n)) ≡ None → (test a ≡ false) × (find test (range_with_len (a + 1) n) ≡ None)
+  find_rest : (a n : ℕ) (b : Bool) → test a ≡ b → cond b (Some a) (find test (range_with_len (a + 1) n)) ≡ None
+      → (test a ≡ false) × (find test (range_with_len (a + 1) n) ≡ None)
   find_rest a n true is fails = absurd (cc fails)
   find_rest a n false is fails = (is, fails)
 
@@ -105,14 +107,17 @@ module _ (test : ℕ → Bool) where
 
   find_never : (a n : ℕ) → ((k : ℕ) → k < a + n → test k ≡ false) → find test (range_with_len a n) ≡ None
   find_never a zero none = refl
-  find_never a (suc n) none = ap (λ b. cond b (Some a) (find test (range_with_len (a + 1) n))) (none a (omega arith)) ∙ find_never (a + 1) n (λ k less. none k (omega (arith, less)))
+  find_never a (suc n) none =
+      ap (λ b. cond b (Some a) (find test (range_with_len (a + 1) n))) (none a (omega arith)) ∙ find_never (a + 1) n (λ k less. none k (omega (arith, less)))
 
-is_none_by : (o : Option Row) (c : Option Cube) (gs : ℕ) → option_map (λ (r : Row). record { path = r.path; groups = gs; offline = r.offline }) o ≡ option_map cube_entry c → o ≡ None → c ≡ None
+is_none_by : (o : Option Row) (c : Option Cube) (gs : ℕ)
+    → option_map (λ (r : Row). record { path = r.path; groups = gs; offline = r.offline }) o ≡ option_map cube_entry c → o ≡ None → c ≡ None
 is_none_by None None gs e is = refl
 is_none_by None (Some c) gs e is = absurd (cc e)
 is_none_by (Some r) c gs e is = absurd (cc is)
 
-is_some_by : (o : Option Row) (c : Option Cube) (gs : ℕ) → option_map (λ (r : Row). record { path = r.path; groups = gs; offline = r.offline }) o ≡ option_map cube_entry c → o ≢ None → not (is_some c) ≡ false
+is_some_by : (o : Option Row) (c : Option Cube) (gs : ℕ)
+    → option_map (λ (r : Row). record { path = r.path; groups = gs; offline = r.offline }) o ≡ option_map cube_entry c → o ≢ None → not (is_some c) ≡ false
 is_some_by None c gs e is = absurd (is refl)
 is_some_by (Some r) None gs e is = absurd (cc e)
 is_some_by (Some r) (Some c) gs e is = refl
@@ -142,7 +147,8 @@ none_not_some (Some c) is live = absurd (cc is)
 -- the slot of a cube is one of the image's
 pub slot_of_cube : (v : VolumeView) (s : DiskState) (w : World) → StandsFor v s w → (y : ℕ) → IsSome (w.cube y) → y < v.system.names.slots
 slot_of_cube v s w stands y live = ⊎_elim (λ less. less)
-    (λ beyond. absurd (none_not_some (w.cube y) (no_cube s.now (tables_of v.system) w y stands.tables.now.has stands.shows beyond) live)) (cases_lt y v.system.names.slots)
+    (λ beyond. absurd (none_not_some (w.cube y) (no_cube s.now (tables_of v.system) w y stands.tables.now.has stands.shows beyond) live))
+    (cases_lt y v.system.names.slots)
 
 module _ (v : VolumeView) (s : DiskState) (w : World) (stands : StandsFor v s w) (p : List (List ℕ)) (n : ℕ) where
   free_count : world.free_groups w ≡ length (free_groups (tables_of v.system))
@@ -159,13 +165,15 @@ module _ (v : VolumeView) (s : DiskState) (w : World) (stands : StandsFor v s w)
   free_at : (x : ℕ) → IsFreeSlot (tables_of v.system) x → free_slot w ≡ Some x
   unfolding free_slot
   free_at x is = find_least (λ y. not (is_some (w.cube y))) 0 w.slots x (omega arith) (let low = is.low in omega (arith, low, stands.shows.slots))
-      (ap (λ (c : Option Cube). not (is_some c)) (is_none_by ((tables_of v.system).row x) (w.cube x) (length (groups_of (tables_of v.system) x)) (stands.shows.entries x) is.free))
+      (ap (λ (c : Option Cube). not (is_some c))
+      (is_none_by ((tables_of v.system).row x) (w.cube x) (length (groups_of (tables_of v.system) x)) (stands.shows.entries x) is.free))
       (λ k less. is_some_by ((tables_of v.system).row k) (w.cube k) (length (groups_of (tables_of v.system) k)) (stands.shows.entries k) (is.least k less))
 
   free_none : NoneFree (tables_of v.system) → free_slot w ≡ None
   unfolding free_slot
   free_none all = find_never (λ y. not (is_some (w.cube y))) 0 w.slots
-      (λ k less. is_some_by ((tables_of v.system).row k) (w.cube k) (length (groups_of (tables_of v.system) k)) (stands.shows.entries k) (all k (omega (arith, less, stands.shows.slots))))
+      (λ k less. is_some_by ((tables_of v.system).row k) (w.cube k) (length (groups_of (tables_of v.system) k)) (stands.shows.entries k)
+      (all k (omega (arith, less, stands.shows.slots))))
 
   fresh_aim : ¬ HasPath (tables_of v.system) p → aim w (Asks (Create p n)) ≡ to_free w p n (free_slot w)
   fresh_aim never = ap (λ (o : Option ℕ). refuse_if (is_some o) why.Exists (to_free w p n (free_slot w))) (no_path never)
@@ -190,10 +198,12 @@ module _ (v : VolumeView) (s : DiskState) (w : World) (stands : StandsFor v s w)
   refused_aim code.NoSlot y is same = fresh_aim is.0 ∙ ap (λ (o : Option ℕ). to_free w p n o) (free_none is.1) ∙ ap (λ z. Refuse z) (cc same)
   refused_aim code.CubeFull y is same =
       let x = free_some is.1 in
-      fresh_aim is.0 ∙ ap (λ (o : Option ℕ). to_free w p n o) x.1 ∙ cannot_aim (tables_of v.system) w 0 n free_count (At x.0 (order.Create p n)) code.CubeFull y is.2 same
+      fresh_aim is.0 ∙ ap (λ (o : Option ℕ). to_free w p n o) x.1
+      ∙ cannot_aim (tables_of v.system) w 0 n free_count (At x.0 (order.Create p n)) code.CubeFull y is.2 same
   refused_aim code.NoGroups y is same =
       let x = free_some is.1 in
-      fresh_aim is.0 ∙ ap (λ (o : Option ℕ). to_free w p n o) x.1 ∙ cannot_aim (tables_of v.system) w 0 n free_count (At x.0 (order.Create p n)) code.NoGroups y is.2 same
+      fresh_aim is.0 ∙ ap (λ (o : Option ℕ). to_free w p n o) x.1
+      ∙ cannot_aim (tables_of v.system) w 0 n free_count (At x.0 (order.Create p n)) code.NoGroups y is.2 same
   refused_aim r y is same = absurd is.2
 
   -- a line that is refused
@@ -208,13 +218,17 @@ module _ (v : VolumeView) (s : DiskState) (w : World) (stands : StandsFor v s w)
 
   module _ (lot : LotView) (plan : PlansCreate (tables_of v.system) p n lot) where
     pub makes_aim : aim w (Asks (Create p n)) ≡ At lot.slot (order.Create p n)
-    makes_aim = fresh_aim plan.fresh ∙ ap (λ (o : Option ℕ). to_free w p n o) (free_at lot.slot plan.slot) ∙ can_aim (tables_of v.system) w 0 n free_count (At lot.slot (order.Create p n)) plan.can
+    makes_aim =
+        fresh_aim plan.fresh ∙ ap (λ (o : Option ℕ). to_free w p n o) (free_at lot.slot plan.slot)
+        ∙ can_aim (tables_of v.system) w 0 n free_count (At lot.slot (order.Create p n)) plan.can
 
     plan_is : IsPlanned (tables_of v.system) lot
     plan_is = free_is (tables_of v.system) n lot plan.slot.low plan.base plan.groups
 
     pub slot_free : w.cube lot.slot ≡ None
-    slot_free = is_none_by ((tables_of v.system).row lot.slot) (w.cube lot.slot) (length (groups_of (tables_of v.system) lot.slot)) (stands.shows.entries lot.slot) plan.slot.free
+    slot_free =
+        is_none_by ((tables_of v.system).row lot.slot) (w.cube lot.slot) (length (groups_of (tables_of v.system) lot.slot))
+        (stands.shows.entries lot.slot) plan.slot.free
 
     -- the planned lot, as the frame has it
     lot_planned : (k : ℕ) → extent lot k → extent (planned_lot (tables_of v.system) lot.slot n) k
@@ -222,7 +236,9 @@ module _ (v : VolumeView) (s : DiskState) (w : World) (stands : StandsFor v s w)
         (subst (λ (b : ℕ). extent (record { slot = lot.slot; base = b; groups = lot.groups }) k) plan.base own)
       where
         groups : lot.groups ≡ groups_of (tables_of v.system) lot.slot ++ take n (free_groups (tables_of v.system))
-        groups = plan.groups ∙ ap (λ (gs : List ℕ). gs ++ take n (free_groups (tables_of v.system))) (sym (none_has s.now (tables_of v.system) stands.tables.now.has lot.slot plan.slot.free))
+        groups =
+            plan.groups ∙ ap (λ (gs : List ℕ). gs ++ take n (free_groups (tables_of v.system)))
+            (sym (none_has s.now (tables_of v.system) stands.tables.now.has lot.slot plan.slot.free))
 
     pub create_may : OrderMayWrite (tables_of v.system) lot.slot (order.Create p n) (extent lot)
     create_may = record {
@@ -251,7 +267,9 @@ module _ (v : VolumeView) (s : DiskState) (w : World) (stands : StandsFor v s w)
     pub create_memory : Answers v v s s (Asks (Create p n)) w (Err reply.Memory)
     create_memory = record {
       then = with_slot w lot.slot (w.cube lot.slot);
-      step = subst (λ (z : Aim). Goes w z (Err reply.Memory) (with_slot w lot.slot (w.cube lot.slot))) (sym makes_aim) (w.cube lot.slot, own_stays (Err reply.Memory) (inr (inr (refl, refl, refl))), refl);
+      step =
+          subst (λ (z : Aim). Goes w z (Err reply.Memory) (with_slot w lot.slot (w.cube lot.slot))) (sym makes_aim)
+          (w.cube lot.slot, own_stays (Err reply.Memory) (inr (inr (refl, refl, refl))), refl);
       stands = put_again v s w lot.slot stands;
       found = subst (λ (z : Aim). LineFound (tables_of v.system) s.now z (Err reply.Memory) w (with_slot w lot.slot (w.cube lot.slot))) (sym makes_aim) tt;
       lots = λ x broken still. refl;
@@ -265,7 +283,8 @@ module _ (v : VolumeView) (s : DiskState) (w : World) (stands : StandsFor v s w)
     made_lot = ap (λ (b : ℕ). record { slot = lot.slot; base = b; groups = lot.groups }) plan.base
 
     -- a cube that was made in the lot carries its record
-    pub made_carries : (b : DiskState) (e : CubeView) → e.lot ≡ lot → e.stopped ≡ false → Holds form_one Plain (fresh (Dir Nil) 0) e b → Carries (Open e) lot b (Some (new_cube p n))
+    pub made_carries : (b : DiskState) (e : CubeView) → e.lot ≡ lot → e.stopped ≡ false → Holds form_one Plain (fresh (Dir Nil) 0) e b
+        → Carries (Open e) lot b (Some (new_cube p n))
     made_carries b e same live holds = record {
       lot_is = same;
       record_is = record {
@@ -287,6 +306,8 @@ module _ (v : VolumeView) (s : DiskState) (w : World) (stands : StandsFor v s w)
       faulty = create_fault;
       shows = ap (λ (k : ℕ). Some (record { path = p; groups = k; offline = false })) count_is;
       each = subst (λ (l : LotView). EachHas l b (Some (new_cube p n))) made_lot (carries_has (Open e) lot b (Some (new_cube p n)) carries);
-      carries = λ done. subst (λ (l : LotView). Carries (Open e) l t (Some (new_cube p n))) made_lot (carries_where (Open e) lot b t (Some (new_cube p n)) (λ live. kept) carries);
+      carries =
+          λ done. subst (λ (l : LotView). Carries (Open e) l t (Some (new_cube p n))) made_lot
+          (carries_where (Open e) lot b t (Some (new_cube p n)) (λ live. kept) carries);
       same = λ broken still. absurd still;
     }

@@ -96,18 +96,22 @@ why_found lot i word.Stopped d = tt
 why_found lot i word.Offline d = tt
 
 -- a cube that is mounted or offline refuses a mount
-pub unmounted_order : {D : Type 0} (state : D → DiskState) (left : D → ℕ → Image → List ℕ → Type 0) (lot : LotView) (offline : Bool) (cell : Cell) (room : RoomContent) (r : Refusal) (s : StateWord) (a : D)
+pub unmounted_order : {D : Type 0} (state : D → DiskState) (left : D → ℕ → Image → List ℕ
+    → Type 0) (lot : LotView) (offline : Bool) (cell : Cell) (room : RoomContent) (r : Refusal) (s : StateWord) (a : D)
     → IsCellOf lot cell → s ≡ cell_state cell offline → mount_refusal s ≡ Some r → AnswersOrder state left lot order.Mount offline cell cell room (Err r) a a
-unmounted_order state left lot offline cell room r s a at is refuses = refused_order state left lot order.Mount offline cell room r (mount_why s) a (why_because s r refuses) at
+unmounted_order state left lot offline cell room r s a at is refuses =
+    refused_order state left lot order.Mount offline cell room r (mount_why s) a (why_because s r refuses) at
     (λ c rec. (
-      subst (λ (z : StateWord). IfMountable z (MountFinds c c.content) (No (mount_why s))) (is ∙ sym (record_state lot offline cell (state a) c rec)) (why_plain s (MountFinds c c.content) r refuses),
+      subst (λ (z : StateWord). IfMountable z (MountFinds c c.content) (No (mount_why s)))
+          (is ∙ sym (record_state lot offline cell (state a) c rec)) (why_plain s (MountFinds c c.content) r refuses),
       why_found lot (state a).now s (Some c),
     ))
 
 -- ---- a mount
 
 -- what a mount of a lot says
-pub record MountSays {D : Type 0} (state : D → DiskState) (left : D → ℕ → Image → List ℕ → Type 0) (lot : LotView) (r : Result CubeView CubeFault) (a b : D) : Type 0 where
+pub record MountSays {D : Type 0} (state : D → DiskState) (left : D → ℕ → Image → List ℕ → Type 0) (lot : LotView)
+    (r : Result CubeView CubeFault) (a b : D) : Type 0 where
   pub starts : IfOk r (λ e. (e.lot ≡ lot) × (e.set ≡ []) × (e.stopped ≡ false))
   pub memory : IsErrOf r cube.Memory → b ≡ a
   pub failed : Caused state cube.Disk r a b
@@ -116,10 +120,13 @@ pub record MountSays {D : Type 0} (state : D → DiskState) (left : D → ℕ �
   pub idle : (state a).tells ≡ true → RecoversNothing lot (state a).now → Within state left Nowhere a b
   pub recovered : (state a).tells ≡ true → IfOk r (λ e. RecoversSome lot (state a).now e.done)
   pub damaged : (state a).tells ≡ true → IfErr r (TellsDamage lot (state a).now)
-  pub mounted : (f : Form) (mode : Mode) (t : Tree) (k : ℕ) → (state a).tells ≡ true → Recovers lot (state a).now f mode t k → IfOk r (λ e. Holds f mode (fresh t k) e (state b))
-  pub crash : (f : Form) (mode : Mode) (h : History) → (state a).tells ≡ true → Every (extent lot) (state a) (HasHistory lot f mode h) → CrashStep state left (extent lot) (HasHistory lot f mode h) a b
+  pub mounted : (f : Form) (mode : Mode) (t : Tree) (k : ℕ) → (state a).tells ≡ true → Recovers lot (state a).now f mode t k
+      → IfOk r (λ e. Holds f mode (fresh t k) e (state b))
+  pub crash : (f : Form) (mode : Mode) (h : History) → (state a).tells ≡ true → Every (extent lot) (state a) (HasHistory lot f mode h)
+      → CrashStep state left (extent lot) (HasHistory lot f mode h) a b
 
-mount_faults : (r : Result CubeView CubeFault) (room : RoomContent) (m n : ℕ) → m ≤ n → (IsErrOf r cube.Disk → Rose m n) → RoseBy (fault_in (meant (told_mount r) room)) m n
+mount_faults : (r : Result CubeView CubeFault) (room : RoomContent) (m n : ℕ) → m ≤ n → (IsErrOf r cube.Disk → Rose m n)
+    → RoseBy (fault_in (meant (told_mount r) room)) m n
 mount_faults (Ok e) room m n le cause = omega (arith, le)
 mount_faults (Err cube.Memory) room m n le cause = omega (arith, le)
 mount_faults (Err cube.Disk) room m n le cause = cause refl
@@ -150,7 +157,8 @@ mountable_idle Stopped offline is = tt
 mountable_idle (Open e) offline is = stopped_by e.stopped is
 
 -- an idle cell carries what its lot has
-idle_carries : (cell : Cell) (lot : LotView) (a b : DiskState) (c : Cube) → IsIdle cell → EachHas lot b (Some c) → IsKnown lot b.now c c.content → Carries cell lot a (Some c) → Carries cell lot b (Some c)
+idle_carries : (cell : Cell) (lot : LotView) (a b : DiskState) (c : Cube) → IsIdle cell → EachHas lot b (Some c)
+    → IsKnown lot b.now c c.content → Carries cell lot a (Some c) → Carries cell lot b (Some c)
 idle_carries Closed lot a b c idle each known carries = record { each = each; known = known; is = carries.is }
 idle_carries Stopped lot a b c idle each known carries = record { each = each; known = known; is = carries.is }
 idle_carries (Open e) lot a b c idle each known carries = let r = carries.record_is in record {
@@ -178,7 +186,8 @@ broken_nothing lot i c Unread known broken = absurd broken
 same_count : (lot : LotView) (i : Image) (f : Form) (mode : Mode) (t : Tree) (k n : ℕ) → k ≡ n → Recovers lot i f mode t k → Recovers lot i f mode t n
 same_count lot i f mode t k n is r = subst (λ (x : ℕ). Recovers lot i f mode t x) is r
 
-module _ {D : Type 0} (state : D → DiskState) (left : D → ℕ → Image → List ℕ → Type 0) (lot : LotView) (cell : Cell) (offline : Bool) (room : RoomContent) (r : Result CubeView CubeFault) (a b : D)
+module _ {D : Type 0} (state : D → DiskState) (left : D → ℕ → Image → List ℕ → Type 0) (lot : LotView) (cell : Cell) (offline : Bool)
+    (room : RoomContent) (r : Result CubeView CubeFault) (a b : D)
     (can : mount_refusal (cell_state cell offline) ≡ None) (s : MountSays state left lot r a b) where
   module _ (c : Cube) (rec : IsRecord lot offline cell (state a) c) where
     can_mount : mount_refusal c.state ≡ None
@@ -193,12 +202,16 @@ module _ {D : Type 0} (state : D → DiskState) (left : D → ℕ → Image → 
     -- each crash leaves what the record says
     leaves_by : (x : Content) → c.content ≡ x → LeavesOnly left a b (With (state a).streams.aside (λ i. Has lot i (Some c)))
     leaves_by (Sound h) is = sound_leaves state left lot c h is a b (s.crash c.form c.mode h rec.told
-        (subst (λ (x : Content). Every (extent lot) (state a) (λ i. HasContent lot i c.form c.mode x)) is (carries_has cell lot (state a) (Some c) rec.carries)))
-    leaves_by (Broken rules) is = record { each = λ m i out l. ⊎_elim (λ before. inl before) (λ here. inr (subst (λ (x : Content). HasContent lot i c.form c.mode x) (sym is) tt, here.1)) (s.within.left_new m i out l) }
-    leaves_by Unread is = record { each = λ m i out l. ⊎_elim (λ before. inl before) (λ here. inr (subst (λ (x : Content). HasContent lot i c.form c.mode x) (sym is) tt, here.1)) (s.within.left_new m i out l) }
+        (subst (λ (x : Content). Every (extent lot) (state a) (λ i. HasContent lot i c.form c.mode x)) is
+        (carries_has cell lot (state a) (Some c) rec.carries)))
+    leaves_by (Broken rules) is =
+        record { each = λ m i out l. ⊎_elim (λ before. inl before) (λ here. inr (subst (λ (x : Content). HasContent lot i c.form c.mode x) (sym is) tt, here.1)) (s.within.left_new m i out l) }
+    leaves_by Unread is =
+        record { each = λ m i out l. ⊎_elim (λ before. inl before) (λ here. inr (subst (λ (x : Content). HasContent lot i c.form c.mode x) (sym is) tt, here.1)) (s.within.left_new m i out l) }
 
     still_carries : Within state left Nowhere a b → Carries cell lot (state b) (Some c)
-    still_carries still = carries_kept lot (state a) (state b) (kept_within state left (extent lot) Nowhere a b (λ k own never. never) still) cell (Some c) rec.carries
+    still_carries still =
+        carries_kept lot (state a) (state b) (kept_within state left (extent lot) Nowhere a b (λ k own never. never) still) cell (Some c) rec.carries
 
     -- a broken cube's lot is not written
     spares_broken : IsBrokenContent c.content → Within state left Nowhere a b
@@ -208,20 +221,26 @@ module _ {D : Type 0} (state : D → DiskState) (left : D → ℕ → Image → 
     fault_carries : (x : Content) → c.content ≡ x → Carries cell lot (state b) (Some c)
     fault_carries (Sound h) is = idle_carries cell lot (state a) (state b) c idle
         (sound_each state left lot c h is a b (s.crash c.form c.mode h rec.told
-        (subst (λ (x : Content). Every (extent lot) (state a) (λ i. HasContent lot i c.form c.mode x)) is (carries_has cell lot (state a) (Some c) rec.carries))))
+        (subst (λ (x : Content). Every (extent lot) (state a) (λ i. HasContent lot i c.form c.mode x)) is
+        (carries_has cell lot (state a) (Some c) rec.carries))))
         (subst (λ (x : Content). IsKnown lot (state b).now c x) (sym is) tt) rec.carries
-    fault_carries (Broken rules) is = still_carries (s.idle rec.told (subst (λ (x : Content). IsKnown lot (state a).now c x) is (carries_known cell lot (state a) c rec.carries)).nothing)
+    fault_carries (Broken rules) is =
+        still_carries (s.idle rec.told (subst (λ (x : Content). IsKnown lot (state a).now c x) is (carries_known cell lot (state a) c rec.carries)).nothing)
     fault_carries Unread is = idle_carries cell lot (state a) (state b) c idle
         (λ i agrees. subst (λ (x : Content). HasContent lot i c.form c.mode x) (sym is) tt)
-        (subst (λ (x : Content). IsKnown lot (state b).now c x) (sym is) (subst (λ (x : Content). IsKnown lot (state a).now c x) is (carries_known cell lot (state a) c rec.carries))) rec.carries
+        (subst (λ (x : Content). IsKnown lot (state b).now c x) (sym is)
+        (subst (λ (x : Content). IsKnown lot (state a).now c x) is (carries_known cell lot (state a) c rec.carries))) rec.carries
 
     -- a cube that was mounted with the tree of one of the history's counts
-    mount_found : (e : CubeView) → r ≡ Ok e → (h : History) (j : ℕ) → j ≤ length h.since → Recovers lot (state a).now c.form c.mode (tree_at h j) (floor h + j) → MountFinds c c.content (on_mount c h j)
+    mount_found : (e : CubeView) → r ≡ Ok e → (h : History) (j : ℕ) → j ≤ length h.since
+        → Recovers lot (state a).now c.form c.mode (tree_at h j) (floor h + j) → MountFinds c c.content (on_mount c h j)
         → Becomes state left lot order.Mount (Open e) a b c (meant (told_mount (Ok e)) room)
     mount_found e is h j few found finds =
-        let starts : (e.lot ≡ lot) × (e.set ≡ []) × (e.stopped ≡ false) = subst (λ q. IfOk q (λ (x : CubeView). (x.lot ≡ lot) × (x.set ≡ []) × (x.stopped ≡ false))) is s.starts in
+        let starts : (e.lot ≡ lot) × (e.set ≡ []) × (e.stopped ≡ false) = subst
+        (λ q. IfOk q (λ (x : CubeView). (x.lot ≡ lot) × (x.set ≡ []) × (x.stopped ≡ false))) is s.starts in
         let holds : Holds c.form c.mode (fresh (tree_at h j) (floor h + j)) e (state b) =
-        subst (λ q. IfOk q (λ (x : CubeView). Holds c.form c.mode (fresh (tree_at h j) (floor h + j)) x (state b))) is (s.mounted c.form c.mode (tree_at h j) (floor h + j) rec.told found) in
+        subst (λ q. IfOk q (λ (x : CubeView). Holds c.form c.mode (fresh (tree_at h j) (floor h + j)) x (state b))) is
+        (s.mounted c.form c.mode (tree_at h j) (floor h + j) rec.told found) in
         let count : e.done ≡ floor h + j = (let n = (holds.runs starts.2).count in omega (arith, n)) in
         record {
           then = with_state word.Mounted (with_history (cut_to h j) c);
@@ -250,21 +269,26 @@ module _ {D : Type 0} (state : D → DiskState) (left : D → ℕ → Image → 
 
     mount_some : (e : CubeView) → r ≡ Ok e → (x : Content) → c.content ≡ x → HasContent lot (state a).now c.form c.mode x → IsKnown lot (state a).now c x
         → Becomes state left lot order.Mount (Open e) a b c (meant (told_mount (Ok e)) room)
-    mount_some e is (Sound h) content has known = mount_found e is h has.0 has.1 has.2 (subst (λ (x : Content). MountFinds c x (on_mount c h has.0)) (sym content) (has.0, has.1, refl))
+    mount_some e is (Sound h) content has known =
+        mount_found e is h has.0 has.1 has.2 (subst (λ (x : Content). MountFinds c x (on_mount c h has.0)) (sym content) (has.0, has.1, refl))
     mount_some e is (Broken rules) content has known =
-        let some : RecoversSome lot (state a).now e.done = subst (λ q. IfOk q (λ (x : CubeView). RecoversSome lot (state a).now x.done)) is (s.recovered rec.told) in
+        let some : RecoversSome lot (state a).now e.done = subst (λ q. IfOk q (λ (x : CubeView). RecoversSome lot (state a).now x.done)) is
+        (s.recovered rec.told) in
         absurd (known.nothing some.form some.mode some.tree e.done some.recovers)
     mount_some e is Unread content has known =
-        let some : RecoversSome lot (state a).now e.done = subst (λ q. IfOk q (λ (x : CubeView). RecoversSome lot (state a).now x.done)) is (s.recovered rec.told) in
+        let some : RecoversSome lot (state a).now e.done = subst (λ q. IfOk q (λ (x : CubeView). RecoversSome lot (state a).now x.done)) is
+        (s.recovered rec.told) in
         let first = recovers_first lot (state a).now some.form some.mode some.tree e.done some.recovers in
         let found : Recovers lot (state a).now c.form c.mode some.tree e.done =
-        subst (λ (g : Form). Recovers lot (state a).now g c.mode some.tree e.done) (first.0 ∙ sym known.0) (subst (λ (m : Mode). Recovers lot (state a).now some.form m some.tree e.done) (first.1 ∙ sym known.1) some.recovers) in
+        subst (λ (g : Form). Recovers lot (state a).now g c.mode some.tree e.done) (first.0 ∙ sym known.0)
+        (subst (λ (m : Mode). Recovers lot (state a).now some.form m some.tree e.done) (first.1 ∙ sym known.1) some.recovers) in
         let h = fresh some.tree e.done in
         let count : e.done ≡ floor h + 0 = omega arith in
         mount_found e is h 0 (omega arith) (same_count lot (state a).now c.form c.mode some.tree e.done (floor h + 0) count found)
         (subst (λ (x : Content). MountFinds c x (on_mount c h 0)) (sym content) (inr (some.tree, e.done, refl)))
 
-    damage_finds : (y : Rule) → TellsDamage lot (state a).now (cube.Damaged y) → (x : Content) → HasContent lot (state a).now c.form c.mode x → IsKnown lot (state a).now c x
+    damage_finds : (y : Rule) → TellsDamage lot (state a).now (cube.Damaged y) → (x : Content)
+        → HasContent lot (state a).now c.form c.mode x → IsKnown lot (state a).now c x
         → MountFinds c x (No (why.Damaged (rule_number y)))
     damage_finds y damage (Sound h) has known = absurd (damage.0 c.form c.mode (tree_at h has.0) (floor h + has.0) has.2)
     damage_finds y damage (Broken rules) has known = (rule_number y, known.named.all y damage.1, refl)
@@ -298,14 +322,17 @@ module _ {D : Type 0} (state : D → DiskState) (left : D → ℕ → Image → 
           then = c;
           own = inl (
             No (why.Damaged (rule_number y)),
-            mount_plain (No (why.Damaged (rule_number y))) (damage_finds y damage c.content (record_now lot offline cell (state a) c rec) (carries_known cell lot (state a) c rec.carries)),
+            mount_plain (No (why.Damaged (rule_number y)))
+                (damage_finds y damage c.content (record_now lot offline cell (state a) c rec) (carries_known cell lot (state a) c rec.carries)),
             (refl, refl),
           );
           carries = still_carries still.within;
           entry = refl;
           found = damage.0;
           leaves = leaves_by c.content refl;
-          frame = within_more state left Nowhere (WritesIn lot order.Mount (Err (Because (why.Damaged (rule_number y))))) a b (λ k never. absurd never) still.within;
+          frame =
+              within_more state left Nowhere (WritesIn lot order.Mount (Err (Because (why.Damaged (rule_number y))))) a b
+              (λ k never. absurd never) still.within;
           spares = spares_broken;
         }
 
@@ -313,7 +340,8 @@ module _ {D : Type 0} (state : D → DiskState) (left : D → ℕ → Image → 
     mount_each (Ok e) is = mount_some e is c.content refl (record_now lot offline cell (state a) c rec) (carries_known cell lot (state a) c rec.carries)
     mount_each (Err fault) is = mount_none fault is
 
-  cell_mounted : (q : Result CubeView CubeFault) → IfOk q (λ e. (e.lot ≡ lot) × (e.set ≡ []) × (e.stopped ≡ false)) → IsCellOf lot cell → IsCellOf lot (cell_with cell q)
+  cell_mounted : (q : Result CubeView CubeFault) → IfOk q (λ e. (e.lot ≡ lot) × (e.set ≡ []) × (e.stopped ≡ false)) → IsCellOf lot cell
+      → IsCellOf lot (cell_with cell q)
   cell_mounted (Ok e) starts at = starts.0
   cell_mounted (Err fault) starts at = at
 

@@ -21,7 +21,8 @@ each_cond P x xs false holds all = all
 each_range : (P : ℕ → Type 0) (test : ℕ → Bool) (a n : ℕ) → ((x : ℕ) → x < a + n → test x ≡ true → P x) → Each P (filter test (range_with_len a n))
 each_range P test a zero holds = tt
 each_range P test a (suc n) holds =
-    each_cond P a (filter test (range_with_len (a + 1) n)) (test a) (holds a (omega arith)) (each_range P test (a + 1) n (λ x less. holds x (omega (arith, less))))
+    each_cond P a (filter test (range_with_len (a + 1) n)) (test a) (holds a (omega arith))
+    (each_range P test (a + 1) n (λ x less. holds x (omega (arith, less))))
 
 each_flat : (P : ℕ → Type 0) (f : ℕ → List ℕ) (xs : List ℕ) → ((x : ℕ) → Each P (f x)) → Each P (flat_map f xs)
 each_flat P f [] all = tt
@@ -71,7 +72,8 @@ module _ (t : Tables) where
       (each_take (MayHave s) n (free_groups t) (each_more (λ g. t.holder g ≡ None) (MayHave s) (free_groups t) (λ g is. inr is) free_none))
 
   planned_low : (s n : ℕ) → Each (λ g. g < t.groups) (groups_of t s ++ take n (free_groups t))
-  planned_low s n = each-append (λ g. g < t.groups) (groups_of t s) (take n (free_groups t)) (groups_low s) (each_take (λ g. g < t.groups) n (free_groups t) free_low)
+  planned_low s n =
+      each-append (λ g. g < t.groups) (groups_of t s) (take n (free_groups t)) (groups_low s) (each_take (λ g. g < t.groups) n (free_groups t) free_low)
 
 -- ---- lots
 
@@ -87,7 +89,8 @@ pub record IsPlanned (t : Tables) (lot : LotView) : Type 0 where
   pub may : Each (λ g. (t.holder g ≡ Some lot.slot) ⊎ (t.holder g ≡ None)) lot.groups
 
 -- the planned lots are such
-pub planned_is : (t : Tables) (s n : ℕ) (lot : LotView) → s < t.slots → lot.slot ≡ s → lot.base ≡ 32 + 256 * t.slots → lot.groups ≡ groups_of t s ++ take n (free_groups t) → IsPlanned t lot
+pub planned_is : (t : Tables) (s n : ℕ) (lot : LotView) → s < t.slots → lot.slot ≡ s → lot.base ≡ 32 + 256 * t.slots
+    → lot.groups ≡ groups_of t s ++ take n (free_groups t) → IsPlanned t lot
 planned_is t s n lot less slot base groups = record {
   of_image = record {
     slot = omega (arith, less, slot);
@@ -101,13 +104,15 @@ planned_is t s n lot less slot base groups = record {
 -- so are those of free groups alone
 pub free_is : (t : Tables) (n : ℕ) (lot : LotView) → lot.slot < t.slots → lot.base ≡ 32 + 256 * t.slots → lot.groups ≡ take n (free_groups t) → IsPlanned t lot
 free_is t n lot less base groups = record {
-  of_image = record { slot = less; base = base; low = subst (λ (gs : List ℕ). Each (λ g. g < t.groups) gs) (sym groups) (each_take (λ g. g < t.groups) n (free_groups t) (free_low t)) };
+  of_image =
+      record { slot = less; base = base; low = subst (λ (gs : List ℕ). Each (λ g. g < t.groups) gs) (sym groups) (each_take (λ g. g < t.groups) n (free_groups t) (free_low t)) };
   may = subst (λ (gs : List ℕ). Each (λ g. (t.holder g ≡ Some lot.slot) ⊎ (t.holder g ≡ None)) gs) (sym groups)
       (each_take (λ g. (t.holder g ≡ Some lot.slot) ⊎ (t.holder g ≡ None)) n (free_groups t)
       (each_more t (λ g. t.holder g ≡ None) (λ g. (t.holder g ≡ Some lot.slot) ⊎ (t.holder g ≡ None)) (free_groups t) (λ g is. inr is) (free_none t)));
 }
 
-all_below : (base n top : ℕ) (groups : List ℕ) → base + 256 * top ≤ n → Each (λ g. g < top) groups → list_all (λ g. nat_le (base + 256 * g + 256) n) groups ≡ true
+all_below : (base n top : ℕ) (groups : List ℕ) → base + 256 * top ≤ n → Each (λ g. g < top) groups
+    → list_all (λ g. nat_le (base + 256 * g + 256) n) groups ≡ true
 all_below base n top [] room low = refl
 all_below base n top (g ∷ groups) room low =
     let rest = all_below base n top groups room low.1 in
@@ -125,13 +130,15 @@ planned_lies t lot n is room =
     grind (arith, nat_tests)
 
 -- and is sited, with 1 to 64 groups
-pub planned_sited : (t : Tables) (lot : LotView) (n : ℕ) → IsOfImage t lot → total t ≤ n → 1 ≤ length lot.groups → length lot.groups ≤ 64 → is_sited lot n ≡ true
+pub planned_sited : (t : Tables) (lot : LotView) (n : ℕ) → IsOfImage t lot → total t ≤ n → 1 ≤ length lot.groups → length lot.groups ≤ 64
+    → is_sited lot n ≡ true
 unfolding is_sited
 planned_sited t lot n is room some few = let lies = planned_lies t lot n is room in grind (arith, nat_tests)
 
 -- its blocks are blocks of the image past the tables
 pub planned_high : (t : Tables) (lot : LotView) (k : ℕ) → IsOfImage t lot → extent lot k → 32 ≤ k
-planned_high t lot k is here = let base = is.base in ⊎_elim (λ inside. omega (arith, inside.0)) (λ group. omega (arith, group.2, base)) (extent_cases lot k here)
+planned_high t lot k is here =
+    let base = is.base in ⊎_elim (λ inside. omega (arith, inside.0)) (λ group. omega (arith, group.2, base)) (extent_cases lot k here)
 
 pub planned_below : (t : Tables) (lot : LotView) (k : ℕ) → IsOfImage t lot → extent lot k → k < total t
 planned_below t lot k is here = extent_below lot (total t) k (planned_lies t lot (total t) is (omega arith)) here

@@ -123,7 +123,8 @@ to_none : (os : List (Option ℕ)) (r : Refusal) → one_slot os ≡ Err r → I
 to_none [] r is = let same : code.NoCube ≡ r = cc is in record { why_is = why.NoCube; because = sym (ap refused_of same); aims = λ u op. refl }
 to_none (None ∷ os) r is = let same : code.NoCube ≡ r = cc is in record { why_is = why.NoCube; because = sym (ap refused_of same); aims = λ u op. refl }
 to_none (Some s ∷ []) r is = absurd (cc is)
-to_none (Some s ∷ None ∷ os) r is = let same : code.NoCube ≡ r = cc is in record { why_is = why.NoCube; because = sym (ap refused_of same); aims = λ u op. refl }
+to_none (Some s ∷ None ∷ os) r is =
+    let same : code.NoCube ≡ r = cc is in record { why_is = why.NoCube; because = sym (ap refused_of same); aims = λ u op. refl }
 to_none (Some s ∷ Some t ∷ []) r is = by (nat_eq s t) refl is
   where
     by : (b : Bool) → nat_eq s t ≡ b → cond b (Ok s) (Err code.CrossCube) ≡ Err r → IsRefused (Some s ∷ Some t ∷ []) r
@@ -133,7 +134,8 @@ to_none (Some s ∷ Some t ∷ []) r is = by (nat_eq s t) refl is
       because = sym (ap refused_of same);
       aims = λ u op. ap (λ (b : Bool). cond b (in_cube u op s) (Refuse why.CrossCube)) other;
     }
-to_none (Some s ∷ Some t ∷ o ∷ os) r is = let same : code.NoCube ≡ r = cc is in record { why_is = why.NoCube; because = sym (ap refused_of same); aims = λ u op. refl }
+to_none (Some s ∷ Some t ∷ o ∷ os) r is =
+    let same : code.NoCube ≡ r = cc is in record { why_is = why.NoCube; because = sym (ap refused_of same); aims = λ u op. refl }
 
 -- such a refusal is no fault
 pub no_fault : (os : List (Option ℕ)) (r : Refusal) → one_slot os ≡ Err r → fault_in (Err (refused_of r)) ≡ 0
@@ -146,7 +148,9 @@ map_same f g same (p ∷ ps) = ap (λ (o : Option ℕ). o ∷ map f ps) (same p)
 module _ (v : VolumeView) (s : DiskState) (u : World) (stands : StandsFor v s u) where
   -- a path routes in the world as in the tables
   route_same : (p : List (List ℕ)) → route (paths_of u) u.slots p ≡ routed v.system.names p
-  route_same p = ap (λ (f : ℕ → Option (List (List ℕ))). route f u.slots p) (fun_ext (λ x. sym (row_path v s u stands x))) ∙ ap (λ (n : ℕ). route (λ x. path_at v.system.names x) n p) (sym stands.shows.slots)
+  route_same p =
+      ap (λ (f : ℕ → Option (List (List ℕ))). route f u.slots p) (fun_ext (λ x. sym (row_path v s u stands x)))
+      ∙ ap (λ (n : ℕ). route (λ x. path_at v.system.names x) n p) (sym stands.shows.slots)
 
   module _ (req : Request) (tree : operation 0 req ≢ None) where
     aim_here : aim_of u req ≡ to_one u (whole req tree).0 (map (routed v.system.names) (paths_asked req))
@@ -174,19 +178,22 @@ module _ (v : VolumeView) (s : DiskState) (u : World) (stands : StandsFor v s u)
         let cube = target_cube x n all in
         let deep : depth_at (u.cube x) ≡ n = ap depth_at cube.1 ∙ sym cube.2 in
         let same : below n w.0 ≡ op = one_op (below n w.0) op (sym (w.1.asks n) ∙ asks) in
-        aim_here ∙ to_slot u w.0 (map (routed v.system.names) (paths_asked req)) x is ∙ ap (λ (d : ℕ). At x (order.OnTree (below d w.0))) deep ∙ ap (λ (o : Operation). At x (order.OnTree o)) same
+        aim_here ∙ to_slot u w.0 (map (routed v.system.names) (paths_asked req)) x is
+        ∙ ap (λ (d : ℕ). At x (order.OnTree (below d w.0))) deep ∙ ap (λ (o : Operation). At x (order.OnTree o)) same
       where
         one_op : (a b : Operation) → Some a ≡ Some b → a ≡ b
         one_op a b e = cc e
 
     -- one that was refused is refused
-    pub aims_refused : (r : Refusal) → one_slot (map (routed v.system.names) (paths_asked req)) ≡ Err r → (y : Why) × (refused_of r ≡ Because y) × (aim_of u req ≡ Refuse y)
+    pub aims_refused : (r : Refusal) → one_slot (map (routed v.system.names) (paths_asked req)) ≡ Err r
+        → (y : Why) × (refused_of r ≡ Because y) × (aim_of u req ≡ Refuse y)
     aims_refused r is =
         let n = to_none (map (routed v.system.names) (paths_asked req)) r is in
         (n.why_is, n.because, aim_here ∙ n.aims u (whole req tree).0)
 
 -- two paths that route to one slot begin with the names of one path
-pub both_catch : (v : NamesView) (p q : List (List ℕ)) (a b : ℕ × ℕ) → a.0 ≡ b.0 → Catches v p a.0 a.1 → Catches v q b.0 b.1 → Catches v p a.0 a.1 × (Catches v q a.0 a.1 × ⊤)
+pub both_catch : (v : NamesView) (p q : List (List ℕ)) (a b : ℕ × ℕ) → a.0 ≡ b.0 → Catches v p a.0 a.1 → Catches v q b.0 b.1
+    → Catches v p a.0 a.1 × (Catches v q a.0 a.1 × ⊤)
 both_catch v p q a b same here there = by (row_at v a.0) refl here.live
   where
     by : (o : Option Row) → row_at v a.0 ≡ o → IsSome o → Catches v p a.0 a.1 × (Catches v q a.0 a.1 × ⊤)

@@ -70,8 +70,10 @@ module _ (v : VolumeView) (sessions : AreSessions v) (x : ℕ) (low : x < 16) wh
   here_lot r = subst (IsCellOf (lot_of (tables_of v.system) x)) (sym (here_of r)) (cell_of (tables_of v.system) x (cell_at v.cells x) (sessions.each x))
 
   -- and the lot lies on the disk
-  pub here_sited : (r : Cell) (l : LotView) (n : ℕ) → l ≡ lot_of (tables_of v.system) x → is_sited l n ≡ true → 1 ≤ length l.groups → IsSited (slice_index_or v.cells x r) n
-  here_sited r l n is sited some = sited_cell l (slice_index_or v.cells x r) n (subst (λ (y : LotView). IsCellOf y (slice_index_or v.cells x r)) (sym is) (here_lot r)) sited some
+  pub here_sited : (r : Cell) (l : LotView) (n : ℕ) → l ≡ lot_of (tables_of v.system) x → is_sited l n ≡ true → 1 ≤ length l.groups
+      → IsSited (slice_index_or v.cells x r) n
+  here_sited r l n is sited some =
+      sited_cell l (slice_index_or v.cells x r) n (subst (λ (y : LotView). IsCellOf y (slice_index_or v.cells x r)) (sym is) (here_lot r)) sited some
 
   -- another cell of the slot's lot makes sessions again
   pub set_sessions : (after : Cell) → IsSome (row_at v.system.names x) → IsCellOf (lot_of (tables_of v.system) x) after → AreSessions (with_cell v x after)
@@ -86,8 +88,10 @@ module _ (v : VolumeView) (sessions : AreSessions v) (x : ℕ) (low : x < 16) wh
 
 -- ---- lines
 
-module _ {D : Type 0} (state : D → DiskState) (left : D → ℕ → Image → List ℕ → Type 0) (inner v : VolumeView) (same : inner ≡ v) (sessions : AreSessions inner) (x : ℕ) (low : x < 16) (less : x < v.system.names.slots)
-    (line : Line) (o : Order) (offline : Bool) (r after : Cell) (room : RoomContent) (result : Result Value Refusal) (a b : D) (whole : (state a).tells ≡ true → length (state a).now ≡ (state a).size)
+module _ {D : Type 0} (state : D → DiskState) (left : D → ℕ → Image → List ℕ → Type 0) (inner v : VolumeView) (same : inner ≡ v)
+    (sessions : AreSessions inner) (x : ℕ) (low : x < 16) (less : x < v.system.names.slots)
+    (line : Line) (o : Order) (offline : Bool) (r after : Cell) (room : RoomContent) (result : Result Value Refusal) (a b : D)
+    (whole : (state a).tells ≡ true → length (state a).now ≡ (state a).size)
     (answers : AnswersOrder state left (lot_of (tables_of v.system) x) o offline (slice_index_or inner.cells x r) after room result a b) where
   outer : AreSessions v
   outer = subst AreSessions same sessions
@@ -96,12 +100,15 @@ module _ {D : Type 0} (state : D → DiskState) (left : D → ℕ → Image → 
   here = ap (λ (y : VolumeView). slice_index_or y.cells x r) same ∙ here_of v outer x low r
 
   -- a line that is meant for the cube of a slot
-  pub slot_line : {X : Type 0} → ((u : World) → StandsFor v (state a) u → IsMeant v x line o offline u) → AnswersLine {X = X} state left line v (with_cell inner x after) room (Ok result) a b
+  pub slot_line : {X : Type 0} → ((u : World) → StandsFor v (state a) u → IsMeant v x line o offline u)
+      → AnswersLine {X = X} state left line v (with_cell inner x after) room (Ok result) a b
   slot_line {X} meant_for = subst (λ (y : VolumeView). AnswersLine {X = X} state left line v (with_cell y x after) room (Ok result) a b) (sym same)
-      (order_line state left v x line o offline after room result a b less (short v outer x low) (λ k own. lot_within (tables_of v.system) x k less own) whole meant_for
+      (order_line state left v x line o offline after room result a b less (short v outer x low)
+      (λ k own. lot_within (tables_of v.system) x k less own) whole meant_for
       (subst (λ (y : Cell). AnswersOrder state left (lot_of (tables_of v.system) x) o offline y after room result a b) here answers))
 
   -- a line to the cube of a path
-  pub path_line : {X : Type 0} → (p : List (List ℕ)) → path_at v.system.names x ≡ Some p → is_marked (row_at v.system.names x) ≡ offline → ((u : World) → aim u line ≡ to_cube (slot_with_path u p) o)
+  pub path_line : {X : Type 0} → (p : List (List ℕ)) → path_at v.system.names x ≡ Some p → is_marked (row_at v.system.names x) ≡ offline
+      → ((u : World) → aim u line ≡ to_cube (slot_with_path u p) o)
       → AnswersLine {X = X} state left line v (with_cell inner x after) room (Ok result) a b
   path_line {X} p at mark aims = slot_line {X = X} (λ u stands. meant_path v (state a) u stands p x less at line o offline (aims u) mark)

@@ -28,7 +28,8 @@ each_flat P f (x ∷ xs) all = each-append P (f x) (flat_map f xs) (all x) (each
 groups_low : (t : Tables) (s : ℕ) → Each (λ g. g < t.groups) (groups_of t s)
 unfolding groups_of
 groups_low t s = each_flat (λ g. g < t.groups) (λ o. filter (λ g. is_slot (t.holder g) s && t.ordinal g == o) (range_with_len 0 t.groups)) (range_with_len 0 64)
-    (λ o. each_filter (λ g. g < t.groups) (λ g. is_slot (t.holder g) s && t.ordinal g == o) (range_with_len 0 t.groups) (each_range 0 t.groups t.groups (omega arith)))
+    (λ o. each_filter (λ g. g < t.groups) (λ g. is_slot (t.holder g) s && t.ordinal g == o) (range_with_len 0 t.groups)
+    (each_range 0 t.groups t.groups (omega arith)))
 
 all_pass : (test : ℕ → Bool) (P : ℕ → Type 0) (xs : List ℕ) → ((x : ℕ) → P x → test x ≡ true) → Each P xs → list_all test xs ≡ true
 all_pass test P [] pass all = refl
@@ -54,7 +55,8 @@ pub lot_within : (t : Tables) (s k : ℕ) → s < t.slots → extent (lot_of t s
 lot_within t s k low own = extent_below (lot_of t s) (total t) k (lot_below t s (total t) low (omega arith)) own
 
 -- the same of a lot that is the slot's
-pub sited_lot : (t : Tables) (s n : ℕ) (l : LotView) → l ≡ lot_of t s → s < t.slots → total t ≤ n → 1 ≤ length l.groups → length l.groups ≤ 64 → is_sited l n ≡ true
+pub sited_lot : (t : Tables) (s n : ℕ) (l : LotView) → l ≡ lot_of t s → s < t.slots → total t ≤ n → 1 ≤ length l.groups
+    → length l.groups ≤ 64 → is_sited l n ≡ true
 sited_lot t s n l is low room some few =
     let many : length l.groups ≡ length (groups_of t s) = ap (λ (x : LotView). length x.groups) is in
     ap (λ (x : LotView). is_sited x n) is ∙ lot_sited t s n low room (omega (arith, many, some)) (omega (arith, many, few))

@@ -47,7 +47,8 @@ with_other : (w : World) (x : ℕ) (d : Option Cube) (y : ℕ) → y ≢ x → (
 with_other w x d y other = let is : nat_eq y x ≡ false = grind arith in ap (λ b. cond b d (w.cube y)) is
 
 -- what holds of the record in the slot, and of the other slots' records, holds of all
-pub each_slot : (w : World) (x : ℕ) (d : Option Cube) (P : ℕ → Option Cube → Type 0) → P x d → ((y : ℕ) → y ≢ x → P y (w.cube y)) → (y : ℕ) → P y ((with_slot w x d).cube y)
+pub each_slot : (w : World) (x : ℕ) (d : Option Cube) (P : ℕ → Option Cube → Type 0) → P x d → ((y : ℕ) → y ≢ x → P y (w.cube y)) → (y : ℕ)
+    → P y ((with_slot w x d).cube y)
 each_slot w x d P here others y = elim (cases_eq y x) as (λ _. P y ((with_slot w x d).cube y)) [
   | inl same ↦ subst (λ z. P z ((with_slot w x d).cube z)) (sym same) (subst (P x) (sym (with_here w x d)) here)
   | inr other ↦ subst (P y) (sym (with_other w x d y other)) (others y other)
@@ -56,7 +57,8 @@ each_slot w x d P here others y = elim (cases_eq y x) as (λ _. P y ((with_slot 
 -- ---- what a cell carries
 
 record_has : (lot : LotView) (e : CubeView) (s : DiskState) (c : Cube) → e.lot ≡ lot → HoldsRecord e s c → EachHas lot s (Some c)
-record_has lot e s c at holds = subst (λ (l : LotView). EachHas l s (Some c)) at (λ i agrees. subst (HasContent e.lot i c.form c.mode) (sym holds.sound) (holds.holds.lasts i agrees))
+record_has lot e s c at holds =
+    subst (λ (l : LotView). EachHas l s (Some c)) at (λ i agrees. subst (HasContent e.lot i c.form c.mode) (sym holds.sound) (holds.holds.lasts i agrees))
 
 -- each image that a crash leaves has the record
 pub carries_has : (cell : Cell) (lot : LotView) (s : DiskState) (c : Option Cube) → Carries cell lot s c → EachHas lot s c
@@ -132,16 +134,19 @@ table_low k (inr low) = low.1
 table_apart : (t : Tables) (x k : ℕ) → IsTable k → extent (lot_of t x) k → ⊥
 table_apart t x k low own = let high = lot_high t x k own in let below = table_low k low in omega (arith, high, below)
 
-module _ {D : Type 0} (state : D → DiskState) (left : D → ℕ → Image → List ℕ → Type 0) (v : VolumeView) (x : ℕ) (inside : x < (tables_of v.system).slots) (a b : D)
+module _ {D : Type 0} (state : D → DiskState) (left : D → ℕ → Image → List ℕ → Type 0) (v : VolumeView) (x : ℕ)
+    (inside : x < (tables_of v.system).slots) (a b : D)
     (u : World) (stands : StandsFor v (state a) u) (within : Within state left (extent (lot_of (tables_of v.system) x)) a b) where
   -- another slot's lot lies apart, where it has a cube
-  other_lot : (y : ℕ) → y ≢ x → y < (tables_of v.system).slots → (k : ℕ) → extent (lot_of (tables_of v.system) y) k → extent (lot_of (tables_of v.system) x) k → ⊥
+  other_lot : (y : ℕ) → y ≢ x → y < (tables_of v.system).slots → (k : ℕ) → extent (lot_of (tables_of v.system) y) k
+      → extent (lot_of (tables_of v.system) x) k → ⊥
   other_lot y other low k own mine = other (lots_apart (tables_of v.system) y x k low inside own mine)
 
   none_beyond : (y : ℕ) → (tables_of v.system).slots ≤ y → u.cube y ≡ None
   none_beyond y high = no_cube (state a).now (tables_of v.system) u y stands.tables.now.has stands.shows high
 
-  other_has : (i : Image) → AgreesOn (Outside (extent (lot_of (tables_of v.system) x))) (state a) i → (y : ℕ) → y ≢ x → Has (lot_of (tables_of v.system) y) i (u.cube y)
+  other_has : (i : Image) → AgreesOn (Outside (extent (lot_of (tables_of v.system) x))) (state a) i → (y : ℕ) → y ≢ x
+      → Has (lot_of (tables_of v.system) y) i (u.cube y)
   other_has i agrees y other = ⊎_elim
       (λ low. carries_has (cell_at v.cells y) (lot_of (tables_of v.system) y) (state a) (u.cube y) (stands.cubes y) i
       (record { count = agrees.count; same = λ k own. agrees.same k (λ mine. other_lot y other low k own mine) }))
@@ -152,7 +157,9 @@ module _ {D : Type 0} (state : D → DiskState) (left : D → ℕ → Image → 
   old_fits : (i : Image) → AgreesOn (Outside (extent (lot_of (tables_of v.system) x))) (state a) i → Has (lot_of (tables_of v.system) x) i (u.cube x) → Fits u i
   old_fits i agrees has = record {
     tables = tables_of v.system;
-    has = (at_rest_rests (tables_of v.system) (state a).now i (λ k low. agrees.same k (table_apart (tables_of v.system) x k low) (stands.tables.settled.settled k low)) stands.tables.now).has;
+    has =
+        (at_rest_rests (tables_of v.system) (state a).now i
+        (λ k low. agrees.same k (table_apart (tables_of v.system) x k low) (stands.tables.settled.settled k low)) stands.tables.now).has;
     room = subst (λ n. total (tables_of v.system) ≤ n) (sym agrees.count) stands.room;
     shows = stands.shows;
     cubes = λ y here. ⊎_elim
@@ -162,7 +169,9 @@ module _ {D : Type 0} (state : D → DiskState) (left : D → ℕ → Image → 
   }
 
   -- each crash leaves an image that fits the world
-  pub order_leaves : (line : Line) → LeavesOnly left a b (With (state a).streams.aside (λ i. Has (lot_of (tables_of v.system) x) i (u.cube x))) → LeavesOnly left a b (With (state a).streams.aside (MayFit u line))
+  pub order_leaves : (line : Line)
+      → LeavesOnly left a b (With (state a).streams.aside (λ i. Has (lot_of (tables_of v.system) x) i (u.cube x)))
+      → LeavesOnly left a b (With (state a).streams.aside (MayFit u line))
   order_leaves line leaves = record {
     each = λ m i out l. ⊎_elim (λ before. inl before) (λ here. ⊎_elim (λ before. inl before) (λ there. inr (inl (old_fits i here.0 there.0), there.1))
         (leaves.each m i out l)) (within.left_new m i out l);
@@ -174,12 +183,14 @@ module _ {D : Type 0} (state : D → DiskState) (left : D → ℕ → Image → 
       (kept_within state left (extent (lot_of (tables_of v.system) y)) (extent (lot_of (tables_of v.system) x)) a b (other_lot y other low) within)
       (cell_at v.cells y) (u.cube y) (stands.cubes y))
       (λ high. subst (Carries (cell_at v.cells y) (lot_of (tables_of v.system) y) (state b)) (sym (none_beyond y high))
-      (carries_none (cell_at v.cells y) (lot_of (tables_of v.system) y) (state a) (state b) (subst (Carries (cell_at v.cells y) (lot_of (tables_of v.system) y) (state a)) (none_beyond y high) (stands.cubes y))))
+      (carries_none (cell_at v.cells y) (lot_of (tables_of v.system) y) (state a) (state b)
+      (subst (Carries (cell_at v.cells y) (lot_of (tables_of v.system) y) (state a)) (none_beyond y high) (stands.cubes y))))
       (cases_lt y (tables_of v.system).slots)
 
   -- the volume with another cell in the slot stands for the world with another record there
   pub order_stands : (after : Cell) (d : Option Cube) → x < length v.cells → option_map cube_entry d ≡ option_map cube_entry (u.cube x)
-      → Carries after (lot_of (tables_of v.system) x) (state b) d → StandsFor (record { system = v.system; cells = slice_set v.cells x after }) (state b) (with_slot u x d)
+      → Carries after (lot_of (tables_of v.system) x) (state b) d
+      → StandsFor (record { system = v.system; cells = slice_set v.cells x after }) (state b) (with_slot u x d)
   order_stands after d less entry carries = record {
     live = stands.live;
     tables = sure_kept IsTable (AtRest (tables_of v.system)) (state a) (state b) (at_rest_rests (tables_of v.system))
@@ -188,11 +199,14 @@ module _ {D : Type 0} (state : D → DiskState) (left : D → ℕ → Image → 
     shows = record {
       slots = stands.shows.slots;
       groups = stands.shows.groups;
-      entries = each_slot u x d (λ y c. entry_at (tables_of v.system) y ≡ option_map cube_entry c) (stands.shows.entries x ∙ sym entry) (λ y other. stands.shows.entries y);
+      entries =
+          each_slot u x d (λ y c. entry_at (tables_of v.system) y ≡ option_map cube_entry c) (stands.shows.entries x ∙ sym entry)
+          (λ y other. stands.shows.entries y);
     };
     cubes = each_slot u x d (λ y c. Carries (cell_at (slice_set v.cells x after) y) (lot_of (tables_of v.system) y) (state b) c)
         (subst (λ (z : Cell). Carries z (lot_of (tables_of v.system) x) (state b) d) (sym (get_or-set_same v.cells x after Closed less)) carries)
-        (λ y other. subst (λ (z : Cell). Carries z (lot_of (tables_of v.system) y) (state b) (u.cube y)) (sym (get_or-set_other v.cells x y after Closed other)) (other_carries y other));
+        (λ y other. subst (λ (z : Cell). Carries z (lot_of (tables_of v.system) y) (state b) (u.cube y))
+        (sym (get_or-set_other v.cells x y after Closed other)) (other_carries y other));
   }
 
 -- ---- the line of an order
@@ -221,8 +235,10 @@ pub record IsMeant (v : VolumeView) (x : ℕ) (line : Line) (o : Order) (offline
   pub mark : is_offline cube.state ≡ offline
   pub groups : cube.groups ≡ length (groups_of (tables_of v.system) x)
 
-module _ {D : Type 0} (state : D → DiskState) (left : D → ℕ → Image → List ℕ → Type 0) (v : VolumeView) (x : ℕ) (line : Line) (o : Order) (offline : Bool) (after : Cell) (room : RoomContent) (result : Result Value Refusal) (a b : D)
-    (inside : x < (tables_of v.system).slots) (less : x < length v.cells) (below : (k : ℕ) → extent (lot_of (tables_of v.system) x) k → k < total (tables_of v.system))
+module _ {D : Type 0} (state : D → DiskState) (left : D → ℕ → Image → List ℕ → Type 0) (v : VolumeView) (x : ℕ) (line : Line) (o : Order)
+    (offline : Bool) (after : Cell) (room : RoomContent) (result : Result Value Refusal) (a b : D)
+    (inside : x < (tables_of v.system).slots) (less : x < length v.cells)
+    (below : (k : ℕ) → extent (lot_of (tables_of v.system) x) k → k < total (tables_of v.system))
     (whole : (state a).tells ≡ true → length (state a).now ≡ (state a).size)
     (meant_for : (u : World) → StandsFor v (state a) u → IsMeant v x line o offline u)
     (answers : AnswersOrder state left (lot_of (tables_of v.system) x) o offline (cell_at v.cells x) after room result a b) where
@@ -247,8 +263,10 @@ module _ {D : Type 0} (state : D → DiskState) (left : D → ℕ → Image → 
       stands = order_stands state left v x inside a b u stands answers.within after (Some becomes.then) less
           (ap (λ y. Some y) becomes.entry ∙ sym (ap (option_map cube_entry) for.is)) becomes.carries;
       found = subst (λ (z : Aim). LineFound (tables_of v.system) (state a).now z (meant result room) u (with_slot u x (Some becomes.then))) (sym for.aims)
-          (subst (λ c. OrderFound (lot_of (tables_of v.system) x) (state a).now o (meant result room) c ((with_slot u x (Some becomes.then)).cube x)) (sym for.is)
-          (subst (λ d. OrderFound (lot_of (tables_of v.system) x) (state a).now o (meant result room) (Some for.cube) d) (sym (with_here u x (Some becomes.then))) becomes.found));
+          (subst (λ c. OrderFound (lot_of (tables_of v.system) x) (state a).now o (meant result room) c ((with_slot u x (Some becomes.then)).cube x))
+          (sym for.is)
+          (subst (λ d. OrderFound (lot_of (tables_of v.system) x) (state a).now o (meant result room) (Some for.cube) d)
+          (sym (with_here u x (Some becomes.then))) becomes.found));
       lots = λ y broken still. refl;
     }
 
@@ -270,11 +288,14 @@ module _ {D : Type 0} (state : D → DiskState) (left : D → ℕ → Image → 
             (cases_eq broken.0 x)
 
         live : (IsBrokenContent for.cube.content → ⊥) → Within state left (Outside (IsOfBroken (tables_of v.system) u)) a b
-        live sound = within_more state left (extent (lot_of (tables_of v.system) x)) (Outside (IsOfBroken (tables_of v.system) u)) a b (spared sound) answers.within
+        live sound =
+            within_more state left (extent (lot_of (tables_of v.system) x)) (Outside (IsOfBroken (tables_of v.system) u)) a b (spared sound) answers.within
 
         by : (y : Content) → for.cube.content ≡ y → Within state left (Outside (IsOfBroken (tables_of v.system) u)) a b
         by (Sound h) is = live (λ broken. absurd (subst IsBrokenContent is broken))
-        by (Broken rules) is = within_more state left Nowhere (Outside (IsOfBroken (tables_of v.system) u)) a b (λ k never. absurd never) (becomes.spares (subst IsBrokenContent (sym is) tt))
+        by (Broken rules) is =
+            within_more state left Nowhere (Outside (IsOfBroken (tables_of v.system) u)) a b (λ k never. absurd never)
+            (becomes.spares (subst IsBrokenContent (sym is) tt))
         by Unread is = live (λ broken. absurd (subst IsBrokenContent is broken))
 
     line_frame : Within state left (LineWrites (tables_of v.system) (aim u line) (meant result room)) a b
@@ -301,7 +322,8 @@ module _ {D : Type 0} (state : D → DiskState) (left : D → ℕ → Image → 
 -- ---- refusals without a call of the disk
 
 -- A line that is refused before the cube is asked: the reply and the world follow by a step.
-pub refused_line : {D X : Type 0} (state : D → DiskState) (left : D → ℕ → Image → List ℕ → Type 0) (line : Line) (v : VolumeView) (room : RoomContent) (r : Refusal) (a : D)
+pub refused_line : {D X : Type 0} (state : D → DiskState) (left : D → ℕ → Image → List ℕ
+    → Type 0) (line : Line) (v : VolumeView) (room : RoomContent) (r : Refusal) (a : D)
     → fault_in (meant (Err r) room) ≡ 0 → ((u : World) → StandsFor v (state a) u → Answers v v (state a) (state a) line u (meant (Err r) room))
     → AnswersLine {X = X} state left line v v room (Ok (Err r)) a a
 refused_line state left line v room r a none goes = record {

@@ -39,7 +39,9 @@ stands_fits v s w stands = fits_every (λ x. Unit {0}) (tables_of v.system) w s 
 pub stands_kept : (v : VolumeView) (a b : DiskState) (w : World) → Kept Everywhere a b → StandsFor v a w → StandsFor v b w
 stands_kept v a b w kept stands = record {
   live = stands.live;
-  tables = sure_kept IsTable (AtRest (tables_of v.system)) a b (at_rest_rests (tables_of v.system)) (kept_fewer Everywhere IsTable a b (λ k here. tt) kept) stands.tables;
+  tables =
+      sure_kept IsTable (AtRest (tables_of v.system)) a b (at_rest_rests (tables_of v.system))
+      (kept_fewer Everywhere IsTable a b (λ k here. tt) kept) stands.tables;
   room = subst (λ n. total (tables_of v.system) ≤ n) (sym kept.size) stands.room;
   shows = stands.shows;
   cubes = λ x. carries_kept (lot_of (tables_of v.system) x) a b (kept_fewer Everywhere (extent (lot_of (tables_of v.system) x)) a b (λ k here. tt) kept)

@@ -59,32 +59,39 @@ online_may : (t : Tables) (x : ℕ) → OrderMayWrite t x order.SetOnline (λ k.
 online_may t x = record { done = λ k here. tables_alone k here; faulty = λ k here. tables_alone k here }
 
 -- a lot is kept where the tables change
-pub lot_kept : {D : Type 0} (state : D → DiskState) (left : D → ℕ → Image → List ℕ → Type 0) (t : Tables) (x : ℕ) (a b : D) → Within state left IsChange a b → Kept (extent (lot_of t x)) (state a) (state b)
+pub lot_kept : {D : Type 0} (state : D → DiskState) (left : D → ℕ → Image → List ℕ → Type 0) (t : Tables) (x : ℕ) (a b : D)
+    → Within state left IsChange a b → Kept (extent (lot_of t x)) (state a) (state b)
 lot_kept state left t x a b within = kept_within state left (extent (lot_of t x)) IsChange a b (λ k own low. low_apart t x k own low) within
 
 module _ {D A : Type 0} (state : D → DiskState) (left : D → ℕ → Image → List ℕ → Type 0) (v z : VolumeView) (p : List (List ℕ)) (room : RoomContent) where
   module _ (a b : D) (x : ℕ) (less : x < v.system.names.slots) (at : path_at v.system.names x ≡ Some p) (r : Result A SystemFault) where
     -- a cube is deleted
-    pub delete_answers : Changes state left x None [] v.system z.system r a b → OnOk r (CellBecomes x Closed v.cells z.cells) → OnErr r (z.cells ≡ v.cells) → AnswersLine state left (Asks (Delete p)) v z room (told_of r) a b
+    pub delete_answers : Changes state left x None [] v.system z.system r a b → OnOk r (CellBecomes x Closed v.cells z.cells)
+        → OnErr r (z.cells ≡ v.cells) → AnswersLine state left (Asks (Delete p)) v z room (told_of r) a b
     delete_answers ch cells same =
         changed state left x None [] Closed ⊤ (Asks (Delete p)) order.Delete tt delete_finds room v z (λ k. ⊥) a a b (within_refl state left (λ k. ⊥) a)
-        (λ w stands. deletes v (state a) w stands p x less at (state b)) (λ w stands. none_spare v w) (none_early v) (λ w stands. delete_may (tables_of v.system) x) r ch cells same (always r)
+        (λ w stands. deletes v (state a) w stands p x less at (state b)) (λ w stands. none_spare v w) (none_early v)
+        (λ w stands. delete_may (tables_of v.system) x) r ch cells same (always r)
 
     module _ (s : StateWord) (is : s ≡ cell_state (cell_at v.cells x) (is_marked (row_at v.system.names x))) where
       -- a cube that is neither offline nor mounted is set offline
-      pub offline_answers : is_mountable s ≡ true → Changes state left x (marked mark.Offline (row_at v.system.names x)) (groups_of (tables_of v.system) x) v.system z.system r a b
+      pub offline_answers : is_mountable s ≡ true
+          → Changes state left x (marked mark.Offline (row_at v.system.names x)) (groups_of (tables_of v.system) x) v.system z.system r a b
           → OnOk r (CellBecomes x Closed v.cells z.cells) → OnErr r (z.cells ≡ v.cells) → AnswersLine state left (Asks (Offline p)) v z room (told_of r) a b
       offline_answers able ch cells same =
-          changed state left x (marked mark.Offline (row_at v.system.names x)) (groups_of (tables_of v.system) x) Closed ⊤ (Asks (Offline p)) order.SetOffline tt offline_finds room v z (λ k. ⊥) a a b
+          changed state left x (marked mark.Offline (row_at v.system.names x)) (groups_of (tables_of v.system) x) Closed ⊤
+          (Asks (Offline p)) order.SetOffline tt offline_finds room v z (λ k. ⊥) a a b
           (within_refl state left (λ k. ⊥) a)
           (λ w stands. goes_offline v (state a) w stands p x less at s is able (state b) (lot_kept state left (tables_of v.system) x a b ch.within))
           (λ w stands. none_spare v w) (none_early v) (λ w stands. offline_may (tables_of v.system) x) r ch cells same (always r)
 
       -- a cube that is offline is set online
-      pub online_answers : s ≡ word.Offline → Changes state left x (marked mark.Online (row_at v.system.names x)) (groups_of (tables_of v.system) x) v.system z.system r a b
+      pub online_answers : s ≡ word.Offline
+          → Changes state left x (marked mark.Online (row_at v.system.names x)) (groups_of (tables_of v.system) x) v.system z.system r a b
           → z.cells ≡ v.cells → AnswersLine state left (Asks (Online p)) v z room (told_of r) a b
       online_answers off ch cells =
-          changed state left x (marked mark.Online (row_at v.system.names x)) (groups_of (tables_of v.system) x) Closed ⊤ (Asks (Online p)) order.SetOnline tt online_finds room v z (λ k. ⊥) a a b
+          changed state left x (marked mark.Online (row_at v.system.names x)) (groups_of (tables_of v.system) x) Closed ⊤
+          (Asks (Online p)) order.SetOnline tt online_finds room v z (λ k. ⊥) a a b
           (within_refl state left (λ k. ⊥) a)
           (λ w stands. goes_online v (state a) w stands p x less at s is off (state b) (lot_kept state left (tables_of v.system) x a b ch.within))
           (λ w stands. none_spare v w) (none_early v) (λ w stands. online_may (tables_of v.system) x) r ch (where_ok r kept) (where_err r cells) (always r)
@@ -100,32 +107,47 @@ module _ {D A : Type 0} (state : D → DiskState) (left : D → ℕ → Image �
 module _ {D X : Type 0} (state : D → DiskState) (left : D → ℕ → Image → List ℕ → Type 0) (v : VolumeView) (p : List (List ℕ)) (room : RoomContent) (a : D) where
   -- no cube has the path
   pub delete_none : NoneHas v.system.names p → AnswersLine {X = X} state left (Asks (Delete p)) v v room (Ok (Err code.NoCube)) a a
-  delete_none none = unchanged state left (Asks (Delete p)) v room (Err code.NoCube) a refl tt (λ w stands. refused v (state a) w stands p none order.Delete (Asks (Delete p)) refl)
+  delete_none none =
+      unchanged state left (Asks (Delete p)) v room (Err code.NoCube) a refl tt
+      (λ w stands. refused v (state a) w stands p none order.Delete (Asks (Delete p)) refl)
 
   pub offline_none : NoneHas v.system.names p → AnswersLine {X = X} state left (Asks (Offline p)) v v room (Ok (Err code.NoCube)) a a
-  offline_none none = unchanged state left (Asks (Offline p)) v room (Err code.NoCube) a refl tt (λ w stands. refused v (state a) w stands p none order.SetOffline (Asks (Offline p)) refl)
+  offline_none none =
+      unchanged state left (Asks (Offline p)) v room (Err code.NoCube) a refl tt
+      (λ w stands. refused v (state a) w stands p none order.SetOffline (Asks (Offline p)) refl)
 
   pub online_none : NoneHas v.system.names p → AnswersLine {X = X} state left (Asks (Online p)) v v room (Ok (Err code.NoCube)) a a
-  online_none none = unchanged state left (Asks (Online p)) v room (Err code.NoCube) a refl tt (λ w stands. refused v (state a) w stands p none order.SetOnline (Asks (Online p)) refl)
+  online_none none =
+      unchanged state left (Asks (Online p)) v room (Err code.NoCube) a refl tt
+      (λ w stands. refused v (state a) w stands p none order.SetOnline (Asks (Online p)) refl)
 
-  module _ (x : ℕ) (less : x < v.system.names.slots) (at : path_at v.system.names x ≡ Some p) (s : StateWord) (is : s ≡ cell_state (cell_at v.cells x) (is_marked (row_at v.system.names x))) where
+  module _ (x : ℕ) (less : x < v.system.names.slots) (at : path_at v.system.names x ≡ Some p) (s : StateWord)
+      (is : s ≡ cell_state (cell_at v.cells x) (is_marked (row_at v.system.names x))) where
     -- a cube that is offline, or mounted, is not set offline
     pub offline_stays : s ≡ word.Offline → AnswersLine {X = X} state left (Asks (Offline p)) v v room (Ok (Err code.State)) a a
-    offline_stays off = unchanged state left (Asks (Offline p)) v room (Err code.State) a refl tt (λ w stands. stays_offline v (state a) w stands p x less at s is off)
+    offline_stays off =
+        unchanged state left (Asks (Offline p)) v room (Err code.State) a refl tt (λ w stands. stays_offline v (state a) w stands p x less at s is off)
 
     pub mounted_stays : s ≡ word.Mounted → AnswersLine {X = X} state left (Asks (Offline p)) v v room (Ok (Err code.Mounted)) a a
-    mounted_stays on = unchanged state left (Asks (Offline p)) v room (Err code.Mounted) a refl tt (λ w stands. stays_mounted v (state a) w stands p x less at s is on)
+    mounted_stays on =
+        unchanged state left (Asks (Offline p)) v room (Err code.Mounted) a refl tt (λ w stands. stays_mounted v (state a) w stands p x less at s is on)
 
     -- nor one online that isn't offline
     pub online_stays : s ≢ word.Offline → AnswersLine {X = X} state left (Asks (Online p)) v v room (Ok (Err code.State)) a a
-    online_stays other = unchanged state left (Asks (Online p)) v room (Err code.State) a refl tt (λ w stands. stays_online v (state a) w stands p x less at s is other)
+    online_stays other =
+        unchanged state left (Asks (Online p)) v room (Err code.State) a refl tt (λ w stands. stays_online v (state a) w stands p x less at s is other)
 
 -- ---- sessions
 
 -- the sessions after a change of the tables, where the cell of its slot is one of the slot then
-pub sessions_after : {D A : Type 0} (state : D → DiskState) (left : D → ℕ → Image → List ℕ → Type 0) (v z : VolumeView) (x : ℕ) (row : Option Row) (groups : List ℕ) (cell : Cell) (a b : D) (r : Result A SystemFault)
-    → AreSessions v → Changes state left x row groups v.system z.system r a b → OnOk r (CellBecomes x cell v.cells z.cells) → OnErr r (z.cells ≡ v.cells) → length z.cells ≡ 16
+pub sessions_after : {D A : Type 0} (state : D → DiskState) (left : D → ℕ → Image → List ℕ
+    → Type 0) (v z : VolumeView) (x : ℕ) (row : Option Row) (groups : List ℕ) (cell : Cell) (a b : D) (r : Result A SystemFault)
+    → AreSessions v → Changes state left x row groups v.system z.system r a b → OnOk r (CellBecomes x cell v.cells z.cells)
+    → OnErr r (z.cells ≡ v.cells) → length z.cells ≡ 16
     → OnOk r (SlotBecomes x row groups (tables_of v.system) (tables_of z.system) → IsSession (tables_of z.system) x cell) → AreSessions z
-sessions_after state left v z x row groups cell a b (Ok y) are ch cells same count is = sessions_become v z x row groups cell are ch.done cells count (is ch.done)
-sessions_after state left v z x row groups cell a b (Err Before) are ch cells same count is = sessions_same v z (ap (λ (s : SystemView). tables_of s) (ch.before refl).0) same are
-sessions_after state left v z x row groups cell a b (Err After) are ch cells same count is = sessions_same v z (ap (λ (s : SystemView). tables_of s) (ch.after refl).0) same are
+sessions_after state left v z x row groups cell a b (Ok y) are ch cells same count is =
+    sessions_become v z x row groups cell are ch.done cells count (is ch.done)
+sessions_after state left v z x row groups cell a b (Err Before) are ch cells same count is =
+    sessions_same v z (ap (λ (s : SystemView). tables_of s) (ch.before refl).0) same are
+sessions_after state left v z x row groups cell a b (Err After) are ch cells same count is =
+    sessions_same v z (ap (λ (s : SystemView). tables_of s) (ch.after refl).0) same are

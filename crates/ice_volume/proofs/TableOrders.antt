@@ -45,11 +45,13 @@ marked_so gs (Some r) c e = ap (off r.offline) e
     off b None = b
     off b (Some y) = y.offline
 
-shown_offline : (gs : List ℕ) (o : Option Row) (c : Cube) → entry_with gs o ≡ Some (cube_entry c) → entry_with gs (marked mark.Offline o) ≡ Some (cube_entry (with_state word.Offline c))
+shown_offline : (gs : List ℕ) (o : Option Row) (c : Cube) → entry_with gs o ≡ Some (cube_entry c)
+    → entry_with gs (marked mark.Offline o) ≡ Some (cube_entry (with_state word.Offline c))
 shown_offline gs None c e = absurd (cc e)
 shown_offline gs (Some r) c e = ap (option_map (λ (y : Entry). record y { offline = true })) e
 
-shown_online : (gs : List ℕ) (o : Option Row) (c : Cube) → entry_with gs o ≡ Some (cube_entry c) → entry_with gs (marked mark.Online o) ≡ Some (cube_entry (with_state word.Unmounted c))
+shown_online : (gs : List ℕ) (o : Option Row) (c : Cube) → entry_with gs o ≡ Some (cube_entry c)
+    → entry_with gs (marked mark.Online o) ≡ Some (cube_entry (with_state word.Unmounted c))
 shown_online gs None c e = absurd (cc e)
 shown_online gs (Some r) c e = ap (option_map (λ (y : Entry). record y { offline = false })) e
 
@@ -82,7 +84,8 @@ offline_closed (Open e) b is = absurd (never e.stopped is)
     never true is = absurd (cc is)
     never false is = absurd (cc is)
 
-set_offline : (c : Cube) (s : StateWord) → c.state ≡ s → is_mountable s ≡ true → Own (Some c) order.SetOffline (Ok reply.Plain) (Some (with_state word.Offline c))
+set_offline : (c : Cube) (s : StateWord) → c.state ≡ s → is_mountable s ≡ true
+    → Own (Some c) order.SetOffline (Ok reply.Plain) (Some (with_state word.Offline c))
 set_offline c word.Mounted is able = absurd (cc able)
 set_offline c word.Unmounted is able = inl (Yes reply.Plain (Some (with_state word.Offline c)), sym (ap (on_offline c) is), (refl, refl))
 set_offline c word.Stopped is able = inl (Yes reply.Plain (Some (with_state word.Offline c)), sym (ap (on_offline c) is), (refl, refl))
@@ -117,7 +120,8 @@ known_as lot i c d (Broken rules) form mode known = record { nothing = known.not
 known_as lot i c d Unread form mode known = (form ∙ known.0, mode ∙ known.1)
 
 -- whatever cell carried a record, a closed one carries it in the state of one that no session has
-closed_carries : (cell : Cell) (lot : LotView) (s : DiskState) (c : Cube) (b : Bool) → is_offline (closed_state b) ≡ b → Carries cell lot s (Some c) → Carries Closed lot s (Some (with_state (closed_state b) c))
+closed_carries : (cell : Cell) (lot : LotView) (s : DiskState) (c : Cube) (b : Bool) → is_offline (closed_state b) ≡ b
+    → Carries cell lot s (Some c) → Carries Closed lot s (Some (with_state (closed_state b) c))
 closed_carries cell lot s c b same is = record {
   each = carries_has cell lot s (Some c) is;
   known = known_as lot s.now c (with_state (closed_state b) c) c.content refl refl (carries_known cell lot s c is);
@@ -138,7 +142,8 @@ online_finds lot i r c d = tt
 
 module _ (v : VolumeView) (s : DiskState) (w : World) (stands : StandsFor v s w) (p : List (List ℕ)) where
   -- no cube has the path
-  pub refused : NoneHas v.system.names p → (o : order.Order) (line : Line) → aim w line ≡ to_cube (slot_with_path w p) o → Answers v v s s line w (Err (Because why.NoCube))
+  pub refused : NoneHas v.system.names p → (o : order.Order) (line : Line) → aim w line ≡ to_cube (slot_with_path w p) o
+      → Answers v v s s line w (Err (Because why.NoCube))
   refused none o line is =
       let aims = is ∙ ap (λ (q : Option ℕ). to_cube q o) (slot_none v s w stands p none) in record {
         then = w;
@@ -174,10 +179,13 @@ module _ (v : VolumeView) (s : DiskState) (w : World) (stands : StandsFor v s w)
     own_back o r own = subst (λ c. Own c o r c) (sym here.1) own
 
     -- the refusal of an order leaves the record
-    refuses : (o : order.Order) (line : Line) (y : why.Why) → FindsNothing o → aim w line ≡ to_cube (slot_with_path w p) o → Own (Some here.0) o (Err (Because y)) (Some here.0) → Answers v v s s line w (Err (Because y))
+    refuses : (o : order.Order) (line : Line) (y : why.Why) → FindsNothing o → aim w line ≡ to_cube (slot_with_path w p) o
+        → Own (Some here.0) o (Err (Because y)) (Some here.0) → Answers v v s s line w (Err (Because y))
     refuses o line y finds is own = record {
       then = with_slot w x (w.cube x);
-      step = subst (λ (z : Aim). Goes w z (Err (Because y)) (with_slot w x (w.cube x))) (sym (aims_at o line is)) (w.cube x, own_back o (Err (Because y)) own, refl);
+      step =
+          subst (λ (z : Aim). Goes w z (Err (Because y)) (with_slot w x (w.cube x))) (sym (aims_at o line is))
+          (w.cube x, own_back o (Err (Because y)) own, refl);
       stands = put_again v s w x stands;
       found = subst (λ (z : Aim). LineFound (tables_of v.system) s.now z (Err (Because y)) w (with_slot w x (w.cube x))) (sym (aims_at o line is))
           (finds (lot_of (tables_of v.system) x) s.now (Err (Because y)) (w.cube x) ((with_slot w x (w.cube x)).cube x));

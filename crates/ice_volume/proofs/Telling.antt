@@ -71,7 +71,8 @@ faults_said (Err code.NoGroups) room m n le cause = omega (arith, le)
 -- ---- refusals without a call
 
 -- a refusal that leaves the cell and the disk
-pub refused_order : {D : Type 0} (state : D → DiskState) (left : D → ℕ → Image → List ℕ → Type 0) (lot : LotView) (o : Order) (offline : Bool) (cell : Cell) (room : RoomContent) (r : Refusal) (y : Why) (a : D)
+pub refused_order : {D : Type 0} (state : D → DiskState) (left : D → ℕ → Image → List ℕ
+    → Type 0) (lot : LotView) (o : Order) (offline : Bool) (cell : Cell) (room : RoomContent) (r : Refusal) (y : Why) (a : D)
     → refused_of r ≡ Because y → IsCellOf lot cell
     → ((c : Cube) → IsRecord lot offline cell (state a) c → Plainly (Some c) o (No y) × OrderFound lot (state a).now o (Err (Because y)) (Some c) (Some c))
     → AnswersOrder state left lot o offline cell cell room (Err r) a a
@@ -117,10 +118,15 @@ IsInner order.Sync = ⊤
 IsInner order.Unmount = ⊤
 IsInner _ = ⊥
 
-inner_refuses : (o : Order) → IsInner o → (c : Cube) (s : StateWord) (y : Why) → c.state ≡ s → ((P : Verdict → Type 0) → IfMounted s P (No y)) → Plainly (Some c) o (No y)
-inner_refuses (order.OnTree op) is c s y at refuses = subst (λ (z : StateWord). IfMounted z (OfSound c.content (on_tree c op)) (No y)) (sym at) (refuses (OfSound c.content (on_tree c op)))
-inner_refuses order.Sync is c s y at refuses = subst (λ (z : StateWord). IfMounted z (OfSound c.content (on_sync c word.Mounted)) (No y)) (sym at) (refuses (OfSound c.content (on_sync c word.Mounted)))
-inner_refuses order.Unmount is c s y at refuses = subst (λ (z : StateWord). IfMounted z (OfSound c.content (on_sync c word.Unmounted)) (No y)) (sym at) (refuses (OfSound c.content (on_sync c word.Unmounted)))
+inner_refuses : (o : Order) → IsInner o → (c : Cube) (s : StateWord) (y : Why) → c.state ≡ s
+    → ((P : Verdict → Type 0) → IfMounted s P (No y)) → Plainly (Some c) o (No y)
+inner_refuses (order.OnTree op) is c s y at refuses =
+    subst (λ (z : StateWord). IfMounted z (OfSound c.content (on_tree c op)) (No y)) (sym at) (refuses (OfSound c.content (on_tree c op)))
+inner_refuses order.Sync is c s y at refuses =
+    subst (λ (z : StateWord). IfMounted z (OfSound c.content (on_sync c word.Mounted)) (No y)) (sym at) (refuses (OfSound c.content (on_sync c word.Mounted)))
+inner_refuses order.Unmount is c s y at refuses =
+    subst (λ (z : StateWord). IfMounted z (OfSound c.content (on_sync c word.Unmounted)) (No y)) (sym at)
+    (refuses (OfSound c.content (on_sync c word.Unmounted)))
 inner_refuses order.Mount is c s y at refuses = absurd is
 inner_refuses order.Check is c s y at refuses = absurd is
 inner_refuses order.SetOffline is c s y at refuses = absurd is
@@ -141,7 +147,8 @@ inner_found lot i order.Delete r c d is = absurd is
 inner_found lot i (order.Grow n) r c d is = absurd is
 inner_found lot i (order.Create p n) r c d is = absurd is
 
-module _ {D : Type 0} (state : D → DiskState) (left : D → ℕ → Image → List ℕ → Type 0) (lot : LotView) (o : Order) (inner : IsInner o) (offline : Bool) (room : RoomContent) (a : D) where
+module _ {D : Type 0} (state : D → DiskState) (left : D → ℕ → Image → List ℕ → Type 0) (lot : LotView) (o : Order) (inner : IsInner o)
+    (offline : Bool) (room : RoomContent) (a : D) where
   -- a cube that no session has mounted refuses
   pub closed_order : AnswersOrder state left lot o offline Closed Closed room (Err (closed_refusal offline)) a a
   closed_order = refused_order state left lot o offline Closed room (closed_refusal offline) (closed_why offline) a (closed_because offline) tt
@@ -163,11 +170,13 @@ pub record IsOpen (e : CubeView) (s : DiskState) (c : Cube) : Type 0 where
   pub holds : Holds c.form c.mode history e s
 
 pub open_record : (e : CubeView) (offline : Bool) (s : DiskState) (c : Cube) → IsRecord e.lot offline (Open e) s c → IsOpen e s c
-open_record e offline s c rec = let r = rec.carries.record_is in record { record_is = r; history = r.history; sound = r.sound; state = r.state; holds = r.holds }
+open_record e offline s c rec =
+    let r = rec.carries.record_is in record { record_is = r; history = r.history; sound = r.sound; state = r.state; holds = r.holds }
 
 -- a mounted cube has this verdict
 mounted_plain : (c : Cube) (h : History) (P : History → Verdict) → c.state ≡ word.Mounted → c.content ≡ Sound h → IfMounted c.state (OfSound c.content P) (P h)
-mounted_plain c h P state sound = subst (λ (z : StateWord). IfMounted z (OfSound c.content P) (P h)) (sym state) (subst (λ (x : Content). OfSound x P (P h)) (sym sound) refl)
+mounted_plain c h P state sound =
+    subst (λ (z : StateWord). IfMounted z (OfSound c.content P) (P h)) (sym state) (subst (λ (x : Content). OfSound x P (P h)) (sym sound) refl)
 
 -- a mounted cube that is unmounted or stopped has the same entry
 entry_with_state : (c : Cube) (s : StateWord) → is_offline s ≡ false → c.state ≡ word.Mounted → cube_entry (with_state s c) ≡ cube_entry c
@@ -178,7 +187,8 @@ pub sound_unbroken : (x : Content) (h : History) → x ≡ Sound h → IsBrokenC
 sound_unbroken x h is broken = absurd (subst IsBrokenContent is broken)
 
 -- what the lot has is the record's content
-module _ {D : Type 0} (state : D → DiskState) (left : D → ℕ → Image → List ℕ → Type 0) (lot : LotView) (c : Cube) (h : History) (sound : c.content ≡ Sound h) (a b : D)
+module _ {D : Type 0} (state : D → DiskState) (left : D → ℕ → Image → List ℕ → Type 0) (lot : LotView) (c : Cube) (h : History)
+    (sound : c.content ≡ Sound h) (a b : D)
     (step : CrashStep state left (extent lot) (HasHistory lot c.form c.mode h) a b) where
   pub sound_leaves : LeavesOnly left a b (With (state a).streams.aside (λ i. Has lot i (Some c)))
   sound_leaves = subst (λ (x : Content). LeavesOnly left a b (With (state a).streams.aside (λ i. HasContent lot i c.form c.mode x))) (sym sound) step.leaves
@@ -213,7 +223,8 @@ pub record Synced {D : Type 0} (state : D → DiskState) (left : D → ℕ → I
 again : (x : Refusal) → IsErrOf {T = Value} (Err x) code.Fault → IsErrOf {T = ℕ} (Err x) code.Fault
 again x is = let same : x ≡ code.Fault = cc is in ap (λ (y : Refusal). Err y) same
 
-number_faults : (r : Result ℕ Refusal) (room : RoomContent) (m n : ℕ) → m ≤ n → (IsErrOf r code.Fault → Rose m n) → RoseBy (fault_in (meant (told_number r) room)) m n
+number_faults : (r : Result ℕ Refusal) (room : RoomContent) (m n : ℕ) → m ≤ n → (IsErrOf r code.Fault → Rose m n)
+    → RoseBy (fault_in (meant (told_number r) room)) m n
 number_faults (Ok k) room m n le cause = omega (arith, le)
 number_faults (Err x) room m n le cause = faults_said (Err x) room m n le (λ is. cause (again x is))
 
@@ -222,7 +233,8 @@ number_tallies (Ok k) room = tt
 number_tallies (Err x) room = tt
 
 module _ {D : Type 0} (state : D → DiskState) (left : D → ℕ → Image → List ℕ → Type 0) (e f : CubeView) (a b : D) (offline : Bool) (room : RoomContent) where
-  sync_each : (r : Result ℕ Refusal) (p : Bool) → e.stopped ≡ p → Synced state left e f r a b → (c : Cube) → IsOpen e (state a) c → Becomes state left e.lot order.Sync (Open f) a b c (meant (told_number r) room)
+  sync_each : (r : Result ℕ Refusal) (p : Bool) → e.stopped ≡ p → Synced state left e f r a b → (c : Cube) → IsOpen e (state a) c
+      → Becomes state left e.lot order.Sync (Open f) a b c (meant (told_number r) room)
   sync_each (Ok k) true is s c at = absurd (cc (s.stopped is))
   sync_each (Ok k) false is s c at =
       let h = at.history in
@@ -267,7 +279,9 @@ module _ {D : Type 0} (state : D → DiskState) (left : D → ℕ → Image → 
         entry = refl;
         found = tt;
         leaves = sound_leaves state left e.lot c h at.sound a b step;
-        frame = subst (λ (d : D). Within state left (WritesIn e.lot order.Sync (Err (Because why.Stopped))) a d) (sym (s.untouched is)) (within_refl state left (WritesIn e.lot order.Sync (Err (Because why.Stopped))) a);
+        frame =
+            subst (λ (d : D). Within state left (WritesIn e.lot order.Sync (Err (Because why.Stopped))) a d) (sym (s.untouched is))
+            (within_refl state left (WritesIn e.lot order.Sync (Err (Because why.Stopped))) a);
         spares = λ broken. absurd (sound_unbroken c.content h at.sound broken);
       })
   sync_each (Err x) false is s c at =
@@ -295,7 +309,8 @@ module _ {D : Type 0} (state : D → DiskState) (left : D → ℕ → Image → 
       })
 
   -- a sync of an open cube
-  pub sync_order : (r : Result ℕ Refusal) → Synced state left e f r a b → AnswersOrder state left e.lot order.Sync offline (Open e) (Open f) room (told_number r) a b
+  pub sync_order : (r : Result ℕ Refusal) → Synced state left e f r a b
+      → AnswersOrder state left e.lot order.Sync offline (Open e) (Open f) room (told_number r) a b
   sync_order r s = record {
     cell = s.lot;
     within = s.within;
@@ -307,7 +322,8 @@ module _ {D : Type 0} (state : D → DiskState) (left : D → ℕ → Image → 
 -- ---- an unmount
 
 -- what an unmount of a cube says
-pub record UnmountSays {D : Type 0} (state : D → DiskState) (left : D → ℕ → Image → List ℕ → Type 0) (e : CubeView) (r : Result ℕ Refusal) (a b : D) : Type 0 where
+pub record UnmountSays {D : Type 0} (state : D → DiskState) (left : D → ℕ → Image → List ℕ → Type 0) (e : CubeView) (r : Result ℕ Refusal)
+    (a b : D) : Type 0 where
   pub answer : IfOk r (λ k. k ≡ e.done)
   pub stopped : e.stopped ≡ true → IsErrOf r code.Stopped
   pub untouched : e.stopped ≡ true → b ≡ a
@@ -315,14 +331,16 @@ pub record UnmountSays {D : Type 0} (state : D → DiskState) (left : D → ℕ 
   pub failed : Caused state code.Fault r a b
   pub within : Within state left (extent e.lot) a b
   pub crash : (g : Form) (mode : Mode) (h : History) → Holds g mode h e (state a) → CrashStep state left (extent e.lot) (HasHistory e.lot g mode h) a b
-  pub settled : (g : Form) (mode : Mode) (h : History) → Holds g mode h e (state a) → OnOk r (Every (extent e.lot) (state b) (HasHistory e.lot g mode (settled h)))
+  pub settled : (g : Form) (mode : Mode) (h : History) → Holds g mode h e (state a)
+      → OnOk r (Every (extent e.lot) (state b) (HasHistory e.lot g mode (settled h)))
 
 cell_left : (lot : LotView) (r : Result ℕ Refusal) → IsCellOf lot (cell_without r)
 cell_left lot (Ok k) = tt
 cell_left lot (Err x) = tt
 
 module _ {D : Type 0} (state : D → DiskState) (left : D → ℕ → Image → List ℕ → Type 0) (e : CubeView) (a b : D) (offline : Bool) (room : RoomContent) where
-  unmount_each : (r : Result ℕ Refusal) (p : Bool) → e.stopped ≡ p → UnmountSays state left e r a b → (c : Cube) → IsOpen e (state a) c → Becomes state left e.lot order.Unmount (cell_without r) a b c (meant (told_number r) room)
+  unmount_each : (r : Result ℕ Refusal) (p : Bool) → e.stopped ≡ p → UnmountSays state left e r a b → (c : Cube) → IsOpen e (state a) c
+      → Becomes state left e.lot order.Unmount (cell_without r) a b c (meant (told_number r) room)
   unmount_each (Ok k) true is s c at = absurd (cc (s.stopped is))
   unmount_each (Ok k) false is s c at =
       let h = at.history in
@@ -330,7 +348,8 @@ module _ {D : Type 0} (state : D → DiskState) (left : D → ℕ → Image → 
       let count : k ≡ done h = s.answer ∙ (at.holds.runs is).count in
       let step = s.crash c.form c.mode h at.holds in record {
         then = with_state word.Unmounted (with_history (settled h) c);
-        own = inl (on_sync c word.Unmounted h, mounted_plain c h (on_sync c word.Unmounted) mounted at.sound, (ap (λ (n : ℕ). Ok (reply.Number n)) count, refl));
+        own =
+            inl (on_sync c word.Unmounted h, mounted_plain c h (on_sync c word.Unmounted) mounted at.sound, (ap (λ (n : ℕ). Ok (reply.Number n)) count, refl));
         carries = record { each = s.settled c.form c.mode h at.holds; known = tt; is = refl };
         entry = entry_with_state c word.Unmounted refl mounted;
         found = tt;
@@ -350,7 +369,9 @@ module _ {D : Type 0} (state : D → DiskState) (left : D → ℕ → Image → 
         entry = refl;
         found = tt;
         leaves = sound_leaves state left e.lot c h at.sound a b step;
-        frame = subst (λ (d : D). Within state left (WritesIn e.lot order.Unmount (Err (Because why.Stopped))) a d) (sym (s.untouched is)) (within_refl state left (WritesIn e.lot order.Unmount (Err (Because why.Stopped))) a);
+        frame =
+            subst (λ (d : D). Within state left (WritesIn e.lot order.Unmount (Err (Because why.Stopped))) a d) (sym (s.untouched is))
+            (within_refl state left (WritesIn e.lot order.Unmount (Err (Because why.Stopped))) a);
         spares = λ broken. absurd (sound_unbroken c.content h at.sound broken);
       })
   unmount_each (Err x) false is s c at =
@@ -369,7 +390,8 @@ module _ {D : Type 0} (state : D → DiskState) (left : D → ℕ → Image → 
       })
 
   -- an unmount of an open cube
-  pub unmount_order : (r : Result ℕ Refusal) → UnmountSays state left e r a b → AnswersOrder state left e.lot order.Unmount offline (Open e) (cell_without r) room (told_number r) a b
+  pub unmount_order : (r : Result ℕ Refusal) → UnmountSays state left e r a b
+      → AnswersOrder state left e.lot order.Unmount offline (Open e) (cell_without r) room (told_number r) a b
   unmount_order r s = record {
     cell = cell_left e.lot r;
     within = s.within;
@@ -379,8 +401,10 @@ module _ {D : Type 0} (state : D → DiskState) (left : D → ℕ → Image → 
   }
 
 -- the same of cells, lots and replies that are these
-pub order_as : {D : Type 0} (state : D → DiskState) (left : D → ℕ → Image → List ℕ → Type 0) (l lot : LotView) (o : Order) (offline : Bool) (x y before after : Cell) (room : RoomContent) (q r : Result Value Refusal) (a b : D)
-    → l ≡ lot → before ≡ x → after ≡ y → r ≡ q → AnswersOrder state left l o offline x y room q a b → AnswersOrder state left lot o offline before after room r a b
+pub order_as : {D : Type 0} (state : D → DiskState) (left : D → ℕ → Image → List ℕ
+    → Type 0) (l lot : LotView) (o : Order) (offline : Bool) (x y before after : Cell) (room : RoomContent) (q r : Result Value Refusal) (a b : D)
+    → l ≡ lot → before ≡ x → after ≡ y → r ≡ q → AnswersOrder state left l o offline x y room q a b
+    → AnswersOrder state left lot o offline before after room r a b
 order_as state left l lot o offline x y before after room q r a b at from to said answers =
     subst (λ (z : LotView). AnswersOrder state left z o offline before after room r a b) at
     (subst (λ (z : Cell). AnswersOrder state left l o offline z after room r a b) (sym from)

@@ -57,7 +57,8 @@ pub record IsRecord (lot : LotView) (offline : Bool) (cell : Cell) (s : DiskStat
 
 -- The record after an order: the reply is the record's own, the cell and the lot carry the one after it, and the tables still show it.
 -- Each crash leaves the record as it was, and only the blocks of the order are written, none where the cube is broken.
-pub record Becomes {D : Type 0} (state : D → DiskState) (left : D → ℕ → Image → List ℕ → Type 0) (lot : LotView) (o : Order) (after : Cell) (old new : D) (c : Cube) (r : Response) : Type 0 where
+pub record Becomes {D : Type 0} (state : D → DiskState) (left : D → ℕ → Image → List ℕ → Type 0) (lot : LotView) (o : Order) (after : Cell)
+    (old new : D) (c : Cube) (r : Response) : Type 0 where
   pub then : Cube
   pub own : Own (Some c) o r (Some then)
   pub carries : Carries after lot (state new) (Some then)

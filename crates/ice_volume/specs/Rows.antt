@@ -17,7 +17,8 @@ is_marked (Some r) = r.offline
 -- the row of a slot in the list of cubes, where it has one
 abbrev pub shown_row : VolumeView → ℕ → Option Row → Option CubeRow
 shown_row v s None = None
-shown_row v s (Some r) = Some (record { slot = s; groups = length (groups_of (tables_of v.system) s); state = cell_state (cell_at v.cells s) r.offline; path = r.path })
+shown_row v s (Some r) =
+    Some (record { slot = s; groups = length (groups_of (tables_of v.system) s); state = cell_state (cell_at v.cells s) r.offline; path = r.path })
 
 -- a row, where there is one
 abbrev pub at_most_one : Option CubeRow → List CubeRow

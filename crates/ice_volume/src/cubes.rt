@@ -39,7 +39,8 @@ impl Volume {
     /// Syncs the cube of a path.
     pub(crate) fn sync<D: Disk>(&mut self, disk: &mut D, path: &Path) -> Reply
         requires { HasRoom self.old (D.state disk.old) }
-        ensures { (room : RoomContent) → AnswersLine {X = AreaFault} D.state D.left (Asks (Sync path.now)) self.old self.new room (Ok result) disk.old disk.new }
+        ensures { (room : RoomContent)
+            → AnswersLine {X = AreaFault} D.state D.left (Asks (Sync path.now)) self.old self.new room (Ok result) disk.old disk.new }
     {
         let slot = match self.find(path) {
             Some(slot) => slot,
@@ -56,7 +57,8 @@ impl Volume {
     /// Unmounts the cube of a path.
     pub(crate) fn unmount<D: Disk>(&mut self, disk: &mut D, path: &Path) -> Reply
         requires { HasRoom self.old (D.state disk.old) }
-        ensures { (room : RoomContent) → AnswersLine {X = AreaFault} D.state D.left (Asks (Unmount path.now)) self.old self.new room (Ok result) disk.old disk.new }
+        ensures { (room : RoomContent)
+            → AnswersLine {X = AreaFault} D.state D.left (Asks (Unmount path.now)) self.old self.new room (Ok result) disk.old disk.new }
     {
         let slot = match self.find(path) {
             Some(slot) => slot,
@@ -73,7 +75,8 @@ impl Volume {
     /// Mounts the cube of a path.
     pub(crate) fn mount<D: Disk>(&mut self, disk: &mut D, path: &Path) -> Reply
         requires { HasRoom self.old (D.state disk.old) }
-        ensures { (room : RoomContent) → AnswersLine {X = AreaFault} D.state D.left (Asks (Mount path.now)) self.old self.new room (Ok result) disk.old disk.new }
+        ensures { (room : RoomContent)
+            → AnswersLine {X = AreaFault} D.state D.left (Asks (Mount path.now)) self.old self.new room (Ok result) disk.old disk.new }
     {
         let slot = match self.find(path) {
             Some(slot) => slot,
@@ -96,7 +99,8 @@ impl Volume {
     /// Checks the cube of a path.
     pub(crate) fn check<D: Disk>(&mut self, disk: &mut D, path: &Path) -> Reply
         requires { HasRoom self.old (D.state disk.old) }
-        ensures { (room : RoomContent) → AnswersLine {X = AreaFault} D.state D.left (Asks (Check path.now)) self.old self.new room (Ok result) disk.old disk.new }
+        ensures { (room : RoomContent)
+            → AnswersLine {X = AreaFault} D.state D.left (Asks (Check path.now)) self.old self.new room (Ok result) disk.old disk.new }
     {
         let slot = match self.find(path) {
             Some(slot) => slot,
