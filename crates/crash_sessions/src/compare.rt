@@ -11,12 +11,20 @@ fn count_of(reply: &str) -> Option<u64> {
     reply.strip_prefix("ok ")?.parse::<u64>().ok()
 }
 
+/// Whether each reply is that there is no cube.
+fn is_nothing(replies: &str) -> bool {
+    for line in replies.lines() {
+        if line != "no NoCube" {
+            return false;
+        }
+    }
+    true
+}
+
 /// Whether the replies to the looks are those of a cube that was left so.
 fn is_left(place: &Place, lives: &[Life], replies: &str) -> bool {
     let Some(life) = place.life else {
-        return replies
-            .split_terminator('\n')
-            .all(|line| line == "no NoCube");
+        return is_nothing(replies);
     };
     let Some(life) = lives.get(life) else {
         return false;
@@ -84,7 +92,10 @@ fn difference<'a>(
     rest: &'a str,
 ) -> Option<(&'a str, &'a str)> {
     let view = lives.get(place.life?)?.view(count_of(mount)?)?;
-    view.split('\n')
-        .zip(rest.split('\n'))
-        .find(|(wanted, got)| wanted != got)
+    for (wanted, got) in view.lines().zip(rest.lines()) {
+        if wanted != got {
+            return Some((wanted, got));
+        }
+    }
+    None
 }

@@ -9,7 +9,7 @@ use ice_base::{Block, Disk, DiskFault, Host, SinkFault, SourceFault};
 use std::alloc::{AllocError, Global};
 
 /// A call that wrote a block or settled all.
-#[derive(Clone, Copy, Debug, PartialEq, Eq)]
+#[derive(Clone, Copy)]
 pub struct Change {
     /// The number of the call.
     pub number: u64,

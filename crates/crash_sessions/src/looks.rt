@@ -111,14 +111,14 @@ fn digits(alloc: Global, count: u16, number: usize) -> Result<String, AllocError
     hex::encode(alloc, bytes.as_slice())
 }
 
-/// What a text stores: after a heading the looks, and after a second one the session. Empty lines say nothing.
+/// What a text stores: after a heading the looks, and after a second one the session.
 pub fn stored_in(alloc: Global, text: &str) -> io::Result<Stored> {
     let mut stored = Stored::new(alloc);
     let mut headings: u32 = 0;
-    for line in text.split('\n') {
+    for line in text.lines() {
         if line.starts_with('#') {
             headings = headings.saturating_add(1);
-        } else if line.is_empty() {} else if headings < 2 {
+        } else if headings < 2 {
             stored.add_look(alloc, line)?;
         } else {
             stored.add_line(alloc, line)?;

@@ -90,6 +90,33 @@ fn compare_replies(
     Ok(apart)
 }
 
+/// Tries each span of a first session that ended so, and prints how many there were and whether all was as it should be.
+fn try_all(rt: &HostRuntime, stored: &Stored, story: &Story, watched: &Watched) -> io::Result<()> {
+    let host = watched.host();
+    let apart = compare_replies(rt, stored, story, host.output())?;
+    let Some(changes) = watched.changes() else {
+        return Err(io::ErrorKind::OutOfMemory.into());
+    };
+    let spans = spans_of(rt.alloc(), host, changes)?;
+    let mut trial = Trial::new(rt.alloc(), stored, story, host, apart);
+    for (turn, span) in spans.iter().enumerate() {
+        trial.try_span(rt, span, turn)?;
+    }
+    println!(rt; "lines: {}", stored.lines.len())?;
+    println!(rt; "moments: {}", host.calls().saturating_add(1))?;
+    println!(rt; "spans: {}", spans.len())?;
+    report(rt, trial.runs, trial.apart)
+}
+
+/// Prints how many second sessions there were, and what came of them.
+fn report(rt: &HostRuntime, runs: u64, apart: u64) -> io::Result<()> {
+    println!(rt; "second sessions: {runs}")?;
+    match apart {
+        0 => println!(rt; "no disagreement"),
+        apart => println!(rt; "disagreements: {apart}"),
+    }
+}
+
 fn main(rt: HostRuntime) -> io::Result<()> {
     let alloc = rt.alloc();
     let mut text = String::new(alloc);
@@ -97,22 +124,5 @@ fn main(rt: HostRuntime) -> io::Result<()> {
     let stored = stored_in(alloc, text.as_str())?;
     let story = Story::of(alloc, &stored)?;
     let watched = first_session(alloc, &stored)?;
-    let host = watched.host();
-    let apart = compare_replies(&rt, &stored, &story, host.output())?;
-    let Some(changes) = watched.changes() else {
-        return Err(io::ErrorKind::OutOfMemory.into());
-    };
-    let spans = spans_of(alloc, host, changes)?;
-    let mut trial = Trial::new(alloc, &stored, &story, host, apart);
-    for (turn, span) in spans.iter().enumerate() {
-        trial.try_span(&rt, span, turn)?;
-    }
-    println!(rt; "lines: {}", stored.lines.len())?;
-    println!(rt; "moments: {}", host.calls().saturating_add(1))?;
-    println!(rt; "spans: {}", spans.len())?;
-    println!(rt; "second sessions: {}", trial.runs)?;
-    match trial.apart {
-        0 => println!(rt; "no disagreement"),
-        apart => println!(rt; "disagreements: {apart}"),
-    }
+    try_all(&rt, &stored, &story, &watched)
 }

@@ -5,7 +5,7 @@ use disk_mem::MemHost;
 use std::alloc::{AllocError, Global};
 
 /// Moments between which no call changed the disk, so that a crash leaves the same images at each. A moment is a number of calls that were made.
-#[derive(Clone, Copy, Debug, PartialEq, Eq)]
+#[derive(Clone, Copy)]
 pub struct Span {
     pub first: u64,
     pub last: u64,
@@ -33,7 +33,13 @@ fn ends_of(alloc: Global, output: &[u8]) -> Result<Vec<usize>, AllocError> {
 /// How many of the replies that end so had been given whole at the moment.
 fn answered(host: &MemHost, ends: &[usize], moment: u64) -> usize {
     let given = host.output_at(moment.min(host.calls())).len();
-    ends.iter().filter(|end| **end <= given).count()
+    let mut count: usize = 0;
+    for end in ends {
+        if *end <= given {
+            count = count.saturating_add(1);
+        }
+    }
+    count
 }
 
 /// The spans of all moments of a session that came to its end, of whose calls these changed the disk.

@@ -34,12 +34,30 @@ fn paths<'a>(command: &'a Command) -> Option<(&'a Path, Option<&'a Path>)> {
     }
 }
 
-/// The number of the cube that has just this path.
-fn cube_at(looks: &[Looks], path: &Path) -> Result<usize, Refusal> {
-    looks
-        .iter()
-        .position(|looks| looks.path.text() == path.text())
-        .ok_or(Refusal::NoCube)
+/// The path of a command on a cube.
+fn cube_path<'a>(command: &'a Command) -> Option<&'a Path> {
+    match command {
+        Command::Create { path, .. }
+        | Command::Grow { path, .. }
+        | Command::Delete { path }
+        | Command::Check { path }
+        | Command::Offline { path }
+        | Command::Online { path }
+        | Command::Mount { path }
+        | Command::Unmount { path }
+        | Command::Sync { path } => Some(path),
+        _ => None,
+    }
+}
+
+/// The number of the cube that has just this path, or that of no cube.
+fn cube_at(looks: &[Looks], path: &Path) -> usize {
+    for (cube, looks) in looks.iter().enumerate() {
+        if looks.path.text() == path.text() {
+            return cube;
+        }
+    }
+    looks.len()
 }
 
 /// The number of the cube whose path begins this one.
@@ -96,14 +114,22 @@ impl Story {
         let mut reader = reader_of(alloc, line)?;
         match reader.command() {
             Err(refusal) => add_plain(&Err(refusal), text),
-            Ok(Command::Create { path, groups }) => {
-                let reply = self.create(alloc, looks, world, &path, groups)?;
-                add_plain(&reply, text)
-            }
             Ok(command) if paths(&command).is_some() => {
                 self.ask(alloc, looks, world, &command, text)
             }
-            Ok(command) => add_plain(&self.order(looks, world, &command), text),
+            Ok(command) => {
+                let Some(path) = cube_path(&command) else {
+                    return add_plain(&Err(Refusal::Word), text);
+                };
+                let cube = cube_at(looks, path);
+                let reply = match command {
+                    Command::Create { groups, .. } => self.create(
+                        alloc, looks, world, cube, groups,
+                    )?,
+                    command => self.order(world, cube, &command),
+                };
+                add_plain(&reply, text)
+            }
         }
     }
 
@@ -113,47 +139,42 @@ impl Story {
         alloc: Global,
         looks: &[Looks],
         world: &mut World,
-        path: &Path,
+        cube: usize,
         groups: u32,
     ) -> Result<Reply, AllocError> {
-        let Ok(cube) = cube_at(looks, path) else {
+        let Some(looks) = looks.get(cube) else {
             return Ok(Err(Refusal::NoSlot));
         };
         let reply = world.create(cube, self.lives.len(), groups);
-        if let (Ok(_), Some(looks)) = (reply, looks.get(cube)) {
+        if reply.is_ok() {
             self.lives.push(Life::new(alloc, looks, groups)?)?;
         }
         Ok(reply)
     }
 
-    /// The reply to a line on a cube, and what it does.
-    fn order(&mut self, looks: &[Looks], world: &mut World, command: &Command) -> Reply {
+    /// The reply to another line on a cube, and what it does.
+    fn order(&mut self, world: &mut World, cube: usize, command: &Command) -> Reply {
         match command {
-            Command::Delete { path } => world.delete(cube_at(looks, path)?),
-            Command::Grow { path, groups } => {
-                let cube = cube_at(looks, path)?;
+            Command::Delete { .. } => world.delete(cube),
+            Command::Grow { groups, .. } => {
                 let reply = world.grow(cube, *groups)?;
-                let life = world.place(cube).life.ok_or(Refusal::NoCube)?;
-                self.lives
-                    .get_mut(life)
-                    .ok_or(Refusal::NoCube)?
-                    .widen(*groups);
+                self.life_at(world, cube)?.widen(*groups);
                 Ok(reply)
             }
-            Command::Check { path } => {
-                let life = world
-                    .place(cube_at(looks, path)?)
-                    .life
-                    .ok_or(Refusal::NoCube)?;
-                self.lives.get(life).ok_or(Refusal::NoCube)?.checked()
-            }
-            Command::Offline { path } => world.place_mut(cube_at(looks, path)?)?.offline(),
-            Command::Online { path } => world.place_mut(cube_at(looks, path)?)?.online(),
-            Command::Mount { path } => world.place_mut(cube_at(looks, path)?)?.mount(),
-            Command::Unmount { path } => world.place_mut(cube_at(looks, path)?)?.unmount(),
-            Command::Sync { path } => world.place_mut(cube_at(looks, path)?)?.sync(),
+            Command::Check { .. } => self.life_at(world, cube)?.checked(),
+            Command::Offline { .. } => world.place_mut(cube)?.offline(),
+            Command::Online { .. } => world.place_mut(cube)?.online(),
+            Command::Mount { .. } => world.place_mut(cube)?.mount(),
+            Command::Unmount { .. } => world.place_mut(cube)?.unmount(),
+            Command::Sync { .. } => world.place_mut(cube)?.sync(),
             _ => Err(Refusal::Word),
         }
+    }
+
+    /// The life of the cube at this path.
+    fn life_at(&mut self, world: &World, cube: usize) -> Result<&mut Life, Refusal> {
+        let life = world.place(cube).life.ok_or(Refusal::NoCube)?;
+        self.lives.get_mut(life).ok_or(Refusal::NoCube)
     }
 
     /// Adds the reply of a cube to a command of its tree.

@@ -8,11 +8,8 @@ pub const CUBES: usize = 4;
 /// The number of the volume's groups.
 pub const GROUPS: usize = 7;
 
-/// The most groups of a cube.
-const MOST_GROUPS: usize = 64;
-
 /// What stands at a cube's path.
-#[derive(Clone, Copy, Debug, PartialEq, Eq)]
+#[derive(Clone, Copy)]
 pub struct Place {
     /// The number of the cube's life, where there is a cube.
     pub life: Option<usize>,
@@ -162,17 +159,10 @@ impl World {
         if self.place(cube).life.is_some() {
             return Err(Refusal::Exists);
         }
-        let free = self.slots.iter().position(|owner| owner.is_none());
-        let Some(slot) = free.and_then(|at| self.slots.get_mut(at)) else {
-            return Err(Refusal::NoSlot);
-        };
-        *slot = Some(cube);
-        match self.reserve(cube, groups) {
-            Ok(()) => {}
-            Err(refusal) => {
-                self.release(cube);
-                return Err(refusal);
-            }
+        self.take_slot(cube)?;
+        if let Err(refusal) = self.reserve(cube, groups) {
+            self.release(cube);
+            return Err(refusal);
         }
         *self.place_mut(cube)? = Place {
             life: Some(life),
@@ -204,27 +194,39 @@ impl World {
         Ok(Value::Plain)
     }
 
-    /// Gives the cube the least free groups.
-    fn reserve(&mut self, cube: usize, groups: u32) -> Result<(), Refusal> {
-        let wanted = groups as usize;
-        let held = self
-            .groups
-            .iter()
-            .filter(|owner| **owner == Some(cube))
-            .count();
-        if held.saturating_add(wanted) > MOST_GROUPS {
-            return Err(Refusal::CubeFull);
+    /// Gives the cube the least free slot.
+    fn take_slot(&mut self, cube: usize) -> Result<(), Refusal> {
+        for owner in self.slots.iter_mut() {
+            if owner.is_none() {
+                *owner = Some(cube);
+                return Ok(());
+            }
         }
-        if self.groups.iter().filter(|owner| owner.is_none()).count() < wanted {
+        Err(Refusal::NoSlot)
+    }
+
+    /// The number of groups that no cube has.
+    fn free(&self) -> u32 {
+        let mut free: u32 = 0;
+        for owner in &self.groups {
+            if owner.is_none() {
+                free = free.saturating_add(1);
+            }
+        }
+        free
+    }
+
+    /// Gives the cube the least free groups. No cube can have as many as 64 of them.
+    fn reserve(&mut self, cube: usize, groups: u32) -> Result<(), Refusal> {
+        if self.free() < groups {
             return Err(Refusal::NoGroups);
         }
-        for owner in self
-            .groups
-            .iter_mut()
-            .filter(|owner| owner.is_none())
-            .take(wanted)
-        {
-            *owner = Some(cube);
+        let mut left = groups;
+        for owner in self.groups.iter_mut() {
+            if owner.is_none() && left > 0 {
+                *owner = Some(cube);
+                left -= 1;
+            }
         }
         Ok(())
     }
