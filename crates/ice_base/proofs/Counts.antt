@@ -12,7 +12,3 @@ rose_later n a b c p q = omega (arith, p, q)
 
 pub rose_after : (n a b c : ℕ) → a ≤ b → RoseBy n b c → RoseBy n a c
 rose_after n a b c p q = omega (arith, p, q)
-
--- a lower count rose less
-pub rose_fewer : (n m a b : ℕ) → m ≤ n → RoseBy n a b → RoseBy m a b
-rose_fewer n m a b p q = omega (arith, p, q)

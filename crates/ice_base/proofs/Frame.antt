@@ -1,5 +1,5 @@
 -- What outlasts calls, and what their crashes leave.
-use Rattle.std.proofs.Common.{Result, Ok, Err, OnOk, OnErr, is_ok, IsErr, ◌≡◌, inl, inr, ⊎_elim, ℕ, true, List, sym, ◌∙◌, ap, subst}
+use Rattle.std.proofs.Common.{Result, Ok, Err, OnOk, is_ok, IsErr, ◌≡◌, inl, inr, ⊎_elim, ℕ, true, List, sym, ◌∙◌, ap, subst}
 use Rattle.ice_base.specs.Disk.{Image, DiskState, Streams, AgreesOn, Everywhere, Nowhere, Minus, BarrierCounts}
 use Rattle.ice_base.specs.Frames.{Within, Every, LeavesOnly, With, RestsOn, CrashStep, Settled, Moves, Sure}
 
@@ -167,22 +167,6 @@ module _ {D : Type 0} (state : D → DiskState) (left : D → ℕ → Image → 
     settled = record { told = w.tells ∙ sure.settled.told; settled = λ k r. w.settled k (outside k r) (sure.settled.settled k r) };
     now = rests (state a).now (state b).now (λ k r. w.same k (outside k r)) sure.now;
   }
-
-  pub sure_leaves : (S R : ℕ → Type 0) (P : Image → Type 0) (a b : D) → RestsOn R P → ((k : ℕ) → R k → ¬ S k) → Within state left S a b → Sure R P (state a)
-      → LeavesOnly left a b (With (state a).streams.aside P)
-  sure_leaves S R P a b rests outside w sure = record {
-    each = λ t i o l. ⊎_elim (λ before. inl before)
-        (λ here. inr (rests (state a).now i (λ k r. here.0.same k (outside k r) (sure.settled.settled k r)) sure.now, here.1)) (w.left_new t i o l);
-  }
-
-  pub leaves_with : (P Q : Image → Type 0) (aside : List ℕ) (a b : D) → ((i : Image) → P i → Q i) → LeavesOnly left a b (With aside P)
-      → LeavesOnly left a b (With aside Q)
-  leaves_with P Q aside a b sub v = leaves_more state left (With aside P) (With aside Q) a b (λ i o p. (sub i p.0, p.1)) v
-
--- what holds anyway holds at Err
-pub OnErr-always : {T X : Type 0} (P : Type 0) (r : Result T X) → P → OnErr r P
-OnErr-always P (Ok x) p = tt
-OnErr-always P (Err e) p = p
 
 -- What a crash since the start may leave: `agrees` is the law of the disk at the start.
 pub since_start : {D : Type 0} (state : D → DiskState) (left : D → ℕ → Image → List ℕ → Type 0) (old new : D) (P : Image → List ℕ → Type 0)

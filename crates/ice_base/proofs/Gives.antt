@@ -28,9 +28,6 @@ same_refl s = record { size = refl; tells = refl; faults = refl; clock = omega a
 pub gave_then : (a b c : Streams) → GaveOnly a b → GaveOnly b c → GaveOnly a c
 gave_then a b c v w = record { intake = w.intake ∙ v.intake; source_faults = w.source_faults ∙ v.source_faults; faults = omega (arith, v.faults, w.faults) }
 
-pub gave_none : (s : Streams) → GaveOnly s s
-gave_none s = record { intake = refl; source_faults = refl; faults = omega arith }
-
 pub agrees_same : (s m : DiskState) (image : Image) → SameDisk s m → AgreesOn Everywhere m image → AgreesOn Everywhere s image
 agrees_same s m image same agrees = record {
   count = agrees.count ∙ same.size;

@@ -175,12 +175,6 @@ home_not_header lot a l k e = ⊎_elim (λ s. omega arith) (λ s. omega arith) (
 pub home_not_body : (lot : LotView) (a i : ℕ) → IsLot lot → i < 240 → is_address lot a ≡ true → place lot a ≢ body_place lot i
 home_not_body lot a i l h k e = ⊎_elim (λ s. omega arith) (λ s. omega arith) (home_at lot a l k)
 
--- the journal's blocks differ
-pub journal_apart : (lot : LotView) (i j : ℕ)
-    → (gate_place lot ≢ header_place lot) × (gate_place lot ≢ body_place lot i) × (header_place lot ≢ body_place lot i)
-    × (body_place lot i ≡ body_place lot j → i ≡ j)
-journal_apart lot i j = ((λ e. omega arith), (λ e. omega arith), (λ e. omega arith), (λ e. omega arith))
-
 -- where a block of a lot lies: in its slot's area, or in one of its groups
 abbrev pub InGroup : LotView → ℕ → Type 0
 InGroup lot k = (i : ℕ) × (i < length lot.groups) × (lot.base + 256 * slice_index lot.groups i ≤ k) × (k < lot.base + 256 * slice_index lot.groups i + 256)

@@ -2,10 +2,6 @@ use Rattle.std.proofs.Common.{◌≡◌, ◌≢◌, ◌≤◌, ◌<◌, ◌+◌,
 use Rattle.std.proofs.lemmas.Bool.Decides.{nat_tests}
 use Rattle.ice_base.specs.Spare.{lacks, has, Pays, bitmaps}
 
-pub lacks_two : (held : ℕ → Bool) (a b : ℕ) → lacks held (a ∷ b ∷ []) ≡ cond (held a) 0 1 + cond (held b) 0 1
-unfolding lacks
-lacks_two held a b = grind arith
-
 -- at most two of two addresses lack
 pub lacks_few : (held : ℕ → Bool) (a b n : ℕ) → 2 ≤ n → lacks held (a ∷ b ∷ []) ≤ n
 unfolding lacks

@@ -83,9 +83,6 @@ pub group_below : (inodes : Bool) (o i n : ℕ) → i < bits_of inodes → o < n
 group_below true o i n h k = omega arith
 group_below false o i n h k = omega arith
 
-pub group_of : (inodes : Bool) (o i : ℕ) → i < bits_of inodes → bitmap_of inodes (bits_of inodes * o + i) ≡ 256 * o
-group_of inodes o i h = ap (λ x. 256 * x) (group_div inodes o i h)
-
 -- a number's group is one of the lot's
 pub ordinal_below : (inodes : Bool) (i n : ℕ) → i < bits_of inodes * n → i / bits_of inodes < n
 ordinal_below true i n h = div_below i 64 n (omega arith) (omega arith)

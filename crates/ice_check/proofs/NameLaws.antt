@@ -275,6 +275,3 @@ read_more m dir k next name ks x room at is fit old = record { each = each; fit 
               let other : j ≢ k = grind (arith, nat_tests) in
               subst (λ c. IsNameOf form_one c) (sym (kept_others ks k j x room (omega arith) other)) (old.fit j (omega arith))
         ] refl
-
-pub none_read : (m : Map) (dir : ℕ) (names : List (List ℕ)) → AreRead m dir 0 names
-none_read m dir names = record { each = λ k row h at. absurd (omega arith); fit = λ k h. absurd (omega arith) }

@@ -225,11 +225,6 @@ module _ {D : Type 0} (state : D → DiskState) (left : D → ℕ → Image → 
       → Every (extent lot) (state b) (HasHistory lot f mode h)
   still_history lot f mode h a b w every = every_apart state left (extent lot) Nowhere a b (HasHistory lot f mode h) (λ k here never. never) w every
 
-  -- A call that writes nothing leaves what the history has.
-  pub still_step : (f : Form) (mode : Mode) (h : History) (c : CubeView) (a b : D) → Within state left Nowhere a b → Holds f mode h c (state a)
-      → CrashStep state left (extent c.lot) (HasHistory c.lot f mode h) a b
-  still_step f mode h c a b w holds = step_apart state left (extent c.lot) Nowhere (HasHistory c.lot f mode h) a b (λ k here never. never) w holds.lasts
-
   -- So does one after a step that leaves it.
   pub still_after : (lot : LotView) (f : Form) (mode : Mode) (h : History) (a b c : D) → (state b).streams ≡ (state a).streams
       → CrashStep state left (extent lot) (HasHistory lot f mode h) a b

@@ -4,9 +4,9 @@ use Rattle.std.proofs.Math.Path.{fun_ext}
 use Rattle.std.proofs.lemmas.List.{length-take-le}
 use Rattle.std.proofs.Math.Seq.{take-length}
 use Rattle.ice_base.specs.Disk.{Image, DiskState}
-use Rattle.ice_base.specs.Frames.{CrashStep, Every, Kept, RestsOn, Sure}
+use Rattle.ice_base.specs.Frames.{CrashStep, Kept, RestsOn, Sure}
 use Rattle.ice_base.specs.Lots.{LotView, extent}
-use Rattle.ice_base.proofs.Frame.{agrees_fewer, leaves_refl, step_more}
+use Rattle.ice_base.proofs.Frame.{agrees_fewer, step_more}
 use Rattle.ice_base.proofs.Kept.{every_kept, kept_fewer, sure_kept}
 use Rattle.tree_spec.specs.Costs.{Form, form_of}
 use Rattle.tree_spec.specs.Operations.{Operation}
@@ -153,10 +153,6 @@ either_history f mode h c s r i (inr e) = (
 module _ {D : Type 0} (state : D → DiskState) (left : D → ℕ → Image → List ℕ → Type 0) where
   pub step_wider : (E F : ℕ → Type 0) (P : Image → Type 0) (a b : D) → ((k : ℕ) → E k → F k) → CrashStep state left E P a b → CrashStep state left F P a b
   step_wider E F P a b sub v = record { leaves = v.leaves; after = λ i agrees. v.after i (agrees_fewer F E (state b) i sub agrees) }
-
-  -- Where nothing happens, what every image has stays.
-  pub step_none : (E : ℕ → Type 0) (P : Image → Type 0) (a : D) → Every E (state a) P → CrashStep state left E P a a
-  step_none E P a every = record { leaves = leaves_refl state left _ a; after = every }
 
   -- Each crash of a commit leaves what the history has.
   pub commit_step : (f : Form) (mode : Mode) (h : History) (c : CubeView) (a b : D) → c.stopped ≡ false → Holds f mode h c (state a)

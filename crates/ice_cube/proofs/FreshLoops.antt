@@ -58,42 +58,10 @@ module _ {D : Type 0} (state : D → DiskState) (left : D → ℕ → Image → 
     counts = λ told. record { most_writes = omega arith; most_barriers = omega arith; all_writes = λ t. omega arith; all_barriers = λ t. omega arith };
   }
 
-  pub groups_none : (from : ℕ) (a : D) → WroteGroups state left lot from from a a
-  groups_none from a = record {
-    frame = within_refl state left (IsHeadFrom lot from) a;
-    calm = refl;
-    groups = λ told o low high. absurd (omega (arith, low, high));
-    counts = λ told. record { most_writes = omega arith; most_barriers = omega arith; all_writes = λ t. omega arith; all_barriers = λ t. omega arith };
-  }
-
-  -- a write that may have failed changed no more than its place
-  pub places_within : (o k at : ℕ) (a b c : D) → k < 9 → at ≡ place lot (256 * o + k) → WrotePlaces state left lot o k a b
-      → Within state left (λ x. x ≡ at) b c → Within state left (IsGroupHead lot o) a c
-  places_within o k at a b c less is w v =
-      within_then state left (IsGroupHead lot o) a b c w.frame (within_more state left (λ x. x ≡ at) (IsGroupHead lot o) b c (λ x e. (k, less, e ∙ is)) v)
-
   pub groups_within : (from to : ℕ) (a b c : D) → from ≤ to → to < length lot.groups → WroteGroups state left lot from to a b
       → Within state left (IsGroupHead lot to) b c → Within state left (IsHeadFrom lot from) a c
   groups_within from to a b c low high w v = within_then state left (IsHeadFrom lot from) a b c w.frame
       (within_more state left (IsGroupHead lot to) (IsHeadFrom lot from) b c (λ x is. (to, low, high, is)) v)
-
-  -- one place more
-  pub places_more : (o k at : ℕ) (a b c : D) → IsLot lot → o < length lot.groups → k < 9 → at ≡ place lot (256 * o + k) → WrotePlaces state left lot o k a b
-      → Within state left (λ x. x ≡ at) b c → (state c).faults ≡ (state b).faults → ((state b).tells ≡ true → block (state c).now at ≡ fresh_place (o == 0) k)
-      → ((state b).tells ≡ true → Made 1 0 true (state b) (state c)) → WrotePlaces state left lot o (k + 1) a c
-  places_more o k at a b c l ho hk is w v calm here made = record {
-    frame = places_within o k at a b c hk is w v;
-    calm = calm ∙ w.calm;
-    bytes = λ told p less. go told p (last p k less);
-    counts = λ told. made_then k 1 (state a) (state b) (state c) (w.counts told) (made (w.frame.tells ∙ told));
-  }
-    where
-      go : (state a).tells ≡ true → (p : ℕ) → (p < k) ⊎ (p ≡ k) → block (state c).now (place lot (256 * o + p)) ≡ fresh_place (o == 0) p
-      go told p (inl less) = v.same (place lot (256 * o + p))
-          (λ e. let same = head_apart lot o p o k l ho (omega (arith, less, hk)) ho hk (e ∙ is) in omega (arith, same, less))
-          ∙ w.bytes told p less
-      go told p (inr same) = subst (λ (x : ℕ). block (state c).now (place lot (256 * o + x)) ≡ fresh_place (o == 0) x) (sym same)
-          (subst (λ (x : ℕ). block (state c).now x ≡ fresh_place (o == 0) k) is (here (w.frame.tells ∙ told)))
 
   -- one group more
   pub groups_more : (from to : ℕ) (a b c : D) → IsLot lot → from ≤ to → to < length lot.groups → WroteGroups state left lot from to a b

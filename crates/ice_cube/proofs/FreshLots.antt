@@ -3,17 +3,13 @@ use Rattle.std.proofs.Common.{◌≡◌, ◌≢◌, ℕ, ◌+◌, ◌*◌, ◌/�
 use Rattle.std.proofs.lemmas.List.{get_or_append_left}
 use Rattle.std.proofs.lemmas.Nat.{div-add-mod', mod_below}
 use Rattle.ice_base.specs.Disk.{DiskState}
-use Rattle.ice_base.specs.Frames.{RestsOn, Sure}
+use Rattle.ice_base.specs.Frames.{Sure}
 use Rattle.ice_base.specs.Lots.{LotView, IsLot, extent, place, sub_address}
 use Rattle.ice_base.proofs.LotLaws.{extent_cases, place-group}
 use Rattle.ice_journal.specs.Rests.{LotAtRest, RestsLot}
-use Rattle.ice_journal.proofs.RestLaws.{rest_rests, rests_lot}
+use Rattle.ice_journal.proofs.RestLaws.{rests_lot}
 use Rattle.ice_cube.specs.Fresh.{IsEmptyLot, IsHeadFrom}
 use Rattle.ice_cube.proofs.FreshLoops.{head_below}
-
--- That a lot is one of a new cube rests on its gate and its homes.
-pub empty_rests : (lot : LotView) → RestsOn (RestsLot lot) (IsEmptyLot lot)
-empty_rests lot i j same empty = record { blocks = empty.blocks; rest = rest_rests lot empty.blocks i j same empty.rest; recovers = empty.recovers }
 
 -- A settled lot of a new cube is at rest with its effective blocks.
 pub empty_at_rest : (lot : LotView) (s : DiskState) (sure : Sure (extent lot) (IsEmptyLot lot) s) → Sure (RestsLot lot) (LotAtRest lot sure.now.blocks) s

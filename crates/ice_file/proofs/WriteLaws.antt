@@ -9,19 +9,11 @@ use Rattle.ice_base.specs.Used.{counted, free_count}
 use Rattle.ice_map.specs.Maps.{needs}
 use Rattle.ice_map.specs.Growth.{Grew}
 use Rattle.ice_map.proofs.GrowthLaws.{uses-less, uses-needs}
-use Rattle.ice_map.specs.Own.{MadeOf, blocks_for}
+use Rattle.ice_map.specs.Own.{blocks_for}
 use Rattle.ice_file.specs.Files.{byte_of}
 use Rattle.ice_file.specs.Writes.{PutPiece, Written, up_to, blocks_with}
 use Rattle.ice_map.specs.Moves.{content_of, uses_of}
-use Rattle.ice_map.proofs.MoveLaws.{moved-then, moved-refl}
-
--- nothing written yet
-pub written-none : (lot : LotView) (m : ℕ → List ℕ) (x : Inode) (c at : ℕ) (bytes : List ℕ) → MadeOf lot m x c → Written lot m m x x c c at at bytes
-written-none lot m x c at bytes made = record {
-  moved = moved-refl lot m x c made;
-  new = λ i l h. absurd (omega arith);
-  old = λ i l side. refl;
-}
+use Rattle.ice_map.proofs.MoveLaws.{moved-then}
 
 module _ (lot : LotView) (m0 m1 m2 : ℕ → List ℕ) (x y z : Inode) (c d k at done start : ℕ) (bytes part : List ℕ)
     (w : Written lot m0 m1 x y c d at done bytes) (p : PutPiece lot m1 m2 y z d k start part)
@@ -89,9 +81,6 @@ pub count-grows : (size done : ℕ) → blocks_for size ≤ blocks_with size don
 count-grows size done =
     let q = div-add-mod' (max size done + 1023) 1024 in let r = mod_below (max size done + 1023) 1024 (omega arith) in
     let s = div-add-mod' (size + 1023) 1024 in let t = mod_below (size + 1023) 1024 (omega arith) in omega arith
-
-pub count-order : (size from k : ℕ) → 1024 * k ≤ from → k ≤ blocks_with size from
-count-order size from k h = let q = div-add-mod' (max size from + 1023) 1024 in let r = mod_below (max size from + 1023) 1024 (omega arith) in omega arith
 
 pub count-next : (size at end k : ℕ) → at / 1024 ≤ k → k < blocks_for end → at ≤ end
     → max (blocks_with size (up_to at end k)) (k + 1) ≡ blocks_with size (up_to at end (k + 1))

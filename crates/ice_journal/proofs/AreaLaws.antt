@@ -62,13 +62,6 @@ lot_area_of lot area l e = subst (λ (x : Area). IsAreaOf x (slot_targets lot) (
 
 pub ruleset area_laws = (system_area_of, lot_area_of)
 
--- The blocks of the tables' journal are the blocks 1 to 18.
-pub tables_extent : (k : ℕ) → JournalExtent system_places 8 k → (1 ≤ k) × (k < 19)
-tables_extent k (inl gate) = (omega (arith, gate), omega (arith, gate))
-tables_extent k (inr (inl (inl header))) = (omega (arith, header), omega (arith, header))
-tables_extent k (inr (inl (inr body))) = (omega (arith, body.0), omega (arith, body.1))
-tables_extent k (inr (inr home)) = let r = table-range home.0 home.1 in (omega (arith, r.0, home.2), omega (arith, r.1, home.2))
-
 -- The blocks of a lot's journal are blocks of the lot.
 pub lot_extent : (lot : LotView) (k : ℕ) → JournalExtent (lot_places lot) 240 k → extent lot k
 lot_extent lot k (inl gate) = subst (extent lot) (sym gate) (gate_in lot)

@@ -1,9 +1,9 @@
 -- One block written after another.
-use Rattle.std.proofs.Common.{◌≡◌, ◌⊎◌, inl, inr, ℕ, ◌+◌, ◌<◌, true, List, refl, sym, ◌∙◌, subst, arith}
+use Rattle.std.proofs.Common.{◌≡◌, ◌⊎◌, inl, inr, ℕ, ◌+◌, ◌<◌, true, List, sym, ◌∙◌, subst, arith}
 use Rattle.ice_base.specs.Counts.{Made}
 use Rattle.ice_base.specs.Disk.{Image, block, DiskState}
 use Rattle.ice_base.specs.Frames.{Within}
-use Rattle.ice_base.specs.FrameLaws.{within_refl, within_then, within_more}
+use Rattle.ice_base.specs.FrameLaws.{within_then, within_more}
 
 -- the first k of the blocks stand at their places, and nothing else changed
 pub record Wrote {D : Type 0} (state : D → DiskState) (left : D → ℕ → Image → List ℕ → Type 0) (S : ℕ → Type 0) (place : ℕ → ℕ)
@@ -12,16 +12,6 @@ pub record Wrote {D : Type 0} (state : D → DiskState) (left : D → ℕ → Im
   pub calm : (state new).faults ≡ (state old).faults
   pub bytes : (state old).tells ≡ true → (j : ℕ) → j < k → block (state new).now (place j) ≡ content j
   pub counts : (state old).tells ≡ true → Made k 0 true (state old) (state new)
-
--- nothing yet
-pub wrote_none : {D : Type 0} (state : D → DiskState) (left : D → ℕ → Image → List ℕ → Type 0) (S : ℕ → Type 0) (place : ℕ → ℕ) (content : ℕ → List ℕ) (a : D)
-    → Wrote state left S place content 0 a a
-wrote_none state left S place content a = record {
-  frame = within_refl state left S a;
-  calm = refl;
-  bytes = λ told j less. absurd (omega (arith, less));
-  counts = λ told. record { most_writes = omega arith; most_barriers = omega arith; all_writes = λ t. omega arith; all_barriers = λ t. omega arith };
-}
 
 last : (j k : ℕ) → j < k + 1 → (j < k) ⊎ (j ≡ k)
 last j k h = grind arith

@@ -9,7 +9,7 @@ use Rattle.ice_tables.specs.Journals.{Places, replayed}
 use Rattle.ice_txn.specs.declared.set.Entry.{Entry}
 use Rattle.ice_txn.specs.Sets.{address, addresses, contents, holds, over, Differ}
 use Rattle.ice_txn.proofs.SetLaws.{over_free, held_entry, over_here}
-use Rattle.ice_journal.specs.Blocks.{IsBody, IsPut, JournalExtent, CommitBlocks, AreHomes, AreApart}
+use Rattle.ice_journal.specs.Blocks.{IsBody, IsPut, JournalExtent, AreHomes, AreApart}
 use Rattle.ice_journal.specs.Phases.{HoldBlocks, HoldsSet, HomesAre, Idle, Full, Open, RestsIdle, RestsFull, RestsOpen, StandsFor, BeforeOrAfter}
 
 -- Bodies in place of their targets show the map with the entries in place, where the other homes show the map.
@@ -129,11 +129,6 @@ module _ (reads : List ℕ → Option (List ℕ)) (at : Places) (entries : List 
     open_inside k (inl gate) = inl gate
     open_inside k (inr (inl body)) = body_inside k body
     open_inside k (inr (inr other)) = inr (inr (other.0, other.1, other.3))
-
-    pub commit_inside : AreHomes at entries → (k : ℕ) → CommitBlocks at entries k → JournalExtent at most k
-    commit_inside homes k (inl gate) = inl gate
-    commit_inside homes k (inr (inl body)) = body_inside k body
-    commit_inside homes k (inr (inr put)) = inr (inr (put.0, homes put.0 put.1, put.2))
 
 -- After the homes of the entries are written, all homes show the map with the entries in place.
 pub homes_moved : (at : Places) (most : ℕ) (entries : List Entry) (map : ℕ → List ℕ) (old new : Image) → AreApart at most → AreHomes at entries → Differ entries

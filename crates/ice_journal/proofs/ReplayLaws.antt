@@ -1,11 +1,10 @@
 -- What an open journal stands for, as a set of entries, and what its replay leaves.
-use Rattle.std.proofs.Common.{◌≡◌, ◌≤◌, ◌<◌, ◌+◌, ℕ, zero, suc, true, false, List, [], ◌∷◌, length, slice_index, inl, inr, Option, Some, None, IsSomeAnd, Result, Ok, OnOk, refl, sym, ◌∙◌, ap, subst, arith}
+use Rattle.std.proofs.Common.{◌≡◌, ◌≤◌, ◌<◌, ◌+◌, ℕ, zero, suc, true, false, List, [], ◌∷◌, length, slice_index, Option, Some, None, IsSomeAnd, Result, Ok, OnOk, refl, sym, ◌∙◌, ap, subst, arith}
 use Rattle.std.proofs.lemmas.Result.{on_ok_weaker}
 use Rattle.ice_base.specs.Disk.{Image, DiskState, block, Everywhere}
 use Rattle.ice_base.specs.Frames.{Within, CrashStep, Settled, Sure, Moves}
 use Rattle.ice_base.specs.FrameLaws.{within_more}
 use Rattle.ice_base.proofs.Frame.{step_more, moves_more, moves_then}
-use Rattle.ice_base.specs.Lots.{LotView, is_address}
 use Rattle.ice_layout.specs.Headers.{is_open, AreTargets}
 use Rattle.ice_tables.specs.Journals.{Places, replayed, effective}
 use Rattle.ice_txn.specs.declared.set.Entry.{Entry}
@@ -13,7 +12,6 @@ use Rattle.ice_txn.specs.Sets.{address, addresses, contents, over, Differ}
 use Rattle.ice_txn.proofs.SetLaws.{held_entry, held_here}
 use Rattle.ice_journal.specs.Blocks.{IsPut, IsTargetPlace, JournalExtent, AreHomes, AreApart}
 use Rattle.ice_journal.specs.Phases.{HoldBlocks, Idle, Full, Open, RestsIdle, StandsFor, IsPending}
-use Rattle.ice_journal.specs.Shown.{are_some, AreNoneOrTargets}
 use Rattle.ice_journal.proofs.PhaseLaws.{replayed_is, open_stands, close_stands, idle_inside}
 use Rattle.ice_journal.proofs.StepLaws.{homes_written, gate_closed, sure_at}
 
@@ -64,11 +62,6 @@ module _ (at : Places) (most : ℕ) (ts : List ℕ) (targets : AreTargets most a
   put_of : (k : ℕ) → IsTargetPlace at ts k → IsPut at (entries_of ts at.body i) k
   put_of k is =
       (slice_index ts is.0, held_here (entries_of ts at.body i) is.0 (slice_index ts is.0) (omega (arith, is.1, count_of ts at.body i)) (address_of ts at.body i is.0), is.2)
-
--- The targets of a journal that is open are such as a replay takes.
-pub open_targets : (lot : LotView) (ts : List ℕ) → AreNoneOrTargets lot ts → are_some ts ≡ true → AreTargets 240 (is_address lot) ts
-open_targets lot ts (inl none) some = absurd (let f : are_some ts ≡ false = ap are_some none in cc)
-open_targets lot ts (inr are) some = are
 
 -- a map that is the same at the addresses
 pub stands_map : (reads : List ℕ → Option (List ℕ)) (at : Places) (m n : ℕ → List ℕ) (i : Image) → ((a : ℕ) → at.home a ≡ true → m a ≡ n a)
@@ -166,10 +159,3 @@ module _ {D : Type 0} (state : D → DiskState) (left : D → ℕ → Image → 
         (idle_inside reads at es most (few_of at most ts targets (state a).now) apart)
         (there.0, record { gate = there.1.gate; homes = λ x is. there.1.homes x is ∙ sym (pending_map reads at ts (state a).now pending map stands x is) }))
         (m.done settled (pending_open reads at ts (state a).now pending))
-
-  -- A pending journal whose targets' homes alone changed is pending still.
-  pub pending_still : (b : D) → Within state left (IsTargetPlace at ts) a b → IsPending reads at ts (state a).now → IsPending reads at ts (state b).now
-  pending_still b w pending = record {
-    gate = ap is_open (w.same at.gate (λ is. apart.home_gate (slice_index ts is.0) (targets.homes is.0 is.1) (sym is.2))) ∙ pending.gate;
-    header = ap reads (w.same at.header (λ is. apart.home_header (slice_index ts is.0) (targets.homes is.0 is.1) (sym is.2))) ∙ pending.header;
-  }

@@ -3,10 +3,10 @@ use Rattle.std.proofs.Common.{◌≡◌, ◌≤◌, ◌<◌, ◌+◌, ◌-◌, �
 use Rattle.std.specs.List.{list_all}
 use Rattle.std.proofs.lemmas.Bool.Decides.{nat_tests}
 use Rattle.std.proofs.lemmas.List.{take_more, length-take-le}
-use Rattle.std.proofs.Math.Seq.{take-append_seam, set-append_seam, take-length}
+use Rattle.std.proofs.Math.Seq.{take-append_seam, set-append_seam}
 use Rattle.ice_base.specs.Spare.{has}
 use Rattle.ice_base.specs.Lots.{LotView, is_address}
-use Rattle.ice_layout.specs.Headers.{all_differ, filled, header_with, header_of, system_header_of, targets_said, system_targets, IsProperHeader}
+use Rattle.ice_layout.specs.Headers.{all_differ, header_with, header_of, system_header_of, targets_said, system_targets, IsProperHeader}
 use Rattle.ice_layout.specs.declared.header.Header.{Header}
 use Rattle.ice_layout.proofs.HeaderLaws.{header-said, said_targets}
 use Rattle.ice_txn.specs.declared.set.Entry.{Entry}
@@ -83,8 +83,3 @@ target_put ts xs n v less few is e =
     let word : us ++ v ∷ [] ≡ take (n + 1) ts = ap (λ (w : ℕ). us ++ w ∷ []) is ∙ sym (take_more ts n 0 less) in
     ap (λ (x : List ℕ). slice_set x n v) (e ∙ ap (λ (r : List ℕ). us ++ r) zeros) ∙ seam ∙ sym (append_assoc us (v ∷ []) rest)
     ∙ ap (λ (x : List ℕ). x ++ rest) word
-
--- all of them
-pub targets_put : (ts xs : List ℕ) (n : ℕ) → n ≡ length ts → xs ≡ take n ts ++ replicate (240 - n) 0 → xs ≡ filled ts
-targets_put ts xs n all e =
-    e ∙ ap (λ (k : ℕ). take k ts ++ replicate (240 - k) 0) all ∙ ap (λ (us : List ℕ). us ++ replicate (240 - length ts) 0) (take-length ts)

@@ -1,5 +1,5 @@
 -- What a journal stands for is what the effective blocks of a lot or of the tables are, and rests on the journal's blocks.
-use Rattle.std.proofs.Common.{◌≡◌, ◌⊎◌, inl, inr, ⊎_elim, ◌≤◌, ◌<◌, ℕ, Bool, true, false, List, [], length, Option, Some, None, IsSomeAnd, refl, sym, ◌∙◌, ap, arith}
+use Rattle.std.proofs.Common.{◌≡◌, ◌⊎◌, inl, inr, ⊎_elim, ◌≤◌, ◌<◌, ℕ, Bool, true, false, List, [], length, Option, Some, None, IsSomeAnd, refl, sym, ◌∙◌, ap}
 use Rattle.std.specs.Prelude.{if◌then◌else◌, unwrap_or}
 use Rattle.std.specs.Option.{option_map}
 use Rattle.std.proofs.Math.Path.{fun_ext}
@@ -8,13 +8,10 @@ use Rattle.ice_base.specs.Frames.{RestsOn}
 use Rattle.ice_base.specs.Lots.{LotView, inside}
 use Rattle.ice_base.proofs.LotLaws.{inside_at, inside_same}
 use Rattle.ice_layout.specs.Headers.{is_open, slot_targets, system_targets}
-use Rattle.ice_layout.proofs.HeaderLaws.{few-slot, few-system}
 use Rattle.ice_tables.specs.Journals.{Places, effective, effective_of, lot_places, system_places, in_tables, table_blocks}
-use Rattle.ice_tables.proofs.JournalLaws.{effective-same, table-range}
-use Rattle.ice_txn.specs.declared.set.Entry.{Entry}
-use Rattle.ice_txn.specs.Sets.{over}
+use Rattle.ice_tables.proofs.JournalLaws.{effective-same}
 use Rattle.ice_journal.specs.Blocks.{JournalExtent}
-use Rattle.ice_journal.specs.Phases.{BeforeOrAfter, Idle, IsPending, RestsIdle, StandsFor}
+use Rattle.ice_journal.specs.Phases.{Idle, IsPending, StandsFor}
 
 -- ---- a map that is cut to the addresses
 
@@ -72,11 +69,6 @@ module _ (reads : List ℕ → Option (List ℕ)) (at : Places) (most : ℕ)
       back None never = never
       back (Some m) h = λ a is. h a is ∙ cut-here at map a is
 
-  -- and so does that it stands for a map before or after.
-  pub before_rests : (entries : List Entry) (map : ℕ → List ℕ) → RestsOn (JournalExtent at most) (BeforeOrAfter reads at entries map)
-  before_rests entries map i j same both =
-      ⊎_elim (λ before. inl (stands_rests map i j same before)) (λ after. inr (stands_rests (over entries map) i j same after)) both
-
 -- That a journal is open with these targets rests on its gate and its header.
 pub pending_rests : (reads : List ℕ → Option (List ℕ)) (at : Places) (targets : List ℕ)
     → RestsOn (λ k. (k ≡ at.gate) ⊎ (k ≡ at.header)) (IsPending reads at targets)
@@ -84,10 +76,6 @@ pending_rests reads at targets i j same pending = record {
   gate = ap is_open (same at.gate (inl refl)) ∙ pending.gate;
   header = ap reads (same at.header (inr refl)) ∙ pending.header;
 }
-
--- With its gate closed a journal is at rest with its homes.
-pub idle_now : (at : Places) (i : Image) → is_open (block i at.gate) ≡ false → Idle at (λ a. block i (at.place a)) i
-idle_now at i closed = record { gate = closed; homes = λ a is. refl }
 
 -- A journal that stands for a map and whose gate is closed is at rest with this map.
 pub idle_closed : (reads : List ℕ → Option (List ℕ)) (at : Places) (map : ℕ → List ℕ) (i : Image) → is_open (block i at.gate) ≡ false
@@ -112,30 +100,12 @@ effective_stands lot map i e =
     stands-of (slot_targets lot) (lot_places lot) (inside lot) (λ m a is. inside_at lot m a is)
     (λ m n same. fun_ext (λ a. inside_same lot m n a (same a))) map i e
 
--- It rests on the journal's blocks.
-pub lot_stands_rests : (lot : LotView) (map : ℕ → List ℕ) → RestsOn (JournalExtent (lot_places lot) 240) (StandsFor (slot_targets lot) (lot_places lot) map)
-lot_stands_rests lot map = stands_rests (slot_targets lot) (lot_places lot) 240 (few-slot lot) map
-
 -- ---- the journal of the tables
 
 -- What the tables' journal stands for are the effective blocks of the tables,
 pub tables_effective : (map : ℕ → List ℕ) (i : Image) → StandsFor system_targets system_places map i → table_blocks i ≡ Some (in_tables map)
 unfolding table_blocks
 tables_effective map i stands = cut-of system_targets system_places in_tables (cut-here system_places) (cut-same system_places) map i stands
-
--- and the other way round.
-pub tables_stand : (map : ℕ → List ℕ) (i : Image) → table_blocks i ≡ Some map → StandsFor system_targets system_places map i
-unfolding table_blocks
-tables_stand map i e = stands-of system_targets system_places in_tables (cut-here system_places) (cut-same system_places) map i e
-
--- It rests on the journal's blocks.
-pub tables_stand_rests : (map : ℕ → List ℕ) → RestsOn (JournalExtent system_places 8) (StandsFor system_targets system_places map)
-tables_stand_rests map = stands_rests system_targets system_places 8 few-system map
-
--- At rest it looks at the gate and the tables alone.
-pub tables_idle : (k : ℕ) → RestsIdle system_places k → (k ≡ 1) ⊎ ((11 ≤ k) × (k < 19))
-tables_idle k (inl gate) = inl gate
-tables_idle k (inr home) = let r = table-range home.0 home.1 in inr (omega (arith, r.0, home.2), omega (arith, r.1, home.2))
 
 -- At rest with a map the tables are its blocks.
 pub tables_idle_blocks : (map : ℕ → List ℕ) (i : Image) → Idle system_places map i → table_blocks i ≡ Some (in_tables map)

@@ -14,7 +14,6 @@ use Rattle.ice_txn.proofs.SetLaws.{over_free}
 use Rattle.ice_journal.specs.Blocks.{AreHomes, JournalExtent}
 use Rattle.ice_journal.specs.Phases.{BeforeOrAfter, Idle, RestsIdle}
 use Rattle.ice_journal.specs.Rests.{BlocksEither, LotAtRest, RestsLot}
-use Rattle.ice_journal.proofs.PhaseLaws.{idle_rests, idle_stands}
 use Rattle.ice_journal.proofs.RestLaws.{effective_inside, either_blocks, idle_rest, over_inside, rest_homes, rest_idle, rest_rests}
 
 -- ---- what a keep holds
@@ -126,14 +125,6 @@ module _ {D : Type 0} (state : D → DiskState) (left : D → ℕ → Image → 
   nothing_crash sure =
       step_more state left (JournalExtent (lot_places lot) 240) (LotAtRest lot map) (BlocksEither lot entries map) a a (λ i rest. inl rest.blocks)
       (stays state left (JournalExtent (lot_places lot) 240) (RestsLot lot) (LotAtRest lot map) a (rest_rests lot map) (rests_extent lot) sure)
-
-  pub nothing_stands : Sure (RestsIdle (lot_places lot)) (Idle (lot_places lot) map) (state a)
-      → CrashStep state left (JournalExtent (lot_places lot) 240) (BeforeOrAfter (slot_targets lot) (lot_places lot) entries map) a a
-  nothing_stands sure =
-      step_more state left (JournalExtent (lot_places lot) 240) (Idle (lot_places lot) map) (BeforeOrAfter (slot_targets lot) (lot_places lot) entries map) a a
-      (λ i idle. inl (idle_stands (slot_targets lot) (lot_places lot) [] map i idle))
-      (stays state left (JournalExtent (lot_places lot) 240) (RestsIdle (lot_places lot)) (Idle (lot_places lot) map) a
-      (idle_rests (slot_targets lot) (lot_places lot) [] map) (rests_extent lot) sure)
 
   pub nothing_done : entries ≡ [] → Sure (RestsLot lot) (LotAtRest lot map) (state a) → Sure (RestsLot lot) (LotAtRest lot (over entries map)) (state a)
   nothing_done none sure = subst (λ (m : ℕ → List ℕ). Sure (RestsLot lot) (LotAtRest lot m) (state a)) (sym (over_nothing entries map none)) sure

@@ -5,14 +5,14 @@ use Rattle.std.proofs.lemmas.Nat.{div-add-mod'}
 use Rattle.ice_base.specs.Lots.{LotView, sub_address}
 use Rattle.ice_base.specs.Spare.{has}
 use Rattle.ice_base.specs.Used.{bitmap_of}
-use Rattle.ice_base.specs.Views.{Puts, Looked}
+use Rattle.ice_base.specs.Views.{Puts}
 use Rattle.ice_base.specs.declared.disk.Disk as disk
 use Rattle.ice_base.specs.declared.view.View as view
 use Rattle.ice_map.specs.declared.codec.Inode.{Inode}
 use Rattle.ice_map.specs.Maps.{growth_puts, GrowthFailed}
-use Rattle.ice_map.proofs.GrowLaws.{puts-first, puts-single}
+use Rattle.ice_map.proofs.GrowLaws.{puts-first}
 use Rattle.ice_map.proofs.ListLaws.{AllHas, has-cons, has-head, has-tail, has-none}
-use Rattle.ice_map.proofs.PutsLaws.{puts-then, puts-widen, puts-look, puts-fail, puts-none}
+use Rattle.ice_map.proofs.PutsLaws.{puts-then, puts-widen, puts-fail, puts-none}
 
 -- a fact, as that of an error
 pub on-err : {T E : Type 0} (r : Result T E) (P : Type 0) → P → OnErr r P
@@ -80,10 +80,6 @@ module _ {V D : Type 0} (k : view.Ghosts V D) (lot : LotView) (inode : Inode) (c
             (has-tail sub_address (bitmap_of false b) _ (third (bitmap_of false a) b (bitmap_of false b) []))))),
       )
 
-  -- nothing
-  pub failed-none : (d : disk.Ghosts D) (v : V) (e : D) (w : V) (f : D) → Looked d k lot v e w f → GrowthFailed k lot inode count v e w f
-  failed-none d v e w f l = (0, inode.single, (λ h. refl), puts-look d k lot false (growth_puts count 0 inode.single) v e w f l)
-
   pub failed-at_once : (v : V) (e : D) → GrowthFailed k lot inode count v e v e
   failed-at_once v e =
       (0, inode.single, (λ h. refl), puts-fail k lot (growth_puts count 0 inode.single) (growth_puts count 0 inode.single) v e v e (puts-none k lot (growth_puts count 0 inode.single) v e) (λ x h. h))
@@ -92,10 +88,6 @@ module _ {V D : Type 0} (k : view.Ghosts V D) (lot : LotView) (inode : Inode) (c
   pub failed-first : (a s : ℕ) (v : V) (e : D) (w : V) (f : D) → count ≡ 12
       → Puts k lot false (sub_address ∷ bitmap_of false a ∷ s ∷ bitmap_of false s ∷ []) v e w f → GrowthFailed k lot inode count v e w f
   failed-first a s v e w f h p = let list = puts-first count a s h in (a, s, (λ l. absurd (omega arith)), rw list p)
-
-  pub failed-single : (a : ℕ) (v : V) (e : D) (w : V) (f : D) → 12 < count
-      → Puts k lot false (sub_address ∷ bitmap_of false a ∷ inode.single ∷ []) v e w f → GrowthFailed k lot inode count v e w f
-  failed-single a v e w f h p = let list = puts-single count a inode.single h in (a, inode.single, (λ l. refl), rw list p)
 
 -- one block was taken, and the take of a second failed
 pub two-failed : {V D : Type 0} (k : view.Ghosts V D) (lot : LotView) (a o : ℕ) (v : V) (d : D) (w : V) (e : D) (x : V) (f : D)

@@ -8,7 +8,6 @@ use Rattle.ice_base.specs.Fields.{word_at, WordSet}
 use Rattle.ice_base.specs.Inodes.{inode_address}
 use Rattle.ice_base.specs.Lots.{LotView, sub_address}
 use Rattle.ice_base.specs.Pools.{Took}
-use Rattle.ice_base.specs.Views.{Puts}
 use Rattle.ice_base.specs.declared.view.View as view
 use Rattle.ice_base.specs.Spare.{has}
 use Rattle.ice_base.specs.Used.{used_block, is_data, bitmap_of}
@@ -261,10 +260,6 @@ puts-first count a s h = grind (arith, nat_tests)
 
 pub puts-single : (count a s : ℕ) → 12 < count → growth_puts count a s ≡ sub_address ∷ bitmap_of false a ∷ s ∷ []
 puts-single count a s h = grind (arith, nat_tests)
-
-pub puts-same : {V D : Type 0} (k : view.Ghosts V D) (lot : LotView) (ok : Bool) (xs ys : List ℕ) (v : V) (e : D) (w : V) (f : D) → ys ≡ xs
-    → Puts k lot ok xs v e w f → Puts k lot ok ys v e w f
-puts-same {V} {D} k lot ok xs ys v e w f same p = subst (λ (zs : List ℕ). Puts k lot ok zs v e w f) (sym same) p
 
 -- how many blocks a growth takes, by its cases
 pub needs-one : (count : ℕ) → count ≢ 12 → needs count ≡ 1

@@ -1,11 +1,11 @@
 -- What a growth of a map does, whatever the map was.
-use Rattle.std.proofs.Common.{◌≡◌, ◌≢◌, ◌≤◌, ◌<◌, ◌⊎◌, ◌+◌, ◌-◌, ◌*◌, ◌%◌, ◌==◌, max, ℕ, true, false, cond, List, [], ◌∷◌, length, slice_index, ◌∙◌, sym, refl, ap, subst, inl, inr, ⊎_elim, arith, ltb}
+use Rattle.std.proofs.Common.{◌≡◌, ◌≢◌, ◌≤◌, ◌<◌, ◌⊎◌, ◌+◌, ◌-◌, ◌*◌, ◌%◌, ◌==◌, ℕ, true, false, cond, List, [], ◌∷◌, length, slice_index, ◌∙◌, sym, refl, ap, subst, inl, inr, ⊎_elim, arith, ltb}
 use Rattle.std.proofs.lemmas.Bool.Decides.{nat_tests}
 use Rattle.ice_base.specs.Fields.{word_at, SameBeside}
 use Rattle.ice_base.specs.Inodes.{inode_address}
 use Rattle.ice_base.specs.Lots.{LotView, sub_address}
 use Rattle.ice_base.specs.Spare.{has}
-use Rattle.ice_base.specs.Used.{used_block, is_data, count_place, counted, free_count, Reserved}
+use Rattle.ice_base.specs.Used.{used_block, is_data, count_place, Reserved}
 use Rattle.ice_base.proofs.UsedLaws.{data_place}
 use Rattle.ice_map.specs.declared.codec.Inode.{Inode}
 use Rattle.ice_map.specs.Inodes.{inode_at}
@@ -27,16 +27,6 @@ uses-less c d h = grind (arith, nat_tests)
 -- a map of one block more uses what it used, and what the growth takes
 pub uses-needs : (c : ℕ) → needs c + uses_of c ≡ uses_of (c + 1)
 uses-needs c = grind (arith, nat_tests)
-
--- marks of more blocks
-more-refl : (lot : LotView) (m : ℕ → List ℕ) (n : ℕ) → n ≡ 0 → MoreMarked lot m m n
-more-refl lot m n e = record {
-  free = omega arith;
-  counts = omega arith;
-  sub = λ k h. refl;
-  places = λ b h. refl;
-  inodes = λ i. refl;
-}
 
 more-then : (lot : LotView) (m0 m1 m2 : ℕ → List ℕ) (n k s : ℕ) → MoreMarked lot m0 m1 n → MoreMarked lot m1 m2 k → s ≡ n + k → MoreMarked lot m0 m2 s
 more-then lot m0 m1 m2 n k s a b e = record {
@@ -101,17 +91,6 @@ length-growth c a s =
       | false ↦ λ t. ap (λ (xs : List ℕ). length xs) (growth-one c a s (grind (arith, nat_tests))) ∙ ap (λ t. cond t 2 1) (sym t)
     ] refl
 
--- nothing grew
-pub grew-same : (lot : LotView) (m0 m1 : ℕ → List ℕ) (x : Inode) (c d : ℕ) → m1 ≡ m0 → d ≡ c → Grew lot m0 m1 x x c d
-grew-same lot m0 m1 x c d e f = record {
-  marked =
-      subst (λ (m : ℕ → List ℕ). MoreMarked lot m0 m (uses_of d - uses_of c)) (sym e)
-      (more-refl lot m0 (uses_of d - uses_of c) (let g = ap uses_of f in omega arith));
-  direct = λ n h. refl;
-  single = λ h. refl;
-  place = λ h l. absurd (omega arith);
-}
-
 -- one block more
 pub grew-one : (lot : LotView) (m0 m1 : ℕ → List ℕ) (x y : Inode) (c d a : ℕ) → Grown lot m0 m1 x y c a → is_data lot a ≡ true
     → (12 ≤ c → is_data lot y.single ≡ true) → y ≡ widened x c a y.single → d ≡ c + 1 → Grew lot m0 m1 x y c d
@@ -159,9 +138,6 @@ grew-at lot m0 m1 x y c d e p g = subst (λ n. Grew lot m0 m1 x y c n) p g
 -- every inode stays
 pub inodes-put : (lot : LotView) (m0 m1 : ℕ → List ℕ) (at : ℕ) → is_data lot at ≡ true → ((b : ℕ) → b ≢ at → m1 b ≡ m0 b) → InodesStay m0 m1
 inodes-put lot m0 m1 at place only n = ap (λ (b : List ℕ). inode_at b (n % 8)) (only (inode_address n) (inode_not_data lot n at place))
-
-pub inodes-same : (m0 m1 : ℕ → List ℕ) → m1 ≡ m0 → InodesStay m0 m1
-inodes-same m0 m1 e n = ap (λ (m : ℕ → List ℕ). inode_at (m (inode_address n)) (n % 8)) e
 
 -- inodes that stay in one change and in the next stay in both
 pub inodes-then : (m0 m1 m2 : ℕ → List ℕ) → InodesStay m0 m1 → InodesStay m1 m2 → InodesStay m0 m2

@@ -252,9 +252,6 @@ had-reached lot m x c k at made h e = let q : max c (k + 1) ≡ c = omega arith 
   contents = λ n l. refl;
 }
 
-pub reached-from : (lot : LotView) (m0 m1 m2 : ℕ → List ℕ) (x y : Inode) (c k at : ℕ) → m1 ≡ m0 → HadBlock lot m0 m2 x y c k at → HadBlock lot m1 m2 x y c k at
-reached-from lot m0 m1 m2 x y c k at e r = subst (λ (m : ℕ → List ℕ). HadBlock lot m m2 x y c k at) (sym e) r
-
 -- each block of a well-made map leads to a data place
 pub made-leads : (lot : LotView) (m : ℕ → List ℕ) (x : Inode) (c k : ℕ) → MadeOf lot m x c → k < c → leads lot m x k ≡ true
 made-leads lot m x c k made h =
@@ -263,6 +260,3 @@ made-leads lot m x c k made h =
       | true ↦ λ t. let l : k < 12 = grind (arith, nat_tests) in leads-direct lot m x k l ∙ ap (is_data lot) (sym (nth-direct m x k l)) ∙ d
       | false ↦ λ t. let l : 12 ≤ k = grind (arith, nat_tests) in leads-single lot m x k l (made.holds x.single (uses-single m x c (omega arith))).0 ∙ d
     ] refl
-
-pub made-single : (lot : LotView) (m : ℕ → List ℕ) (x : Inode) (c : ℕ) → MadeOf lot m x c → 12 < c → is_data lot x.single ≡ true
-made-single lot m x c made h = (made.holds x.single (uses-single m x c h)).0

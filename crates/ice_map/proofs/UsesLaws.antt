@@ -4,9 +4,9 @@ use Rattle.std.specs.List.{range_with_len}
 use Rattle.std.proofs.lemmas.Bool.Decides.{nat_tests}
 use Rattle.ice_base.specs.Lots.{LotView}
 use Rattle.ice_base.specs.Spare.{has}
-use Rattle.ice_base.specs.Used.{used_block, is_data}
+use Rattle.ice_base.specs.Used.{is_data}
 use Rattle.ice_map.specs.declared.codec.Inode.{Inode}
-use Rattle.ice_map.specs.Maps.{nth_block, blocks_of, blocks_between, indirect_of, uses, times, growth, cut_off, Owns, OwnsOnce, Grown, Cut, FreeOrTwice, HasTwice, Misleads, UsesUnmarked}
+use Rattle.ice_map.specs.Maps.{nth_block, blocks_of, blocks_between, indirect_of, uses, times, growth, cut_off, Grown, FreeOrTwice, HasTwice, Misleads, UsesUnmarked}
 use Rattle.ice_map.proofs.CutLaws.{same-run}
 use Rattle.ice_map.proofs.GrowLaws.{growth-one, growth-two}
 use Rattle.ice_map.proofs.ListLaws.{has-one, has-cons, has-head, has-left, has-right, has-range, has-times, times-append, times-cons, range-append}
@@ -71,38 +71,6 @@ growth-data lot count a s da ds b h =
           let q : b ≡ a = grind (arith, nat_tests) in ap (is_data lot) q ∙ da
     ] refl
 
--- the grown map uses used data places, where the map did
-pub owns-grown : (lot : LotView) (m0 m1 : ℕ → List ℕ) (old new : Inode) (count a : ℕ) → Grown lot m0 m1 old new count a
-    → is_data lot a ≡ true → (12 ≤ count → is_data lot new.single ≡ true) → Owns lot m0 old count → Owns lot m1 new (count + 1)
-owns-grown lot m0 m1 old new count a g da ds owns b h =
-    let t = g.used b in
-    let n = has-times (uses m1 new (count + 1)) b h in
-    let u = g.took.used b in
-    elim (has (growth count a new.single) b) as (λ k. has (growth count a new.single) b ≡ k → (is_data lot b ≡ true) × (used_block m1 b ≡ true)) [
-      | true ↦ λ k. (growth-data lot count a new.single da ds b k, grind arith)
-      | false ↦ λ k.
-          let z : times (growth count a new.single) b ≡ 0 = none-times (growth count a new.single) b k in
-          let o = owns b (times-has (uses m0 old count) b (omega arith)) in
-          let w = o.1 in
-          (o.0, grind arith)
-    ] refl
-  where
-    none-times : (xs : List ℕ) (b : ℕ) → has xs b ≡ false → times xs b ≡ 0
-    none-times xs b h = let f : 1 ≤ times xs b → ⊥ = (λ l. let e = times-has xs b l in absurd cc) in omega arith
-
--- the cut map uses used data places, where the map did and used none twice
-pub owns-cut : (lot : LotView) (m0 m1 : ℕ → List ℕ) (old new : Inode) (count rest : ℕ) → Cut lot m0 m1 old new count rest
-    → OwnsOnce m0 (uses m0 old count) → Owns lot m0 old count → Owns lot m1 new rest
-owns-cut lot m0 m1 old new count rest c once owns b h =
-    let t = c.used b in
-    let n = has-times (uses m1 new rest) b h in
-    let l = once.once b in
-    let z = times-none (cut_off m0 old count rest) b (omega arith) in
-    let u = c.gave.used b in
-    let o = owns b (times-has (uses m0 old count) b (omega arith)) in
-    let w = o.1 in
-    (o.0, grind arith)
-
 -- ---- what a cut gives back is part of what the map uses
 
 last-times : (t u : Bool) (s b : ℕ) → times (cond (t && u) (s ∷ []) []) b ≤ times (cond t (s ∷ []) []) b
@@ -148,10 +116,6 @@ off-free m x c r h f = record {
 -- it is a block that isn't marked used, or one that stands twice
 pub free-or : (m : ℕ → List ℕ) (x : Inode) (c : ℕ) → FreeOrTwice m (uses m x c) → UsesUnmarked m x c ⊎ HasTwice (uses m x c)
 free-or m x c f = ⊎_elim (λ p. inl (record { block = f.block; uses = f.among; unmarked = p })) (λ p. inr (f.block, p)) f.why
-
--- then not each block of the list is marked used and stands in it once
-pub free-owns : (m : ℕ → List ℕ) (xs : List ℕ) → FreeOrTwice m xs → ¬ OwnsOnce m xs
-free-owns m xs f owns = ⊎_elim (λ p. let u = owns.used f.block f.among in absurd cc) (λ p. let o = owns.once f.block in absurd (omega arith)) f.why
 
 -- a map that misleads uses a block that is no data place
 pub misled-uses : (lot : LotView) (m : ℕ → List ℕ) (x : Inode) (c : ℕ) → Misleads lot m x c → (b : ℕ) × (has (uses m x c) b ≡ true) × (is_data lot b ≡ false)

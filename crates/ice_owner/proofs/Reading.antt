@@ -139,9 +139,6 @@ module _ (m : ℕ → List ℕ) (live : List Bool) (n : ℕ) (t : Tables) (said 
           let same = (has.1).once g twice.0 here.0 there.0 (here.1 ∙ sym twice.3 ∙ sym there.1) in
           omega (arith, same, twice.1)
 
-  pub past_refused : (g : ℕ) → n ≤ g → g < 1024 → owner_byte m g ≢ 0 → ⊥
-  past_refused g past low owned = owned (owners.no_more g (omega (arith, said.groups, past)) low)
-
   module _ (counts places : List ℕ) (is : AreGathered m live n counts places) (most : n ≤ 1024) where
     -- an ordinal of a slot that is accepted has its place
     has_place : (s o k : ℕ) → HasGroups t s k → o < k → (o < slice_index counts s) × (slice_index places (64 * s + o) ≢ nobody)

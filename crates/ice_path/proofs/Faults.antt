@@ -1,15 +1,15 @@
 -- The first fault of a text, and what a text without faults is.
-use Rattle.std.proofs.Common.{◌≡◌, ℕ, suc, ◌+◌, ◌<◌, ◌≤◌, Bool, true, false, cond, T, List, [], ◌∷◌, ◌++◌, length, get_or, Some, None, Option, sym, refl, ap, ◌∙◌, subst, arith, length-append}
-use Rattle.std.specs.Prelude.{◌||◌, ◌&&◌, not, nat_lt, nat_le, nat_eq, is_some, All}
-use Rattle.std.specs.List.{list_any, list_all, find}
+use Rattle.std.proofs.Common.{◌≡◌, ℕ, suc, ◌+◌, ◌<◌, ◌≤◌, Bool, true, false, cond, T, List, [], ◌∷◌, ◌++◌, length, Some, None, Option, sym, refl, ap, ◌∙◌, subst, arith}
+use Rattle.std.specs.Prelude.{◌||◌, ◌&&◌, not, nat_lt, nat_le, nat_eq, is_some}
+use Rattle.std.specs.List.{list_any, list_all}
 use Rattle.std.proofs.lemmas.List.Sums.{AllPass-from_list_all}
 use Rattle.std.proofs.lemmas.Bool.Decides.{nat_tests}
-use Rattle.tree_spec.specs.Names.{is_name, is_name_byte, is_dots, longest_name, longest_text, names_of, BeginsAtSlash, IsNameList, with_slashes, text_of, parts, begin}
+use Rattle.tree_spec.specs.Names.{is_name, is_name_byte, is_dots, longest_name, longest_text, names_of, BeginsAtSlash, IsNameList, text_of, parts, begin}
 use Rattle.tree_spec.proofs.Texts.{with_slashes-names_of, text_of-some}
 use Rattle.ice_path.proofs.Texts.{has_name}
 use Rattle.ice_path.specs.declared.read.PathFault.{PathFault}
 use Rattle.ice_path.specs.declared.read.PathFault.TheVariants.{Slash, Empty, Byte, Dot, NameLong, PathLong}
-use Rattle.ice_path.specs.Paths.{begins_elsewhere, is_slash, path_names, is_path_byte, is_empty_name, is_long_name, has_fault, by_rank, path_fault}
+use Rattle.ice_path.specs.Paths.{begins_elsewhere, is_slash, is_path_byte, is_empty_name, is_long_name, path_fault}
 
 -- the first fault by what each test says, where the text begins with a slash
 abbrev pub by_tests : Bool → Bool → Bool → Bool → Bool → Option PathFault
@@ -180,12 +180,3 @@ is_alone (b ∷ c ∷ text) h = absurd (subst T (sym h) tt)
 pub slash-no_fault : (text : List ℕ) → is_slash text ≡ true → path_fault text ≡ None
 unfolding path_fault
 slash-no_fault text h = ap path_fault (is_alone text h)
-
-pub slash-text : (text : List ℕ) → is_slash text ≡ true → 47 ∷ [] ≡ text
-slash-text text h = sym (is_alone text h)
-
-pub slash-names : (text : List ℕ) → is_slash text ≡ true → path_names text ≡ []
-slash-names text h = ap (λ b. cond b [] (names_of text)) h
-
-pub other-names : (text : List ℕ) → is_slash text ≡ false → path_names text ≡ names_of text
-other-names text h = ap (λ b. cond b [] (names_of text)) h

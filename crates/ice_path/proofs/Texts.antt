@@ -1,12 +1,12 @@
 -- Texts cut name by name.
-use Rattle.std.proofs.Common.{◌≡◌, ℕ, suc, ◌+◌, ◌-◌, ◌<◌, ◌≤◌, Bool, true, false, cond, T, List, [], ◌∷◌, ◌++◌, length, drop, get_or, sym, refl, ap, ◌∙◌, subst, arith, length-append, append_assoc}
+use Rattle.std.proofs.Common.{◌≡◌, ℕ, suc, ◌+◌, ◌-◌, ◌<◌, ◌≤◌, Bool, true, false, cond, List, [], ◌∷◌, ◌++◌, length, drop, get_or, sym, refl, ap, ◌∙◌, subst, arith, length-append, append_assoc}
 use Rattle.std.specs.Prelude.{◌||◌, nat_le}
 use Rattle.std.proofs.Math.Seq.{get_or-append_right}
 use Rattle.std.proofs.lemmas.List.{append-nil}
 use Rattle.std.specs.List.{list_any}
 use Rattle.std.specs.Bool.{◌==◌}
 use Rattle.std.proofs.lemmas.Bool.Decides.{nat_tests}
-use Rattle.tree_spec.specs.Names.{is_name, longest_text, names_of, text_of, BeginsAtSlash, IsNameList, with_slashes, parts}
+use Rattle.tree_spec.specs.Names.{is_name, longest_text, names_of, text_of, BeginsAtSlash, IsNameList, with_slashes}
 use Rattle.tree_spec.proofs.Texts.{with_slashes-names_of, first_name, text_of-some}
 
 pub some_left : (r : Bool) (n : ℕ) → r ≡ (n == 0) → r ≡ false → 0 < n
@@ -24,17 +24,6 @@ pub behind_shorter : (text name behind : List ℕ) → BeginsAtSlash text → Be
     → length text ≡ suc (length name + length behind)
 behind_shorter text name behind begins later is =
     omega (arith, ap length (with_slashes-names_of text begins), ap (λ n. length (with_slashes n)) is, length-append name (with_slashes (names_of behind)), ap length (with_slashes-names_of behind later))
-
--- a test of some name, one name on
-pub any_step : (test : List ℕ → Bool) (all rest : List (List ℕ)) (name : List ℕ) (others : List (List ℕ)) (seen more : Bool)
-    → rest ≡ name ∷ others → more ≡ (seen || test name)
-    → list_any test all ≡ (seen || list_any test rest) → list_any test all ≡ (more || list_any test others)
-any_step test all rest name others seen more is e h =
-    h ∙ ap (λ r. seen || list_any test r) is ∙ regroup seen (test name) (list_any test others) ∙ ap (λ b. b || list_any test others) (sym e)
-  where
-    regroup : (a b c : Bool) → (a || (b || c)) ≡ ((a || b) || c)
-    regroup true b c = refl
-    regroup false b c = refl
 
 -- and at the end
 pub any_end : (test : List ℕ → Bool) (all : List (List ℕ)) (rest : List ℕ) (seen : Bool) → length rest ≡ 0

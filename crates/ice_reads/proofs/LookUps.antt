@@ -1,18 +1,18 @@
 -- Look-ups of names in the rows of a directory, and the rows after one came or went.
-use Rattle.std.proofs.Common.{◌≡◌, ◌≤◌, ◌<◌, ◌+◌, ◌-◌, ℕ, suc, Bool, true, false, cond, T, List, [], ◌∷◌, ◌++◌, map, length, take, slice_set, get_or, Option, None, Some, ◌∙◌, sym, refl, ap, subst, arith, length-append}
+use Rattle.std.proofs.Common.{◌≡◌, ◌≤◌, ◌<◌, ◌+◌, ◌-◌, ℕ, suc, Bool, true, false, cond, T, List, [], ◌∷◌, ◌++◌, map, length, take, slice_set, get_or, Option, None, Some, ◌∙◌, sym, refl, ap, subst, arith}
 use Rattle.std.proofs.lemmas.List.{get_or_default}
-use Rattle.std.proofs.lemmas.List.Elements.{All-append, All-cons, All-nil, All-tail}
+use Rattle.std.proofs.lemmas.List.Elements.{All-tail}
 use Rattle.std.proofs.lemmas.List.Folds.{find_at}
 use Rattle.std.proofs.lemmas.List.Sorted.{IsPermutation-swap_remove, IsPermutation-map, IsPermutation-sym, All-permutation, Contains-permutation, length_permutation}
 use Rattle.std.proofs.lemmas.List.Sums.{prefix_len-le-length, passes_at_first}
-use Rattle.std.proofs.lemmas.Map.Keys.{IsDistinct-push, IsDistinct-head, IsDistinct-tail, IsDistinct-IsPermutation}
+use Rattle.std.proofs.lemmas.Map.Keys.{IsDistinct-head, IsDistinct-tail, IsDistinct-IsPermutation}
 use Rattle.std.proofs.lemmas.Map.Views.{lookup-from_Contains}
 use Rattle.std.proofs.lemmas.Option.{slice_get_past}
 use Rattle.std.specs.Prelude.{is_some, ◌||◌, All, Contains, not, unwrap_or}
 use Rattle.std.specs.Cmp.{eq_by_cmp_equiv}
 use Rattle.std.specs.Cmp.Lexicographic.{nat_list_cmp_total, texts_ties, same_text}
 use Rattle.std.specs.FinMap.{find}
-use Rattle.std.specs.FinMap.Entries.{find-append, is_some-find}
+use Rattle.std.specs.FinMap.Entries.{is_some-find}
 use Rattle.std.specs.List.{IsDistinct, AllByRecursion, list_any, position_or_len}
 use Rattle.std.specs.List as list
 use Rattle.std.specs.List.Sorted.{IsPermutation}
@@ -191,21 +191,3 @@ pub record RowCame (f : Form) (c : List ℕ) (j : ℕ) (rs ss : List DirRow) : T
   pub differ : IsDistinct (eq_by_cmp by_bytes) (map (λ (row : DirRow). row.0) ss)
   pub others : (q : List ℕ) → find by_bytes q ss ≡ cond (eq_by_cmp by_bytes q c) (Some j) (find by_bytes q rs)
   pub more : length ss ≡ length rs + 1
-
-names-append : (rs ss : List DirRow) → names_of (rs ++ ss) ≡ names_of rs ++ names_of ss
-names-append [] ss = refl
-names-append (e ∷ rs) ss = ap (λ xs. e.0 ∷ xs) (names-append rs ss)
-
-pub dir_with : (f : Form) (c : List ℕ) (j : ℕ) (rs ss : List DirRow) → ss ≡ rs ++ (c, j) ∷ [] → look_up c rs ≡ None → IsNameOf f c
-    → IsDistinct (eq_by_cmp by_bytes) (map (λ (row : DirRow). row.0) rs) → All (λ (row : DirRow). IsNameOf f row.0) rs → RowCame f c j rs ss
-dir_with f c j rs ss e is name d fit =
-    let none : find by_bytes c rs ≡ None = sym (look_up-find c rs) ∙ is in
-    subst (λ xs. RowCame f c j rs xs) (sym e) (record {
-      fit =
-          All-append (λ (row : DirRow). IsNameOf f row.0) rs ((c, j) ∷ []) fit
-          (All-cons (λ (row : DirRow). IsNameOf f row.0) (c, j) [] name (All-nil (λ (row : DirRow). IsNameOf f row.0)));
-      differ = subst (IsDistinct (eq_by_cmp by_bytes)) (sym (names-append rs ((c, j) ∷ [])))
-          (IsDistinct-push (eq_by_cmp_equiv nat_list_cmp_total) (names_of rs) c d (sym (is_some-find by_bytes c rs) ∙ ap is_some none));
-      others = λ q. find-append by_bytes nat_list_cmp_total rs c j q none;
-      more = length-append rs ((c, j) ∷ []);
-    })

@@ -4,15 +4,15 @@ use Rattle.std.specs.FinMap.{find}
 use Rattle.ice_base.specs.Lots.{LotView}
 use Rattle.ice_map.specs.Maps.{times}
 use Rattle.ice_map.proofs.ListLaws.{times-append}
-use Rattle.tree_spec.specs.Trees.{Tree, Dir, Entries, rows, by_bytes, walk, Found, at, with_entry, without, without_entry, height}
+use Rattle.tree_spec.specs.Trees.{Tree, Dir, Entries, rows, by_bytes, walk, Found, at, without, without_entry, height}
 use Rattle.tree_spec.specs.Costs.{Form}
 use Rattle.tree_spec.specs.Answers.{deepest}
 use Rattle.ice_reads.specs.Tables.{Table, rows_in, IsNameOf, inode_named}
 use Rattle.ice_reads.specs.Reads.{Reads, tree_uses, used_inodes, inode_on}
 use Rattle.ice_reads.proofs.Frames.{SameAt, inodes_in, Reads-frame, uses-frame, times-here}
 use Rattle.ice_reads.proofs.Focus.{Reads-at, Reads-part, uses-part, uses-at, entry_reads, uses-entry}
-use Rattle.ice_reads.proofs.Steps.{IsOnce, SameBut, AddsRow, Reads-with_entry, in_dir, outside_dir}
-use Rattle.ice_reads.proofs.Losses.{LosesRow, Reads-loses, uses-loses, uses_in-without, Reads-shift}
+use Rattle.ice_reads.proofs.Steps.{IsOnce, SameBut, AddsRow, in_dir, outside_dir}
+use Rattle.ice_reads.proofs.Losses.{LosesRow, Reads-loses, uses-loses, uses_in-without}
 
 abbrev one : ℕ → List ℕ
 one i = i ∷ []
@@ -98,7 +98,3 @@ module _ (f : Form) (lot : LotView) (o p : Table) (q : List (List ℕ)) (c : Lis
     moved_same : SameAt p z (used_inodes f p gone v)
     moved_same =
         record { at = λ k h. second.at k (not_to k h) (omega (arith, times-append (used_inodes f p 0 (at q (without_entry c) t)) (used_inodes f p gone v) k)) }
-
-    pub Reads-moved : Reads f lot z 0 0 (at to (with_entry d v) (at q (without_entry c) t))
-    Reads-moved = Reads-with_entry f lot p z to d gone v (at q (without_entry c) t) fs Reads-without_entry there free name left_once left_second adds
-        (Reads-shift f lot z gone (length q + 1) (length to + 1) v fits (Reads-frame f lot p z gone (length q + 1) v moved_same Reads-gone))

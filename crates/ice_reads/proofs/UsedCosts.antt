@@ -154,13 +154,7 @@ x = record { kind = 1; size = 0; direct = []; single = 5; double = 7 }
 abbrev counts : Map → List ℕ
 counts m = length (indirects_long m x 268) ∷ length (indirects_long m x 269) ∷ length (indirects_long m x 524) ∷ length (indirects_long m x 525) ∷ []
 
-indirect_counts : (m : Map) → counts m ≡ 1 ∷ 3 ∷ 3 ∷ 4 ∷ []
-indirect_counts m = refl
-
 -- block 267 is named last by the single-indirect block, block 268 first by the first block that the double-indirect one names, and so on
 long_blocks : (m : Map) → nth_long m x 268 ∷ nth_long m x 523 ∷ nth_long m x 524 ∷ []
     ≡ word_at (m (word_at (m 7) 0)) 0 ∷ word_at (m (word_at (m 7) 0)) 1020 ∷ word_at (m (word_at (m 7) 4)) 0 ∷ []
 long_blocks m = refl
-
-long_indirects : (m : Map) → indirects_long m x 525 ≡ 5 ∷ 7 ∷ word_at (m 7) 0 ∷ word_at (m 7) 4 ∷ []
-long_indirects m = refl

@@ -32,10 +32,6 @@ module _ {D : Type 0} (state : D → DiskState) (left : D → ℕ → Image → 
   pub was_settled : Settled (JournalExtent (lot_places lot) 240) (state a)
   was_settled = journal_settled lot (state a) sure.settled
 
-  -- what it shows
-  map-then : ℕ → List ℕ
-  map-then = shown ts lot (state a).now
-
   pub was_blocks : effective_of lot (state a).now ≡ Some (shown ts lot (state a).now)
   was_blocks = read_blocks lot (state a).now ts sure.now
 

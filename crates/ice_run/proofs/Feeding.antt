@@ -73,10 +73,6 @@ breaks_more state left w script heard more all start new is Volume cut = cut
 breaks_more state left w script heard more all start new is Script cut = cut
 breaks_more state left w script heard more all start new is Small cut = cut
 
--- lines in some bytes are the first of those in more bytes
-pub ended_more : (taken more : List ℕ) → (lines : List Line) × (ended_lines (taken ++ more) ≡ ended_lines taken ++ lines)
-ended_more taken more = ended_ahead taken more
-
 module _ {D T : Type 0} (state : D → DiskState) (left : D → ℕ → Image → List ℕ → Type 0) (w : World) (input taken ahead : List ℕ) (b : ℕ)
     (start mid new : D) (v z : VolumeView) (old pushed reader : Gathered) (result : Result T Status)
     (serving : Serving state left w v input taken start mid old) (is : input ≡ taken ++ b ∷ ahead)

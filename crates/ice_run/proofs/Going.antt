@@ -1,8 +1,7 @@
 -- Calls of a session go on from one another: the disk stays the same one, and no count of faults falls.
-use Rattle.std.proofs.Common.{ℕ, List, ap, arith}
-use Rattle.ice_base.specs.Disk.{Image, DiskState, Outside, Streams}
-use Rattle.ice_base.proofs.Kept.{kept_refl, kept_then, kept_within, kept_same}
-use Rattle.ice_base.specs.Frames.{Within}
+use Rattle.std.proofs.Common.{arith}
+use Rattle.ice_base.specs.Disk.{DiskState, Outside}
+use Rattle.ice_base.proofs.Kept.{kept_refl, kept_then, kept_same}
 use Rattle.ice_base.specs.Host.{SameDisk, GaveOnly}
 use Rattle.ice_run.specs.Causes.{GoesOn, IsOfSession}
 use Rattle.ice_run.specs.Pieces.{TookOnly}
@@ -16,16 +15,6 @@ goes_then a b c p q = record {
   faults = omega (arith, p.faults, q.faults);
   source = omega (arith, p.source, q.source);
   sink = omega (arith, p.sink, q.sink);
-}
-
--- calls on the disk alone
-pub goes_within : {D : Type 0} (state : D → DiskState) (left : D → ℕ → Image → List ℕ → Type 0) (S : ℕ → Type 0) (a b : D)
-    → ((k : ℕ) → S k → IsOfSession k) → Within state left S a b → GoesOn (state a) (state b)
-goes_within state left S a b inside w = record {
-  kept = kept_within state left (Outside IsOfSession) S a b (λ k other own. other (inside k own)) w;
-  faults = w.faults;
-  source = omega (arith, ap (λ (x : Streams). x.source_faults) w.streams);
-  sink = omega (arith, ap (λ (x : Streams). x.sink_faults) w.streams);
 }
 
 -- a give

@@ -44,11 +44,6 @@ unfolding push
 named-push [] line r v named has_names = (has_names, tt)
 named-push (a ∷ rest) line r v named has_names = (named.0, named-push rest line r v named.1 has_names)
 
-pub length-push : (steps : List Answered) (line : Line) (r : Response) (v : World) → length (push steps line r v) ≡ suc (length steps)
-unfolding push
-length-push [] line r v = refl
-length-push (a ∷ rest) line r v = ap suc (length-push rest line r v)
-
 pub faults-push : (steps : List Answered) (line : Line) (r : Response) (v : World) → faults_of (push steps line r v) ≡ faults_of steps + fault_in r
 unfolding push
 faults-push [] line r v = omega arith

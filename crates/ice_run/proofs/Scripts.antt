@@ -112,16 +112,6 @@ pub no_last_line : (taken text : List ℕ) → nat_eq (length text) 0 ≡ true �
 no_last_line taken text none holds =
     let c = cut_of taken in ap (λ (t : Bool). map line_of (if t then c.lines else c.lines ++ c.rest ∷ [])) (same_emptiness c.rest text holds ∙ none)
 
--- the lines that were ended are the first of the script
-pub lines_ahead : (input taken ahead : List ℕ) → input ≡ taken ++ ahead → (more : List Line) × (script_lines input ≡ ended_lines taken ++ more)
-unfolding cut_of
-lines_ahead input taken ahead is =
-    let grown = grows_by (cut_of taken) ahead in (
-      map line_of grown.0,
-      ap (λ (x : List ℕ). map line_of (closed (cut_of x))) is ∙ ap (λ (x : LinesAndRest). map line_of (closed x)) (fold-append add_byte _ taken ahead)
-          ∙ ap (λ (x : List (List ℕ)). map line_of x) grown.1 ∙ map-append line_of (cut_of taken).lines grown.0,
-    )
-
 -- lines that were ended stay so, whatever bytes come behind
 lines_grow : (c : LinesAndRest) (bytes : List ℕ) → (more : List (List ℕ)) × ((fold add_byte c bytes).lines ≡ c.lines ++ more)
 lines_grow c [] = ([], sym (nil_append c.lines))

@@ -148,10 +148,6 @@ words_keep : (words : List (List ℕ)) → Keeps (words_of words)
 words_keep [] = tt
 words_keep (word ∷ args) = word_keeps word args
 
--- what the tokens of a line ask for is within the bounds
-pub words_in_bounds : (words : List (List ℕ)) (request : Request) → words_of words ≡ Asks request → InBounds request
-words_in_bounds words request is = subst Keeps is (words_keep words)
-
 -- what a line asks for is within the bounds
 pub line_in_bounds : (line : List ℕ) (request : Request) → line_of line ≡ Asks request → InBounds request
 line_in_bounds line request is = subst Keeps is (if_keeps (nat_lt longest_line (length line)) (Bad Long) _ tt (λ short. words_keep (tokens line)))

@@ -3,12 +3,11 @@ use Rattle.std.proofs.Common.{◌≡◌, ◌≤◌, ◌<◌, ◌+◌, ◌*◌, �
 use Rattle.std.specs.FinMap.{find}
 use Rattle.ice_base.specs.Inodes.{inode_address}
 use Rattle.ice_base.specs.Lots.{LotView, sub_address}
-use Rattle.ice_base.specs.Pools.{TookInode, GaveInode}
+use Rattle.ice_base.specs.Pools.{TookInode}
 use Rattle.ice_base.specs.Used.{bitmap_of}
 use Rattle.ice_map.specs.declared.codec.Inode.{Inode}
 use Rattle.ice_map.specs.Inodes.{inode_of, InodeSet}
 use Rattle.ice_map.specs.Own.{own}
-use Rattle.ice_file.specs.Files.{FileSet}
 use Rattle.ice_dir.specs.Rows.{dir_rows_of, rows_without}
 use Rattle.ice_dir.specs.Changes.{DirSet}
 use Rattle.tree_spec.specs.Trees.{Tree, File, Dir, Entries, Nil, rows, by_bytes, walk, Found, at, with_entry, without_entry, height}
@@ -19,13 +18,12 @@ use Rattle.ice_reads.specs.Reads.{Reads, used_blocks, used_inodes, inode_on}
 use Rattle.ice_reads.specs.Recovers.{MapRecovers}
 use Rattle.ice_reads.proofs.Losses.{Reads-shift}
 use Rattle.ice_steps.specs.Beside.{Beside, OnlyAt}
-use Rattle.ice_steps.proofs.Cuts.{loose_cut, loose_empty}
 use Rattle.ice_steps.proofs.Fresh.{IsFresh, fresh_dir, fresh_file, dir_beside, file_beside, put_loose, put_stays}
 use Rattle.ice_steps.proofs.Losses.{loses_row, walk_left}
 use Rattle.ice_steps.proofs.Recovers.{beside_recovers, recovers_beside}
 use Rattle.ice_steps.proofs.Rows.{gains_row}
 use Rattle.ice_steps.proofs.Stays.{stays_walk}
-use Rattle.ice_steps.proofs.Takes.{took_inode, gave_inode, took_stays}
+use Rattle.ice_steps.proofs.Takes.{took_inode, took_stays}
 
 -- a new inode was taken and put, and a row for it added
 module _ (mode : ℕ) (lot : LotView) (m0 m1 m2 m3 : Map) (t : Tree) (k : ℕ) (q : List (List ℕ)) (c : List ℕ) (j : ℕ) (es : Entries)
@@ -93,20 +91,3 @@ module _ (mode : ℕ) (lot : LotView) (m0 m1 : Map) (t : Tree) (k : ℕ) (q : Li
 
   left : (u : Tree) → v ≡ u → Gone u
   left u e = subst Gone e (loses_row mode lot m0 m1 t k q c v es r found is set)
-
-  -- and is given back: an empty directory, or a file that was cut to nothing
-  pub dir_removed : (m2 : Map) → v ≡ Dir Nil → GaveInode m1 m2 gone → OnlyAt (sub_address ∷ bitmap_of true gone ∷ []) m1 m2
-      → MapRecovers form_one mode lot m2 (at q (without_entry c) t) k
-  dir_removed m2 e gave given =
-      let l = left (Dir Nil) e in
-      beside_recovers form_one mode lot m2 (at q (without_entry c) t) k
-      (gave_inode mode lot m1 m2 (at q (without_entry c) t) k gone few
-      (loose_empty mode lot m1 (at q (without_entry c) t) k gone (length q + 1) (gone ∷ []) l.0 l.1) gave given)
-
-  pub file_removed : (m2 m3 : Map) (bytes : List ℕ) → v ≡ File bytes → FileSet lot form_one m1 m2 gone [] → GaveInode m2 m3 gone
-      → OnlyAt (sub_address ∷ bitmap_of true gone ∷ []) m2 m3 → MapRecovers form_one mode lot m3 (at q (without_entry c) t) k
-  file_removed m2 m3 bytes e cut gave given =
-      let l = left (File bytes) e in
-      beside_recovers form_one mode lot m3 (at q (without_entry c) t) k
-      (gave_inode mode lot m2 m3 (at q (without_entry c) t) k gone few
-      (loose_cut mode lot m1 m2 (at q (without_entry c) t) k gone (length q + 1) bytes l.0 l.1 cut) gave given)

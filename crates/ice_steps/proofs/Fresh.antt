@@ -120,12 +120,6 @@ fresh_dir_blocks m j f = ap (λ us. us ++ []) (fresh-uses m j (no-map (inode_of 
 pub fresh_file_blocks : (m : Map) (j : ℕ) → IsFresh 1 (inode_of m j) → used_blocks form_one (own form_one m) j (File []) ≡ []
 fresh_file_blocks m j f = fresh-uses m j (no-map (inode_of m j) f.none)
 
-pub fresh_dir_inodes : (m : Map) (j : ℕ) → used_inodes form_one (own form_one m) j (Dir Nil) ≡ j ∷ []
-fresh_dir_inodes m j = refl
-
-pub fresh_file_inodes : (m : Map) (j : ℕ) → used_inodes form_one (own form_one m) j (File []) ≡ j ∷ []
-fresh_file_inodes m j = refl
-
 pub fresh_made : (lot : LotView) (m : Map) (j kind : ℕ) → IsFresh kind (inode_of m j) → WellMade lot form_one m j
 fresh_made lot m j kind f =
     let z = fresh-uses m j (no-map (inode_of m j) f.none) in

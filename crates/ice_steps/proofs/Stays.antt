@@ -3,13 +3,12 @@ use Rattle.std.proofs.Common.{◌≡◌, ◌<◌, ℕ, List, [], ◌∷◌, None
 use Rattle.std.specs.FinMap.{find}
 use Rattle.ice_map.specs.Maps.{times}
 use Rattle.ice_map.specs.Own.{own}
-use Rattle.ice_dir.specs.Rows.{dir_rows_of}
 use Rattle.tree_spec.specs.Trees.{Tree, File, Dir, rows, by_bytes, walk, and_on, found_or_not, Found}
 use Rattle.tree_spec.specs.Costs.{Form, form_one}
 use Rattle.ice_reads.specs.Tables.{Map, Table, rows_in, inode_named}
 use Rattle.ice_reads.specs.Reads.{used_inodes, entries_use, inode_on}
 use Rattle.ice_reads.proofs.Frames.{SameAt, times-there}
-use Rattle.ice_reads.proofs.Focus.{uses-part, uses-entry, Found≢NotFound, Found≢NotDir}
+use Rattle.ice_reads.proofs.Focus.{uses-entry, Found≢NotFound, Found≢NotDir}
 use Rattle.ice_steps.proofs.Made.{inode-first}
 
 module _ (f : Form) (o p : Table) where
@@ -33,12 +32,3 @@ module _ (m m' : Map) (t : Tree) (same : SameAt (own form_one m) (own form_one m
   -- the walk comes to the inode to which it came
   pub stays_walk : inode_on form_one (own form_one m') 0 q ≡ inode_on form_one (own form_one m) 0 q
   stays_walk = same_walk form_one (own form_one m) (own form_one m') q 0 t s found same.at
-
-  pub stays_own : own form_one m' (inode_on form_one (own form_one m) 0 q) ≡ own form_one m (inode_on form_one (own form_one m) 0 q)
-  stays_own = same.at (inode_on form_one (own form_one m) 0 q)
-      (let g = uses-part form_one (own form_one m) (λ i. i ∷ []) (inode_on form_one (own form_one m) 0 q) q 0 t s found in
-      let n = inode-first form_one (own form_one m) (inode_on form_one (own form_one m) 0 q) s in
-      omega arith)
-
-  pub stays_rows : dir_rows_of form_one m' (inode_on form_one (own form_one m) 0 q) ≡ dir_rows_of form_one m (inode_on form_one (own form_one m) 0 q)
-  stays_rows = ap (λ o. rows_in form_one o) stays_own

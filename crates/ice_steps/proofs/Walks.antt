@@ -1,7 +1,7 @@
 -- What a walk of a recovered tree finds, and what a map with a tree and loose things holds.
 use Rattle.std.proofs.Common.{◌≡◌, ◌≤◌, ◌<◌, ◌*◌, ℕ, true, List, [], ◌∷◌, length, length-append, sym, arith}
 use Rattle.ice_base.specs.Lots.{LotView}
-use Rattle.ice_base.specs.Used.{used_inode, counted, Reserved}
+use Rattle.ice_base.specs.Used.{used_inode, counted}
 use Rattle.ice_map.specs.Inodes.{inode_of}
 use Rattle.ice_map.proofs.ListLaws.{times-append, has-head}
 use Rattle.ice_map.specs.Own.{own, file_bytes, WellMade}
@@ -15,7 +15,7 @@ use Rattle.ice_reads.proofs.Frames.{times-here}
 use Rattle.ice_steps.specs.Beside.{Beside}
 use Rattle.ice_steps.proofs.Counts.{mark-set}
 use Rattle.ice_steps.proofs.Lengths.{file-size}
-use Rattle.ice_steps.proofs.Made.{own-first, made-reads, beside_part, beside_made, beside_number}
+use Rattle.ice_steps.proofs.Made.{own-first, made-reads, beside_part, beside_made}
 use Rattle.ice_steps.proofs.Recovers.{recovers_beside}
 
 -- inode i is a file of these bytes
@@ -51,9 +51,6 @@ module _ (mode : ℕ) (lot : LotView) (m : Map) (t : Tree) (k : ℕ) where
     whole : Beside form_one mode lot m t k [] []
     whole = recovers_beside form_one mode lot m t k r
 
-    pub recovers_reserved : Reserved lot m
-    recovers_reserved = r.holds.reserved
-
     module _ (q : List (List ℕ)) where
       -- the inode to which a walk comes stands for what the walk found
       pub walk_part : (s : Tree) → walk q t ≡ Found s → Reads form_one lot (own form_one m) (inode_on form_one (own form_one m) 0 q) (length q) s
@@ -62,9 +59,6 @@ module _ (mode : ℕ) (lot : LotView) (m : Map) (t : Tree) (k : ℕ) where
       -- the inode to which a walk comes is well made, in a lot of at most 64 groups
       pub walk_made : length lot.groups ≤ 64 → (s : Tree) → walk q t ≡ Found s → WellMade lot form_one m (inode_on form_one (own form_one m) 0 q)
       walk_made few s found = beside_made mode lot m t k [] [] whole few q s found
-
-      pub walk_number : (s : Tree) → walk q t ≡ Found s → inode_on form_one (own form_one m) 0 q < 64 * length lot.groups
-      walk_number s found = beside_number mode lot m t k [] [] whole q s found
 
       -- where the walk found a file, its inode is a file of these bytes
       pub walk_file : (bytes : List ℕ) → walk q t ≡ Found (File bytes) → FileAt m (inode_on form_one (own form_one m) 0 q) bytes

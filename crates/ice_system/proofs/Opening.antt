@@ -16,7 +16,7 @@ use Rattle.ice_layout.specs.declared.superblock.LayoutFault.TheVariants.{Magic, 
 use Rattle.ice_tables.specs.Journals.{in_tables, table_blocks}
 use Rattle.ice_tables.specs.Tables.{Tables, Row, HasTables, FirstFault, AreNames, AreOwners, tables_in, row_in, holder_in, ordinal_in, blocks_from}
 use Rattle.ice_tables.proofs.JournalLaws.{table_blocks_homes}
-use Rattle.ice_names.specs.Names.{NamesView, IsNameTable, row_at}
+use Rattle.ice_names.specs.Names.{NamesView, row_at}
 use Rattle.ice_owner.specs.Owners.{OwnersView, AreLots, OwnerTables, holder, ordinal, is_live}
 use Rattle.ice_owner.proofs.Laws.{rows_have_groups, groups_have_rows}
 use Rattle.ice_system.specs.Systems.{SystemView, AreTables, tables_of, tables_with}
@@ -118,17 +118,6 @@ none_some : (o : Option Row) → o ≡ None → IsSome o → ⊥
 none_some None is some = cc some
 none_some (Some row) is some = cc is
 
-pub live_all : (names : NamesView) (live : List Bool) → IsNameTable names → IsLiveTo names live names.slots
-    → ((s : ℕ) → is_live live s ≡ true → IsSome (row_at names s)) × ((s : ℕ) → IsSome (row_at names s) → is_live live s ≡ true)
-live_all names live table is = (
-  λ s at. by s (nat_lt s names.slots) refl (λ low. is.has s low at) (λ high. absurd (let never : false ≡ true = sym (is.rest s high) ∙ at in cc never)),
-  λ s some. by s (nat_lt s names.slots) refl (λ low. is.all s low some) (λ high. absurd (none_some (row_at names s) (table.no_more s high) some)),
-)
-  where
-    by : {P : Type 0} (s : ℕ) (b : Bool) → nat_lt s names.slots ≡ b → (s < names.slots → P) → (names.slots ≤ s → P) → P
-    by s true is low high = low (grind (arith, nat_tests))
-    by s false is low high = high (grind (arith, nat_tests))
-
 -- ---- the blocks of the tables
 
 module _ (sup : Super) (geometry : is_geometry sup ≡ true) (rows owners : List (List ℕ)) (names : NamesView)
@@ -188,12 +177,6 @@ module _ (sup : Super) (geometry : is_geometry sup ≡ true) (rows owners : List
       names = subst (λ (n : ℕ). AreNames n m) (sym slots) (names_same sup.slots few_slots (blocks_from 11 rows) m four accepted);
       owners = owners_same (blocks_from 15 owners) m five (tables_with names lots) taken_owners;
     }
-
--- blocks whose rows are refused are refused
-pub names_refused : (sup : Super) (rows : List (List ℕ)) (m : ℕ → List ℕ) → is_geometry sup ≡ true → AreFour 11 rows m
-    → ¬ AreNames sup.slots (blocks_from 11 rows) → RefusesBlocks Names sup m
-names_refused sup rows m geometry four refused = λ is. refused (names_same sup.slots (geometry_size sup geometry).1 m (blocks_from 11 rows)
-    (λ k low high. sym (four k low high)) is)
 
 -- ---- between two moments
 

@@ -87,10 +87,6 @@ has_path names owners p s is = by (row_at names s) refl is
 pub none_path : (names : NamesView) (owners : OwnersView) (p : List (List ℕ)) → NoneHas names p → ¬ HasPath (tables_with names owners) p
 none_path names owners p none has = none has.0 (ap path_of has.2 ∙ ap (λ (x : List (List ℕ)). Some x) has.3)
 
--- where no cube has the path there is no row of it
-pub path_none : (names : NamesView) (owners : OwnersView) (p : List (List ℕ)) → ¬ HasPath (tables_with names owners) p → NoneHas names p
-path_none names owners p never s is = never (has_path names owners p s is)
-
 -- what a search for a path found
 pub some_found : (names : NamesView) (owners : OwnersView) (p : List (List ℕ)) (o : Option ℕ) → is_some o ≡ true
     → MatchOption o (NoneHas names p) (λ s. path_at names s ≡ Some p) → HasPath (tables_with names owners) p

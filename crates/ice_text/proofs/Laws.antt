@@ -1,5 +1,5 @@
 -- What holds of every reply's text.
-use Rattle.std.proofs.Common.{◌≡◌, ◌∙◌, ℕ, zero, suc, ◌/◌, ◌%◌, ◌<◌, ◌≤◌, true, false, List, [], ◌∷◌, ◌++◌, length, length-append, map, get_or, refl, sym, ap, arith, append_assoc, if◌then◌else◌, ◌==◌, lit≤}
+use Rattle.std.proofs.Common.{◌≡◌, ◌∙◌, ℕ, zero, suc, ◌/◌, ◌%◌, ◌<◌, ◌≤◌, true, false, List, [], ◌∷◌, ◌++◌, map, get_or, refl, sym, arith, append_assoc, if◌then◌else◌, ◌==◌, lit≤}
 use Rattle.std.specs.Prelude.{Ok, Err, decimal, All, codes, nat_eq, nat_lt}
 use Rattle.std.specs.Fmt.{digits, digits_onto, digit_glyph}
 use Rattle.std.proofs.lemmas.Bool.Decides.{nat_tests}
@@ -18,10 +18,6 @@ text_parts r = ended-append (data_lines r) (closing_line r ∷ [])
 -- the text ends with an LF
 pub text_end : (r : Response) → text r ≡ (ended (data_lines r) ++ closing_line r) ++ 10 ∷ []
 text_end r = text_parts r ∙ sym (append_assoc (ended (data_lines r)) (closing_line r) (10 ∷ []))
-
--- the text is never empty
-pub text_some : (r : Response) → 0 < length (text r)
-text_some r = omega (arith, ap length (text_end r), length-append (ended (data_lines r) ++ closing_line r) (10 ∷ []))
 
 -- the closing line begins with `ok` or `no`
 pub is_closing-closing_line : (r : Response) → is_closing (closing_line r) ≡ true

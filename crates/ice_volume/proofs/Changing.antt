@@ -6,7 +6,6 @@ use Rattle.ice_base.specs.Disk.{Image, DiskState, AgreesOn, Outside, Rose, RoseB
 use Rattle.ice_base.specs.Frames.{Within, LeavesOnly, With, Sure, Kept}
 use Rattle.ice_base.specs.FrameLaws.{within_refl, within_more, within_next}
 use Rattle.ice_base.specs.Lots.{LotView, extent}
-use Rattle.ice_base.proofs.LotLaws.{extent_cases}
 use Rattle.ice_base.proofs.Kept.{sure_kept, kept_within}
 use Rattle.tree_spec.specs.Held.{RoomContent}
 use Rattle.tree_spec.specs.Lines.{Line}
@@ -440,17 +439,6 @@ module _ {D : Type 0} (state : D → DiskState) (left : D → ℕ → Image → 
       spares = change_spares ch.within;
       stops = change_stops r;
     }
-
--- what a change of the tables alone leaves of a lot and its record
-pub still_carried : {D : Type 0} (state : D → DiskState) (left : D → ℕ → Image → List ℕ
-    → Type 0) (t : Tables) (x : ℕ) (groups : List ℕ) (b c : D) (cell : Cell) (d : Option Cube)
-    → Within state left IsChange b c → Carries cell (lot_with t x groups) (state b) d → Carries cell (lot_with t x groups) (state c) d
-still_carried state left t x groups b c cell d within is = carries_where cell (lot_with t x groups) (state b) (state c) d
-    (λ live. kept_within state left (extent (lot_with t x groups)) IsChange b c (λ k own low. with_high t x groups k own low) within) is
-  where
-    with_high : (t : Tables) (x : ℕ) (groups : List ℕ) (k : ℕ) → extent (lot_with t x groups) k → ¬ IsChange k
-    with_high t x groups k own low =
-        ⊎_elim (λ inside. omega (arith, inside.0, low.1)) (λ group. omega (arith, group.2, low.1)) (extent_cases (lot_with t x groups) k own)
 
 -- ---- lines that change no table
 

@@ -38,7 +38,7 @@ use Rattle.ice_volume.specs.Cells.{Carries, cell_at}
 use Rattle.ice_volume.specs.Sessions.{HasPutAway, IsAsGood, IsTried, PutsAway, TriesAll, away_at, away_below, finished, give_up, put_away}
 use Rattle.ice_volume.specs.Lines.{Answers, MayFit, IsOfBroken, SaysBroken, fault_in}
 use Rattle.ice_volume.specs.Volumes.{VolumeView, StandsFor, IsWritable}
-use Rattle.ice_volume.proofs.Lookups.{row_path, slot_found}
+use Rattle.ice_volume.proofs.Lookups.{slot_found}
 use Rattle.ice_volume.proofs.Mounting.{after_append}
 use Rattle.ice_volume.proofs.Slots.{each_slot}
 use Rattle.ice_volume.proofs.Telling.{faults_said, sound_unbroken}
@@ -218,18 +218,6 @@ puts_none v s w x free stands = record {
   broken = λ was. was;
 }
 
--- a slot past those of the image is free
-pub no_slot : (v : VolumeView) (s : DiskState) (w : World) (x : ℕ) → v.system.names.slots ≤ x → StandsFor v s w → w.cube x ≡ None
-no_slot v s w x high stands = no_cube s.now (tables_of v.system) w x stands.tables.now.has stands.shows high
-
--- a slot without a path is free
-pub free_cube : (v : VolumeView) (s : DiskState) (w : World) (x : ℕ) → path_at v.system.names x ≡ None → StandsFor v s w → w.cube x ≡ None
-free_cube v s w x none stands = by (w.cube x) (sym (row_path v s w stands x) ∙ none)
-  where
-    by : (o : Option Cube) → option_map (λ (c : Cube). c.path) o ≡ None → o ≡ None
-    by None is = refl
-    by (Some c) is = absurd (cc is)
-
 -- the slot of a path is put away by the line that unmounts its cube
 module _ (v : VolumeView) (s : DiskState) (w : World) (stands : StandsFor v s w) (p : List (List ℕ)) (x : ℕ)
     (less : x < v.system.names.slots) (at : path_at v.system.names x ≡ Some p) where
@@ -277,20 +265,6 @@ module _ (v : VolumeView) (s : DiskState) (w : World) (stands : StandsFor v s w)
       (each_slot w x away.next (λ q c. SaysBroken (w.cube q) → SaysBroken c) away.goes.broken (λ q other was. was) y broken))
 
 -- ---- all slots
-
--- nothing was put away yet
-pub away_none : (v : VolumeView) (s : DiskState) (w : World) (ok : Bool) → StandsFor v s w → HasPutAway 0 ok v s w
-away_none v s w ok stands = record {
-  next = w;
-  stands = stands;
-  slots = refl;
-  groups = refl;
-  good = λ x. same_good (w.cube x) (w.cube x) refl;
-  away = λ is x. let none : nat_lt x 0 ≡ false = grind (arith, nat_tests) in sym (ap (λ b. cond b (away_at (w.cube x)) (w.cube x)) none);
-  tried = λ x less. absurd (omega (arith, less));
-  ahead = λ x far. refl;
-  broken = λ x was. was;
-}
 
 and_true : (a b : Bool) → (a && b) ≡ true → (a ≡ true) × (b ≡ true)
 and_true true b is = (refl, is)

@@ -16,7 +16,7 @@ use Rattle.tree_spec.specs.Replies.{Because, refused_of}
 use Rattle.tree_spec.specs.Replies as reply
 use Rattle.tree_spec.specs.Why as why
 use Rattle.tree_spec.specs.World as world
-use Rattle.tree_spec.specs.World.{World, Aim, Refuse, At, aim, groups_at, slot_with_path, to_grow, with_groups}
+use Rattle.tree_spec.specs.World.{World, Refuse, At, aim, to_grow, with_groups}
 use Rattle.tree_spec.specs.declared.reply.Refusal.{Refusal}
 use Rattle.tree_spec.specs.declared.reply.StateWord.{StateWord}
 use Rattle.ice_tables.specs.Tables.{Tables, Row}
@@ -31,7 +31,7 @@ use Rattle.ice_system.specs.Plans.{PlansGrow, RefusesGroups, free_groups}
 use Rattle.ice_system.specs.Systems.{tables_of}
 use Rattle.ice_volume.specs.Cells.{cell_at, Carries, EachHas, HasOpen, IsKnown, IsSession, Rests}
 use Rattle.ice_volume.specs.Lines.{IsBrokenContent, planned_lot}
-use Rattle.ice_volume.specs.Told.{IsWidened, MayWiden}
+use Rattle.ice_volume.specs.Told.{IsWidened}
 use Rattle.ice_volume.specs.Volumes.{VolumeView, StandsFor}
 use Rattle.ice_volume.specs.declared.cell.Cell.{Cell}
 use Rattle.ice_volume.specs.declared.cell.Cell.TheVariants.{Closed, Stopped, Open}
@@ -154,12 +154,6 @@ grown_unbroken : (x : Content) → IsBrokenContent (mended x) → ⊥
 grown_unbroken (Sound h) still = absurd still
 grown_unbroken (Broken rules) still = absurd still
 grown_unbroken Unread still = absurd still
-
--- an open cell of a slot may be widened to its planned lot
-pub plan_widens : (t : Tables) (x n : ℕ) (lot : LotView) (cell : Cell) → IsLot lot → PlansGrow t x n lot → IsSession t x cell → MayWiden lot cell
-plan_widens t x n lot Closed is plan session = tt
-plan_widens t x n lot Stopped is plan session = tt
-plan_widens t x n lot (Open e) is plan session = subst (λ (l : LotView). IsWider l lot) (sym session.0) (plan_wider t x n lot is plan)
 
 -- and is a session of the slot then
 pub widened_session : (t : Tables) (x : ℕ) (lot : LotView) (s : DiskState) (cell after : Cell) → lot ≡ lot_of t x → (IsSome (t.row x))

@@ -20,6 +20,5 @@ mod TableLines
 mod GroupLines
 pub mod StandLaws
 mod Attaching
-mod Copies
 mod Finishing
 mod Listing

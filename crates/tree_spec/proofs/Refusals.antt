@@ -5,19 +5,11 @@ use Rattle.std.specs.List.{find}
 use Rattle.std.proofs.lemmas.Bool.Decides.{nat_tests}
 use Rattle.tree_spec.specs.Why.{Why}
 use Rattle.tree_spec.specs.Why as why
-use Rattle.tree_spec.specs.Replies.{Because, Fault, Memory, Plain}
+use Rattle.tree_spec.specs.Replies.{Fault, Plain}
 use Rattle.tree_spec.specs.Trees.{Tree}
 use Rattle.tree_spec.specs.Costs.{Form, nodes, blocks, node_quota, block_quota}
 use Rattle.tree_spec.specs.Operations.{Operation, Mkdir, Make, Write, Read, Trunc, Remove, Rename, ListDir, Stat, is_change}
 use Rattle.tree_spec.specs.Answers.{applies, refusal, of_paths, of_walks, of_place, of_quota, by_number, answer, answer_by, accepted_value, next_tree}
-
-pub find-later : (test : Why → Bool) (xs ys : List Why) → find test xs ≡ None → find test (xs ++ ys) ≡ find test ys
-find-later test [] ys h = refl
-find-later test (x ∷ xs) ys h =
-    elim (test x) as (λ b. cond b (Some x) (find test xs) ≡ None → cond b (Some x) (find test (xs ++ ys)) ≡ find test ys) [
-      | true ↦ λ h. absurd (subst T (ap is_some h) tt)
-      | false ↦ λ h. find-later test xs ys h
-    ] h
 
 pub find-now : (test : Why → Bool) (xs ys : List Why) (r : Why) → find test xs ≡ Some r → find test (xs ++ ys) ≡ Some r
 find-now test [] ys r h = absurd (subst T (sym (ap is_some h)) tt)
@@ -61,24 +53,6 @@ module _ (t : Tree) (done n : ℕ) (f : Form) (op : Operation) where
   unfolding refusal
   refusal-of_paths r a = find-now test of_paths (of_walks ++ of_place ++ of_quota) r a
 
-  pub refusal-of_walks : (r : Why) → find (applies t done n f op) of_paths ≡ None → find (applies t done n f op) of_walks ≡ Some r
-      → refusal t done n f op ≡ Some r
-  unfolding refusal
-  refusal-of_walks r a b = find-later test of_paths (of_walks ++ of_place ++ of_quota) a ∙ find-now test of_walks (of_place ++ of_quota) r b
-
-  pub refusal-of_place : (r : Why) → find (applies t done n f op) of_paths ≡ None → find (applies t done n f op) of_walks ≡ None
-      → find (applies t done n f op) of_place ≡ Some r → refusal t done n f op ≡ Some r
-  unfolding refusal
-  refusal-of_place r a b c =
-      find-later test of_paths (of_walks ++ of_place ++ of_quota) a ∙ find-later test of_walks (of_place ++ of_quota) b ∙ find-now test of_place of_quota r c
-
-  pub refusal-of_quota : (r : Option Why) → find (applies t done n f op) of_paths ≡ None → find (applies t done n f op) of_walks ≡ None
-      → find (applies t done n f op) of_place ≡ None → find (applies t done n f op) of_quota ≡ r → refusal t done n f op ≡ r
-  unfolding refusal
-  refusal-of_quota r a b c d =
-      find-later test of_paths (of_walks ++ of_place ++ of_quota) a ∙ find-later test of_walks (of_place ++ of_quota) b
-      ∙ find-later test of_place of_quota c ∙ d
-
   -- the condition of the refusal holds
   pub refusal-applies : (r : Why) → refusal t done n f op ≡ Some r → applies t done n f op r ≡ true
   unfolding refusal
@@ -106,10 +80,6 @@ module _ (t : Tree) (done n : ℕ) (f : Form) (op : Operation) where
   refusal-none why.Spent h = find-none test (of_paths ++ of_walks ++ of_place ++ why.NoNodes ∷ why.NoSpace ∷ []) why.Spent [] h
   refusal-none _ h = refl
 
-  -- a refused operation leaves the tree
-  pub answer-refused : (r : Why) → refusal t done n f op ≡ Some r → answer t done n f op ≡ (Err (Because r), t)
-  answer-refused r h = ap (λ o. answer_by o op t) h
-
   -- an accepted one gives its value and makes the next tree
   pub answer-accepted : refusal t done n f op ≡ None → answer t done n f op ≡ (Ok (accepted_value op t), next_tree op t)
   answer-accepted h = ap (λ o. answer_by o op t) h
@@ -119,13 +89,6 @@ module _ (t : Tree) (done n : ℕ) (f : Form) (op : Operation) where
   answer-no_fault h = by (refusal t done n f op) h
     where
       by : (o : Option Why) → (answer_by o op t).0 ≡ Err Fault → ⊥
-      by None h = cc
-      by (Some r) h = cc
-
-  pub answer-no_memory : (answer t done n f op).0 ≢ Err Memory
-  answer-no_memory h = by (refusal t done n f op) h
-    where
-      by : (o : Option Why) → (answer_by o op t).0 ≡ Err Memory → ⊥
       by None h = cc
       by (Some r) h = cc
 
@@ -159,15 +122,3 @@ accepted_value-change (Remove p) t h = refl
 accepted_value-change (Rename p q) t h = refl
 accepted_value-change (ListDir p) t h = absurd (subst T (sym h) tt)
 accepted_value-change (Stat p) t h = absurd (subst T (sym h) tt)
-
--- what is no change leaves the tree
-pub next-no_change : (op : Operation) (t : Tree) → is_change op ≡ false → next_tree op t ≡ t
-next-no_change (Mkdir p) t h = absurd (subst T h tt)
-next-no_change (Make p) t h = absurd (subst T h tt)
-next-no_change (Write p off bytes) t h = absurd (subst T h tt)
-next-no_change (Read p off len) t h = refl
-next-no_change (Trunc p len) t h = absurd (subst T h tt)
-next-no_change (Remove p) t h = absurd (subst T h tt)
-next-no_change (Rename p q) t h = absurd (subst T h tt)
-next-no_change (ListDir p) t h = refl
-next-no_change (Stat p) t h = refl

@@ -3,7 +3,7 @@ use Rattle.std.proofs.Common.{◌≡◌, ℕ, suc, ◌+◌, ◌<◌, ◌≤◌, 
 use Rattle.std.specs.Prelude.{not, ◌&&◌, nat_eq, nat_le, nat_lt}
 use Rattle.std.specs.List.{list_all}
 use Rattle.std.proofs.Math.Seq.{drop-length}
-use Rattle.std.proofs.lemmas.List.{length-take, take_more, append-nil, length-drop, length-append}
+use Rattle.std.proofs.lemmas.List.{length-take, length-drop, length-append}
 use Rattle.std.proofs.lemmas.Bool.Decides.{nat_tests}
 use Rattle.tree_spec.specs.Names.{is_name, is_name_byte, longest_name, begin, parts, names_of, BeginsAtSlash, with_slashes, text_of, longest_text}
 
@@ -134,16 +134,6 @@ not_here text i h ne = ap parts (at_place text i h) ∙ ap (λ x. begin x (get_o
 
 here : (text : List ℕ) (i : ℕ) → i < length text → get_or text i 0 ≡ 47 → parts (drop i text) ≡ begin true (get_or text i 0) (parts (drop (i + 1) text))
 here text i h e = ap parts (at_place text i h) ∙ ap (λ x. begin x (get_or text i 0) (parts (drop (i + 1) text))) (yes (get_or text i 0) e)
-
-pub split_more : (text : List ℕ) (i : ℕ) → i < length text → get_or text i 0 ≢ 47 → IsSplitAt text i → IsSplitAt text (i + 1)
-split_more text i h ne s = record {
-  front = s.front ∙ ap (λ p. take i text ++ p.0) (not_here text i h ne) ∙ sym (append_assoc (take i text) (get_or text i 0 ∷ []) (parts (drop (i + 1) text)).0)
-      ∙ ap (λ x. x ++ (parts (drop (i + 1) text)).0) (sym (take_more text i 0 h));
-  names = s.names ∙ ap (λ p. p.1) (not_here text i h ne);
-}
-
-pub split_front : (text : List ℕ) (i : ℕ) → i < length text → get_or text i 0 ≡ 47 → IsSplitAt text i → take i text ≡ (parts text).0
-split_front text i h e s = sym (s.front ∙ ap (λ p. take i text ++ p.0) (here text i h e) ∙ append-nil (take i text))
 
 pub split_begins : (text : List ℕ) (i : ℕ) → i < length text → get_or text i 0 ≡ 47 → BeginsAtSlash (drop i text)
 unfolding BeginsAtSlash

@@ -4,11 +4,11 @@ use Rattle.std.specs.Prelude.{not, ◌&&◌, filter}
 use Rattle.std.specs.Ordering.{eq_by_cmp, is_eq}
 use Rattle.std.specs.Cmp.{alike_right, eq_by_cmp_equiv}
 use Rattle.std.specs.Cmp.Lexicographic.{nat_list_cmp_total}
-use Rattle.std.specs.FinMap.{find, put, is_sorted, slice_cmp-IsAntisymmetric, nat_cmp-IsAntisymmetric}
+use Rattle.std.specs.FinMap.{find, is_sorted, slice_cmp-IsAntisymmetric, nat_cmp-IsAntisymmetric}
 use Rattle.std.specs.declared.cmp.Ordering.{Ordering}
 use Rattle.std.specs.declared.cmp.Ordering.TheVariants.{Less, Equal, Greater}
-use Rattle.std.specs.FinMap.Entries.{find-put, find-where_key, same_entries}
-use Rattle.tree_spec.specs.Trees.{Tree, File, Dir, Entries, Nil, Entry, rows, from_rows, by_bytes, child, found_or_not, walk, and_on, Walk, Found, NotFound, NotDir, at, over_entry, with_entry, without, without_entry, parent, last_name}
+use Rattle.std.specs.FinMap.Entries.{find-where_key, same_entries}
+use Rattle.tree_spec.specs.Trees.{Tree, File, Dir, Entries, Nil, Entry, rows, from_rows, by_bytes, child, found_or_not, walk, and_on, Walk, Found, NotFound, NotDir, at, over_entry, without, without_entry, parent, last_name}
 use Rattle.tree_spec.specs.Routes.{is_prefix, is_same_name}
 
 -- ---- entries as lists
@@ -58,27 +58,15 @@ turned : (b : Bool) (x : Option Tree) → cond (not b) x None ≡ cond b None x
 turned true x = refl
 turned false x = refl
 
--- what a directory has under the name d after c got the tree s
-pub find-with : (c d : List ℕ) (s : Tree) (es : Entries)
-    → find by_bytes d (rows (from_rows (put by_bytes c s (rows es)))) ≡ cond (is_same_name d c) (Some s) (find by_bytes d (rows es))
-find-with c d s es = ap (find by_bytes d) (rows-from_rows (put by_bytes c s (rows es))) ∙ find-put by_bytes nat_list_cmp_total d c s (rows es)
-
 -- what a directory has under the name d after the entry of c went
 pub find-without : (c d : List ℕ) (es : Entries) → find by_bytes d (rows (without c es)) ≡ cond (is_same_name c d) None (find by_bytes d (rows es))
 find-without c d es =
     ap (find by_bytes d) (rows-from_rows (filter (λ e. not (eq_by_cmp by_bytes c e.0)) (rows es)))
     ∙ find-where_key by_bytes (λ x. not (eq_by_cmp by_bytes c x)) d (λ x t. alike c d x t) (rows es) ∙ turned (is_same_name c d) (find by_bytes d (rows es))
 
-found_cond : (b : Bool) (s : Tree) (o : Option Tree) → found_or_not (cond b (Some s) o) ≡ cond b (Found s) (found_or_not o)
-found_cond true s o = refl
-found_cond false s o = refl
-
 gone_cond : (b : Bool) (o : Option Tree) → found_or_not (cond b None o) ≡ cond b NotFound (found_or_not o)
 gone_cond true o = refl
 gone_cond false o = refl
-
-pub child-with_entry : (c d : List ℕ) (s : Tree) (es : Entries) → child d (with_entry c s (Dir es)) ≡ cond (is_same_name d c) (Found s) (child d (Dir es))
-child-with_entry c d s es = ap found_or_not (find-with c d s es) ∙ found_cond (is_same_name d c) s (find by_bytes d (rows es))
 
 -- a child of a directory without one entry
 pub child-without_entry : (c d : List ℕ) (es : Entries) → child d (without_entry c (Dir es)) ≡ cond (is_same_name c d) NotFound (child d (Dir es))
@@ -169,38 +157,9 @@ walk-at (c ∷ p) q g (Dir es) =
     and_then NotFound = refl
     and_then NotDir = refl
 
--- on the way to the place of a change the tree that is found has the change in it
-pub walk-above : (q r : List (List ℕ)) (g : Tree → Tree) (t : Tree) → walk q (at (q ++ r) g t) ≡ on_found (λ u. at r g u) (walk q t)
-walk-above [] r g t = refl
-walk-above (c ∷ q) r g (File bytes) = refl
-walk-above (c ∷ q) r g (Dir es) =
-    ap (λ o. and_on (found_or_not o) (λ u. walk q u)) (find-over_same c (λ u. at (q ++ r) g u) es)
-    ∙ step_at (find by_bytes c (rows es)) (λ u. at (q ++ r) g u) (λ u. walk q u) (λ u. on_found (λ v. at r g v) (walk q u)) (λ u. walk-above q r g u)
-    ∙ found_then (found_or_not (find by_bytes c (rows es)))
-  where
-    found_then : (w : Walk) → and_on w (λ u. on_found (λ v. at r g v) (walk q u)) ≡ on_found (λ v. at r g v) (and_on w (λ u. walk q u))
-    found_then (Found u) = refl
-    found_then NotFound = refl
-    found_then NotDir = refl
-
 not_both : (x y : Bool) → (x && y) ≡ false → x ≡ true → y ≡ false
 not_both true y h e = h
 not_both false y h e = absurd (subst T (sym e) tt)
-
--- beside the place of a change the walk is as before
-pub walk-beside : (p q : List (List ℕ)) (g : Tree → Tree) (t : Tree) → is_prefix p q ≡ false → is_prefix q p ≡ false → walk q (at p g t) ≡ walk q t
-walk-beside [] q g t h k = absurd (subst T h tt)
-walk-beside (c ∷ p) [] g t h k = absurd (subst T k tt)
-walk-beside (c ∷ p) (d ∷ q) g (File bytes) h k = refl
-walk-beside (c ∷ p) (d ∷ q) g (Dir es) h k =
-    ap (λ o. and_on (found_or_not o) (λ u. walk q u)) (find-over c d (λ u. at p g u) es)
-    ∙ elim (is_same_name c d) as (λ b. is_same_name c d ≡ b
-    → and_on (found_or_not (cond b (on_some (λ u. at p g u) (find by_bytes d (rows es))) (find by_bytes d (rows es)))) (λ u. walk q u)
-    ≡ and_on (found_or_not (find by_bytes d (rows es))) (λ u. walk q u)) [
-      | true ↦ λ e. step_at (find by_bytes d (rows es)) (λ u. at p g u) (λ u. walk q u) (λ u. walk q u)
-          (λ u. walk-beside p q g u (not_both (is_same_name c d) _ h e) (not_both (is_same_name d c) _ k (is_same_name-sym d c ∙ e)))
-      | false ↦ λ e. refl
-    ] refl
 
 -- ---- what stays where an entry goes
 
@@ -210,11 +169,6 @@ outline (Found (File bytes)) = Found (File bytes)
 outline (Found (Dir es)) = Found (Dir Nil)
 outline NotFound = NotFound
 outline NotDir = NotDir
-
-outline_on : (w : Walk) (go on : Tree → Walk) → ((u : Tree) → outline (go u) ≡ outline (on u)) → outline (and_on w go) ≡ outline (and_on w on)
-outline_on (Found u) go on h = h u
-outline_on NotFound go on h = refl
-outline_on NotDir go on h = refl
 
 outline_step : (o : Option Tree) (h : Tree → Tree) (go on : Tree → Walk) → ((u : Tree) → outline (go (h u)) ≡ outline (on u))
     → outline (and_on (found_or_not (on_some h o)) go) ≡ outline (and_on (found_or_not o) on)
