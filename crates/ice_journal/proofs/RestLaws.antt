@@ -1,20 +1,25 @@
 -- A lot at rest, and one whose journal is open, by their effective blocks.
-use Rattle.std.proofs.Common.{◌≡◌, ◌⊎◌, inl, inr, ⊎_elim, ◌≤◌, ◌+◌, ◌*◌, ◌==◌, ℕ, Bool, true, false, List, [], ◌∷◌, Option, Some, None, refl, sym, ◌∙◌, ap, subst}
+use Rattle.std.proofs.Common.{◌≡◌, ◌⊎◌, inl, inr, ⊎_elim, ◌≤◌, ◌+◌, ◌*◌, ◌==◌, ℕ, Bool, true, false, cond, List, [], ◌∷◌, length, slice_index, Option, Some, None, refl, sym, ◌∙◌, ap, subst, arith}
 use Rattle.std.specs.Prelude.{if◌then◌else◌, ◌&&◌, unwrap_or}
+use Rattle.std.specs.List.{list_all}
+use Rattle.std.proofs.lemmas.Bool.Decides.{nat_tests}
 use Rattle.std.specs.Option.{option_map}
 use Rattle.std.proofs.Math.Path.{fun_ext}
 use Rattle.std.proofs.lemmas.Bool.{cases_Bool}
-use Rattle.ice_base.specs.Disk.{Image, block}
-use Rattle.ice_base.specs.Frames.{RestsOn}
+use Rattle.ice_base.specs.Disk.{Image, DiskState, block}
+use Rattle.ice_base.specs.Frames.{RestsOn, Sure}
 use Rattle.ice_base.specs.Lots.{LotView, is_address, place, inside, inside_out, homes, extent, gate_place, header_place}
 use Rattle.ice_base.proofs.LotLaws.{inside_at, inside_same, place-in, gate_in}
-use Rattle.ice_layout.specs.Headers.{is_open, slot_targets}
-use Rattle.ice_tables.specs.Journals.{effective, effective_of, lot_places}
+use Rattle.ice_base.specs.Fields.{word_at}
+use Rattle.ice_layout.specs.Headers.{is_open, all_differ, slot_magic, slot_targets, targets_in, targets_of}
+use Rattle.ice_layout.specs.Geometry.{between}
+use Rattle.ice_layout.proofs.HeaderLaws.{targets-length}
+use Rattle.ice_tables.specs.Journals.{effective, effective_of, lot_places, replayed}
 use Rattle.ice_txn.specs.declared.set.Entry.{Entry}
 use Rattle.ice_txn.specs.Sets.{holds, over}
 use Rattle.ice_txn.proofs.SetLaws.{over_free}
-use Rattle.ice_journal.specs.Blocks.{AreHomes}
-use Rattle.ice_journal.specs.Phases.{BeforeOrAfter, Idle, IsPending}
+use Rattle.ice_journal.specs.Blocks.{AreHomes, JournalExtent}
+use Rattle.ice_journal.specs.Phases.{BeforeOrAfter, Idle, IsPending, RestsIdle, StandsFor}
 use Rattle.ice_journal.specs.Rests.{BlocksEither, LotAtRest, RestsLot}
 use Rattle.ice_journal.specs.Shown.{are_some, shown, targets_now}
 use Rattle.ice_journal.proofs.JournalLaws.{effective_shown}
@@ -112,3 +117,43 @@ pending_targets lot ts i pending = let on = pending.gate in rw on pending.header
 if-some : (b : Bool) (o : Option (List ℕ)) (ts : List ℕ) → (if b then o else None) ≡ Some ts → (b ≡ true) × (o ≡ Some ts)
 if-some true o ts e = (refl, e)
 if-some false o ts e = absurd (cc e)
+
+first-of : (a b : Bool) → (a && b) ≡ true → a ≡ true
+first-of true b h = refl
+first-of false b h = absurd (cc h)
+
+some-long : (ts : List ℕ) → 1 ≤ length ts → are_some ts ≡ true
+some-long [] less = absurd (omega (arith, less))
+some-long (t ∷ ts) less = refl
+
+-- a header that is not refused has targets
+header-some : (lot : LotView) (header ts : List ℕ) → slot_targets lot header ≡ Some ts → are_some ts ≡ true
+unfolding slot_targets
+header-some lot header ts e =
+    let n = word_at header 8 in let us = targets_in header n in
+    let i = if-some (word_at header 0 == slot_magic && slice_index header 4 == lot.slot) (targets_of 240 (is_address lot) header n) ts e in
+    let j = if-some (between 1 240 n && (list_all (is_address lot) us && all_differ us)) (Some us) ts i.1 in
+    let number : between 1 240 n ≡ true = first-of (between 1 240 n) (list_all (is_address lot) us && all_differ us) j.0 in
+    let same : ts ≡ us = sym (ap (λ o. unwrap_or o ts) j.1) in
+    let long : length ts ≡ n = ap (λ (xs : List ℕ). length xs) same ∙ targets-length header n in
+    let low : 1 ≤ n = grind (arith, nat_tests) in
+    some-long ts (omega (arith, low, long))
+
+-- A lot that has effective blocks is at rest with them, or its journal is open with targets.
+pub rest_or_open : (lot : LotView) (map : ℕ → List ℕ) (i : Image) → effective_of lot i ≡ Some map
+    → LotAtRest lot map i ⊎ ((ts : List ℕ) × (targets_now lot i ≡ Some ts) × (are_some ts ≡ true))
+unfolding effective_of targets_now
+rest_or_open lot map i e = elim (cases_Bool (is_open (block i (gate_place lot)))) [
+  | inr off ↦ inl (record { gate = off; blocks = e })
+  | inl on ↦
+      let has : option_map (λ m. inside lot m)
+      (option_map (λ ts. replayed (place lot) ts (lot_places lot).body i) (slot_targets lot (block i (header_place lot)))) ≡ Some map = rw on at e in
+      let named = some-read (slot_targets lot (block i (header_place lot))) has in
+      inr (named.0, rw on named.1, header-some lot (block i (header_place lot)) named.0 named.1)
+]
+  where
+    some-read : (o : Option (List ℕ))
+        → option_map (λ m. inside lot m) (option_map (λ ts. replayed (place lot) ts (lot_places lot).body i) o) ≡ Some map
+        → (ts : List ℕ) × (o ≡ Some ts)
+    some-read None f = absurd (cc f)
+    some-read (Some ts) f = (ts, refl)

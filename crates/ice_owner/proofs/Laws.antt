@@ -7,9 +7,11 @@ use Rattle.std.proofs.lemmas.Bool.Decides.{nat_tests}
 use Rattle.std.proofs.lemmas.List.{drop_more, drop_all}
 use Rattle.ice_tables.specs.Tables.{Tables, HasGroups, AreOwners, owner_byte}
 use Rattle.ice_tables.specs.Lots.{is_slot, groups_of}
-use Rattle.ice_tables.proofs.LotSites.{is_slot-some}
-use Rattle.ice_owner.specs.Owners.{OwnersView, AreLots, HasOwners, Changes, groups_at, place_of, holder, ordinal, is_free}
+use Rattle.ice_tables.proofs.LotSites.{Each, each-at, each-filter, is_slot-some}
+use Rattle.ice_base.specs.Lots.{IsLot}
+use Rattle.ice_owner.specs.Owners.{OwnersView, AreLots, HasOwners, Changes, groups_at, place_of, holder, ordinal, is_free, free_groups}
 use Rattle.ice_owner.proofs.Held.{holder_at, holder_none, holder_is, none_held}
+use Rattle.ice_owner.proofs.Filters.{free_all}
 
 -- ---- filters that let one number pass at most
 
@@ -181,6 +183,37 @@ kept_group v w slot groups a changed g s other held =
     holder_at w a s (ordinal v g) g (subst (λ (xs : List ℕ). ordinal v g < length xs) (sym same) at.0)
     (subst (λ (xs : List ℕ). slice_index xs (ordinal v g) ≡ g) (sym same) at.1)
 
+-- the groups that a slot gets belong to it, in their order
+pub given_group : (v w : OwnersView) (slot : ℕ) (groups : List ℕ) → AreLots w → Changes v w slot groups → (o : ℕ) → o < length groups
+    → (holder w (slice_index groups o) ≡ Some slot) × (ordinal w (slice_index groups o) ≡ o)
+given_group v w slot groups a changed o low =
+    holder_at w a slot o (slice_index groups o) (subst (λ (xs : List ℕ). o < length xs) (sym changed.lot) low)
+    (ap (λ (xs : List ℕ). slice_index xs o) changed.lot)
+
+-- the free groups are groups of the image that belong to no slot
+pub free_group : (v : OwnersView) (o : ℕ) → o < length (free_groups v)
+    → (slice_index (free_groups v) o < v.groups) × (holder v (slice_index (free_groups v) o) ≡ None)
+free_group v o low =
+    let all = subst (λ (xs : List ℕ). Each (λ g. (g < v.groups) × (holder v g ≡ None)) xs) (sym (free_all v))
+    (each-filter (λ g. (g < v.groups) × (holder v g ≡ None)) (λ g. is_free v g) (range_with_len 0 v.groups) each) in
+    each-at (λ g. (g < v.groups) × (holder v g ≡ None)) (free_groups v) o all low
+  where
+    none_is : (found : Option ℕ) → is_none found ≡ true → found ≡ None
+    none_is None is = refl
+    none_is (Some s) is = absurd (cc is)
+
     each : (g : ℕ) → is_free v g ≡ true → (g < v.groups) × (holder v g ≡ None)
     each g is = let parts = and_parts (nat_lt g v.groups) (is_none (holder v g)) is in
         (let low = parts.0 in grind (arith, nat_tests), none_is (holder v g) parts.1)
+
+-- the groups of a slot make a proper lot
+pub lot_is_proper : (v : OwnersView) (slot base slots : ℕ) → AreLots v → slot < slots → slots ≤ 16
+    → base ≡ 32 + 256 * slots → IsLot (record { slot = slot; base = base; groups = groups_at v slot })
+lot_is_proper v slot base slots a low most is = record {
+  slot = omega (arith, low, most);
+  low = omega (arith, low, is);
+  high = omega (arith, most, is);
+  few = a.few slot;
+  apart = λ i j less inside same. let e = a.apart slot slot i j (omega (arith, less, inside)) inside same in omega (arith, e.1, less);
+  small = λ i inside. omega (arith, a.below slot i inside, a.most);
+}

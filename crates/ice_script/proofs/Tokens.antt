@@ -8,7 +8,7 @@ use Rattle.std.proofs.lemmas.Bool.Decides.{nat_tests}
 use Rattle.std.proofs.Common.{sym}
 use Rattle.tree_spec.specs.Why.{Args}
 use Rattle.tree_spec.specs.Lines.{Bad}
-use Rattle.ice_script.specs.Grammar.{tokens, is_blank, one_token, cubes_of}
+use Rattle.ice_script.specs.Grammar.{tokens, is_blank, one_token, two_tokens, three_tokens, cubes_of}
 
 at : (n len i : ℕ) → cond (nat_lt n len) (Some n) None ≡ Some i → (n ≡ i) × (n < len)
 at n len i h = (elim (nat_lt n len) as (λ y. nat_lt n len ≡ y → cond y (Some n) None ≡ Some i → (n ≡ i) × (n < len)) [
@@ -60,6 +60,14 @@ module _ {A : Type 0} (have : List (List ℕ) → Option A) (lacks : (token : Li
 -- a token behind a blank is one too many
 pub one_more : (a text : List ℕ) → one_token (a ∷ tokens text) ≡ None
 one_more a text = some_token (λ ts. one_token (a ∷ ts)) (λ token more. refl) text
+
+-- and so is one behind two
+pub two_more : (a b text : List ℕ) → two_tokens (a ∷ b ∷ tokens text) ≡ None
+two_more a b text = some_token (λ ts. two_tokens (a ∷ b ∷ ts)) (λ token more. refl) text
+
+-- and so is one behind three
+pub three_more : (a b c text : List ℕ) → three_tokens (a ∷ b ∷ c ∷ tokens text) ≡ None
+three_more a b c text = some_token (λ ts. three_tokens (a ∷ b ∷ c ∷ ts)) (λ token more. refl) text
 
 -- and so is one behind `cubes`
 pub cubes_more : (text : List ℕ) → cubes_of (tokens text) ≡ Bad Args

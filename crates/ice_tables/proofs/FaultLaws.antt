@@ -1,13 +1,16 @@
 -- An image has tables, or one first fault.
-use Rattle.std.proofs.Common.{◌≡◌, ◌∙◌, ℕ, Bool, true, false, List, Option, Some, None, refl, sym, ap, subst}
+use Rattle.std.proofs.Common.{◌≡◌, ◌∙◌, inl, inr, ℕ, Bool, true, false, List, Option, Some, None, refl, sym, ap, subst}
 use Rattle.std.specs.Prelude.{◌==◌, unwrap_or, not, if◌then◌else◌}
 use Rattle.ice_base.specs.Disk.{Image, block}
-use Rattle.ice_layout.specs.Supers.{super_fault, super_of}
+use Rattle.ice_base.specs.Fields.{word_at}
+use Rattle.ice_layout.specs.Geometry.{total_blocks, zero_from, between}
+use Rattle.ice_layout.specs.Supers.{super_fault, super_magic, super_of}
 use Rattle.ice_layout.specs.declared.superblock.Super.{Super}
 use Rattle.ice_layout.specs.declared.superblock.LayoutFault.{LayoutFault}
 use Rattle.ice_layout.specs.declared.superblock.LayoutFault.TheVariants.{Magic, Version, Slots, Groups, Total, Zero, Names, Owners, Header}
 use Rattle.ice_tables.specs.Journals.{table_blocks}
 use Rattle.ice_tables.specs.Tables.{Tables, HasTables, AreNames, AreOwners, FirstFault, tables_in}
+use Rattle.ice_tables.proofs.Decisions.{Decided, names_decided, owners_decided}
 
 -- ---- the faults of a superblock
 
@@ -33,6 +36,12 @@ first_of true true false d e h f is = some_is f Slots is refl
 first_of true false c d e h f is = some_is f Version is refl
 first_of false b c d e h f is = some_is f Magic is refl
 
+super_only : (bytes : List ℕ) (f : LayoutFault) → super_fault bytes ≡ Some f → OfSuper f ≡ true
+unfolding super_fault
+super_only bytes f is =
+    first_of (word_at bytes 0 == super_magic) (word_at bytes 4 == 1) (between 1 16 (word_at bytes 8)) (between 1 1024 (word_at bytes 12))
+    (word_at bytes 16 == total_blocks (word_at bytes 8) (word_at bytes 12)) (zero_from 20 bytes) f is
+
 -- such a fault is the first
 super_first : (image : Image) (f : LayoutFault) → OfSuper f ≡ true → super_fault (block image 0) ≡ Some f → FirstFault image f
 super_first image Magic of is = is
@@ -52,6 +61,25 @@ module _ (image : Image) (right : super_fault (block image 0) ≡ None) (without
   -- the numbers of slots and groups
   abbrev sup : Super
   sup = super_of (block image 0)
+
+  of_blocks : (m : ℕ → List ℕ) → table_blocks image ≡ Some m → Decided (AreNames sup.slots m)
+      → Decided (AreOwners (tables_in sup m) m) → (f : LayoutFault) × FirstFault image f
+  of_blocks m shown (inr bad) owners = (Names, (right, record { blocks = m; effective = shown; names = bad }))
+  of_blocks m shown (inl names) (inr bad) = (Owners, (right, record { blocks = m; effective = shown; names = names; owners = bad }))
+  of_blocks m shown (inl names) (inl owners) =
+      absurd (without (tables_in sup m) (record { superblock = right; blocks = m; effective = shown; says = refl; names = names; owners = owners }))
+
+  of_tables : (o : Option (ℕ → List ℕ)) → table_blocks image ≡ o → (f : LayoutFault) × FirstFault image f
+  of_tables None shown = (Header, (right, shown))
+  of_tables (Some m) shown = of_blocks m shown (names_decided sup.slots m) (owners_decided sup m)
+
+-- an image without tables has a first fault
+pub without_tables : (image : Image) → ((t : Tables) → ¬ HasTables image t) → (f : LayoutFault) × FirstFault image f
+without_tables image without = by (super_fault (block image 0)) refl
+  where
+    by : (o : Option LayoutFault) → super_fault (block image 0) ≡ o → (f : LayoutFault) × FirstFault image f
+    by (Some f) is = (f, super_first image f (super_only (block image 0) f is) is)
+    by None is = of_tables image is without (table_blocks image) refl
 
 -- ---- an image with tables
 

@@ -20,5 +20,6 @@ mod TableLines
 mod GroupLines
 pub mod StandLaws
 mod Attaching
+mod Copies
 mod Finishing
 mod Listing
