@@ -28,6 +28,9 @@ use crate::tree_calls::{change_in, check_names, look_at, looks};
 use ice_base::{Disk, DiskFault};
 use tree_spec::{Command, Refusal, Reply, Room, Value};
 
+/// The number of the last refusal that a tree's model gives. What is refused with a greater one stops the cube.
+const LAST_OF_TREES: u8 = 14;
+
 impl Cube {
     /// Looks at the tree. Damage stops the cube.
     fn look<D: Disk>(
@@ -133,7 +136,7 @@ impl Cube {
                 Ok(())
             }
             Err(refusal) => {
-                self.stopped = refusal.number() > 14;
+                self.stopped = refusal.number() > LAST_OF_TREES;
                 Err(refusal)
             }
         }
