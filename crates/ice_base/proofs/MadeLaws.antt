@@ -1,5 +1,5 @@
 -- Counts of writes and barriers add up.
-use Rattle.std.proofs.Common.{◌+◌, ◌≤◌, ℕ, Bool, true, refl, arith}
+use Rattle.std.proofs.Common.{◌+◌, ℕ, Bool, true, refl, arith}
 use Rattle.ice_base.specs.Disk.{DiskState}
 use Rattle.ice_base.specs.Counts.{Made}
 
