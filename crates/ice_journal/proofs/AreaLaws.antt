@@ -1,5 +1,5 @@
 -- Where the journals lie: their blocks are apart, and lie among those of the tables or of the lot.
-use Rattle.std.proofs.Common.{◌≡◌, inl, inr, ◌≤◌, ◌<◌, ◌+◌, ◌-◌, ◌*◌, ℕ, true, refl, sym, subst, arith}
+use Rattle.std.proofs.Common.{◌≡◌, inl, inr, ◌<◌, ◌+◌, ◌-◌, ◌*◌, ℕ, true, refl, sym, subst, arith}
 use Rattle.ice_base.specs.Lots.{LotView, IsLot, place, is_sited, extent}
 use Rattle.ice_base.proofs.LotLaws.{place-in, place-apart, place-sited, area_in, area_below, sited-below, gate_in, header_in, home_not_gate, home_not_header, home_not_body}
 use Rattle.ice_layout.specs.Headers.{slot_targets, system_targets}

@@ -1,13 +1,13 @@
 -- A lot at rest, and one whose journal is open, by their effective blocks.
-use Rattle.std.proofs.Common.{◌≡◌, ◌⊎◌, inl, inr, ⊎_elim, ◌≤◌, ◌+◌, ◌*◌, ◌==◌, ℕ, Bool, true, false, cond, List, [], ◌∷◌, length, slice_index, Option, Some, None, refl, sym, ◌∙◌, ap, subst, arith}
+use Rattle.std.proofs.Common.{◌≡◌, ◌⊎◌, inl, inr, ⊎_elim, ◌≤◌, ◌==◌, ℕ, Bool, true, false, List, [], ◌∷◌, length, slice_index, Option, Some, None, refl, sym, ◌∙◌, ap, subst, arith}
 use Rattle.std.specs.Prelude.{if◌then◌else◌, ◌&&◌, unwrap_or}
 use Rattle.std.specs.List.{list_all}
 use Rattle.std.proofs.lemmas.Bool.Decides.{nat_tests}
 use Rattle.std.specs.Option.{option_map}
 use Rattle.std.proofs.Math.Path.{fun_ext}
 use Rattle.std.proofs.lemmas.Bool.{cases_Bool}
-use Rattle.ice_base.specs.Disk.{Image, DiskState, block}
-use Rattle.ice_base.specs.Frames.{RestsOn, Sure}
+use Rattle.ice_base.specs.Disk.{Image, block}
+use Rattle.ice_base.specs.Frames.{RestsOn}
 use Rattle.ice_base.specs.Lots.{LotView, is_address, place, inside, inside_out, homes, extent, gate_place, header_place}
 use Rattle.ice_base.proofs.LotLaws.{inside_at, inside_same, place-in, gate_in}
 use Rattle.ice_base.specs.Fields.{word_at}
@@ -18,8 +18,8 @@ use Rattle.ice_tables.specs.Journals.{effective, effective_of, lot_places, repla
 use Rattle.ice_txn.specs.declared.set.Entry.{Entry}
 use Rattle.ice_txn.specs.Sets.{holds, over}
 use Rattle.ice_txn.proofs.SetLaws.{over_free}
-use Rattle.ice_journal.specs.Blocks.{AreHomes, JournalExtent}
-use Rattle.ice_journal.specs.Phases.{BeforeOrAfter, Idle, IsPending, RestsIdle, StandsFor}
+use Rattle.ice_journal.specs.Blocks.{AreHomes}
+use Rattle.ice_journal.specs.Phases.{BeforeOrAfter, Idle, IsPending}
 use Rattle.ice_journal.specs.Rests.{BlocksEither, LotAtRest, RestsLot}
 use Rattle.ice_journal.specs.Shown.{are_some, shown, targets_now}
 use Rattle.ice_journal.proofs.JournalLaws.{effective_shown}

@@ -11,7 +11,7 @@ use Rattle.ice_map.specs.declared.codec.Inode.{Inode}
 use Rattle.ice_map.specs.Inodes.{inode_of, inode_at}
 use Rattle.ice_map.specs.Maps.{nth_block, indirect_of, blocks_of, uses, longest}
 use Rattle.ice_map.proofs.ListLaws.{map_range_same, has-head, has-tail, has-left, has-right, has-range}
-use Rattle.ice_map.specs.Own.{Own, own_of, map_length, entry_size, nth_long, indirects_long, own_long_of, own}
+use Rattle.ice_map.specs.Own.{Own, own_of, map_length, nth_long, indirects_long, own_long_of, own}
 use Rattle.ice_map.proofs.OwnLaws.{uses-single, nth-moves}
 use Rattle.tree_spec.specs.Costs.{Form, rounded_up}
 use Rattle.ice_reads.specs.Tables.{Map}

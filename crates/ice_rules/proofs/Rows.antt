@@ -1,6 +1,6 @@
 -- Worked examples: small lots of one group, each with the rules that may be named of it.
-use Rattle.std.proofs.Common.{◌≡◌, ℕ, ◌+◌, ◌-◌, ◌*◌, ◌^◌, List, [], ◌∷◌, ◌++◌, length, refl}
-use Rattle.std.specs.Prelude.{◌==◌, slice_set, map, replicate, nat_lt, if◌then◌else◌, Option, None, Some}
+use Rattle.std.proofs.Common.{◌≡◌, ℕ, ◌+◌, ◌-◌, ◌*◌, ◌^◌, List, [], ◌∷◌, ◌++◌, refl}
+use Rattle.std.specs.Prelude.{◌==◌, slice_set, map, replicate, nat_lt, if◌then◌else◌, None}
 use Rattle.std.specs.List.{range_with_len, flat_map}
 use Rattle.ice_base.specs.Bits.{bit_of}
 use Rattle.ice_base.specs.Fields.{word_at}
@@ -8,7 +8,6 @@ use Rattle.ice_base.specs.Inodes.{kind_at, size_at, direct_of}
 use Rattle.ice_base.specs.Lots.{LotView, sub_address}
 use Rattle.ice_base.specs.Spare.{has}
 use Rattle.ice_base.specs.Used.{used, is_data}
-use Rattle.ice_base.specs.declared.fault.Rule.{Rule}
 use Rattle.ice_base.specs.declared.fault.Rule.TheVariants as rule
 use Rattle.ice_layout.specs.Subs.{sub_rule}
 use Rattle.ice_map.specs.Inodes.{inode_at}

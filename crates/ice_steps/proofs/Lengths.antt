@@ -1,19 +1,17 @@
 -- How many blocks and inodes a tree uses.
-use Rattle.std.proofs.Common.{◌≡◌, ◌≤◌, ◌<◌, ◌+◌, ◌*◌, ℕ, List, [], ◌∷◌, length, length-append, ◌∙◌, sym, refl, ap, arith}
+use Rattle.std.proofs.Common.{◌≡◌, ◌≤◌, ℕ, List, [], ◌∷◌, length, length-append, ◌∙◌, sym, refl, ap, arith}
 use Rattle.std.proofs.lemmas.Bool.Decides.{nat_tests}
-use Rattle.std.proofs.lemmas.Nat.{div-add-mod'}
 use Rattle.ice_base.specs.Lots.{LotView}
 use Rattle.ice_map.specs.Inodes.{inode_of}
-use Rattle.ice_map.specs.Own.{own, map_length}
+use Rattle.ice_map.specs.Own.{own}
 use Rattle.ice_map.specs.Moves.{uses_of}
-use Rattle.ice_file.proofs.ByteLaws.{file_length, all_bytes}
+use Rattle.ice_file.proofs.ByteLaws.{all_bytes}
 use Rattle.ice_dir.specs.Rows.{DirRow}
-use Rattle.ice_dir.proofs.DirLaws.{dir-length}
 use Rattle.std.proofs.lemmas.List.FromFn.{length-map-range_with_len}
 use Rattle.ice_file.specs.Files.{byte_of}
 use Rattle.tree_spec.specs.Trees.{Tree, File, Dir, Entries, Nil, Entry, total_in}
 use Rattle.tree_spec.specs.Costs.{Form, form_one, map_cost, blocks, nodes}
-use Rattle.ice_reads.specs.Tables.{Map, Table, rows_in, inode_named, IsFileInode, IsDirInode}
+use Rattle.ice_reads.specs.Tables.{Map, Table, rows_in, inode_named, IsFileInode}
 use Rattle.ice_reads.proofs.UsedCosts.{cost_is_used}
 use Rattle.ice_reads.specs.Reads.{Reads, entries_use, used_blocks, used_inodes}
 

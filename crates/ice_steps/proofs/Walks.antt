@@ -1,5 +1,5 @@
 -- What a walk of a recovered tree finds, and what a map with a tree and loose things holds.
-use Rattle.std.proofs.Common.{◌≡◌, ◌≤◌, ◌<◌, ◌*◌, ℕ, true, List, [], ◌∷◌, length, length-append, sym, arith}
+use Rattle.std.proofs.Common.{◌≡◌, ◌≤◌, ℕ, true, List, [], ◌∷◌, length, length-append, sym, arith}
 use Rattle.ice_base.specs.Lots.{LotView}
 use Rattle.ice_base.specs.Used.{used_inode, counted}
 use Rattle.ice_map.specs.Inodes.{inode_of}

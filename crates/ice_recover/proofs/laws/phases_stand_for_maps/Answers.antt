@@ -1,4 +1,4 @@
-use Rattle.std.proofs.Common.{ℕ, List, [], Option, None}
+use Rattle.std.proofs.Common.{[], None}
 use Rattle.ice_journal.proofs.PhaseLaws.{idle_rests, full_rests, open_rests, idle_stands, full_stands, open_stands, close_stands}
 use Rattle.ice_recover.proofs.laws.phases_stand_for_maps.Goals as goal
 
