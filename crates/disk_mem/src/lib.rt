@@ -11,6 +11,3 @@ mod step;
 
 pub use mem_host::MemHost;
 pub use mute::MuteHost;
-
-#[cfg(test)]
-mod tests;

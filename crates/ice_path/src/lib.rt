@@ -3,8 +3,6 @@
 
 mod prefix;
 mod read;
-#[cfg(test)]
-mod tests;
 
 pub use prefix::is_prefix;
 pub use read::{PathFault, read_path};

@@ -3,8 +3,6 @@
 
 mod command;
 mod reader;
-#[cfg(test)]
-mod tests;
 mod token;
 
 pub use reader::LineReader;

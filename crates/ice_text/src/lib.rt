@@ -5,8 +5,6 @@ mod closing;
 mod out;
 pub mod read_back;
 mod reply;
-#[cfg(test)]
-mod tests;
 
 pub use closing::{Closing, read_closing};
 pub use out::Out;

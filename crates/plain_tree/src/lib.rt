@@ -7,8 +7,6 @@
 mod command;
 mod cost;
 mod next;
-#[cfg(test)]
-mod tests;
 mod text;
 mod tree;
 

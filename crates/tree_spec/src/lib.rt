@@ -6,8 +6,6 @@ mod name;
 mod path;
 mod reply;
 mod room;
-#[cfg(test)]
-mod tests;
 
 pub use command::Command;
 pub use name::{NAME_LIMIT, Name, only_dots};

@@ -1,6 +1,7 @@
+//! Lines from bytes, and commands from lines.
 ghost use Rattle.std.specs.Prelude.{◌≡◌, false};
 
-use super::*;
+use ice_script::{LineReader, read_number};
 use std::test::Fail;
 use tree_spec::{Command, Refusal};
 

@@ -1,8 +1,7 @@
+//! Paths from bytes, and prefixes by whole names.
 ghost use Rattle.std.specs.Prelude.{◌<◌};
 
-use super::*;
-use std::test::Fail;
-use tree_spec::Path;
+use ice_path::{PathFault, is_prefix, read_path};
 
 /// A slash at each multiple of `every`.
 fn long_text(into: &mut [u8; 3300], every: usize)

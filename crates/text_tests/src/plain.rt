@@ -1,4 +1,5 @@
-use super::*;
+//! The plain tree, which other tests compare with.
+use plain_tree::{PlainForm, PlainTree, answer, form_one, form_two, map_cost};
 use std::test::Fail;
 use tree_spec::{Command, Name, Path, Refusal, Reply, Value};
 

@@ -1,5 +1,6 @@
-use super::*;
+//! Refusals, names, paths and the room for an answer.
 use std::test::Fail;
+use tree_spec::{CubeRow, Entry, Name, Path, Refusal, Room, StateWord};
 
 #[test]
 fn each_refusal_has_its_number(rt: HostRuntime) {

@@ -1,5 +1,5 @@
 //! What no clause says: that calls succeed, and the worked bytes of crashes.
-use crate::{MemHost, MuteHost};
+use disk_mem::{MemHost, MuteHost};
 use ice_base::{Disk, Host, give_all};
 use std::alloc::Global;
 use std::process::Abort;

@@ -1,5 +1,5 @@
 use Rattle.std.proofs.Common.{◌≡◌, false}
-use Rattle.ice_script.proofs.tests.gather.Given as goal
+use Rattle.text_tests.proofs.lines.gather.Given as goal
 
 abbrev pub invariant-loop-byte : goal.invariant-loop-byte
 invariant-loop-byte l = l.reader.ended ≡ false

@@ -1,6 +1,7 @@
+//! The text of replies, and closing lines read back.
 ghost use Rattle.std.specs.Prelude.{◌≡◌, []};
 
-use super::*;
+use ice_text::{Closing, Out, read_closing, write_reply};
 use std::alloc::Global;
 use std::test::Fail;
 use tree_spec::{CubeRow, Entry, Name, Path, Refusal, Reply, Room, StateWord, Value};
