@@ -1,12 +1,11 @@
 -- What a growth that failed may have put.
-use Rattle.std.proofs.Common.{◌≡◌, ◌<◌, ◌*◌, ◌==◌, ℕ, true, false, cond, List, [], ◌∷◌, ◌∙◌, sym, refl, ap, arith, nat_lt, Result, Ok, Err, OnErr}
+use Rattle.std.proofs.Common.{◌≡◌, ◌*◌, ◌==◌, ℕ, true, false, cond, List, [], ◌∷◌, ◌∙◌, sym, refl, ap, arith, nat_lt, Result, Ok, Err, OnErr}
 use Rattle.std.proofs.lemmas.Bool.Decides.{nat_tests}
 use Rattle.std.proofs.lemmas.Nat.{div-add-mod'}
 use Rattle.ice_base.specs.Lots.{LotView, sub_address}
 use Rattle.ice_base.specs.Spare.{has}
 use Rattle.ice_base.specs.Used.{bitmap_of}
 use Rattle.ice_base.specs.Views.{Puts}
-use Rattle.ice_base.specs.declared.disk.Disk as disk
 use Rattle.ice_base.specs.declared.view.View as view
 use Rattle.ice_map.specs.declared.codec.Inode.{Inode}
 use Rattle.ice_map.specs.Maps.{growth_puts, GrowthFailed}

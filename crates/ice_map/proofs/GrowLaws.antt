@@ -8,7 +8,6 @@ use Rattle.ice_base.specs.Fields.{word_at, WordSet}
 use Rattle.ice_base.specs.Inodes.{inode_address}
 use Rattle.ice_base.specs.Lots.{LotView, sub_address}
 use Rattle.ice_base.specs.Pools.{Took}
-use Rattle.ice_base.specs.declared.view.View as view
 use Rattle.ice_base.specs.Spare.{has}
 use Rattle.ice_base.specs.Used.{used_block, is_data, bitmap_of}
 use Rattle.ice_base.proofs.UsedLaws.{data_below, data_place}

@@ -39,23 +39,28 @@ fn give_between<D: Disk, K: Keep<D>, P: Pool<D, K>>(
     rest: u32,
     count: u32,
 ) -> Result<(), OpFault>
+    // The lot lies on the disk, the keep can hold what is put, and the blocks are of one map.
     requires sited { is_sited lot.now (D.state disk.old).size ≡ true }
     requires order { rest ≤ count }
     requires short { count ≤ longest }
     requires room { cut_room count rest ≤ K.room keep.old }
+    // The blocks were marked free, and each is a data place.
     ensures gave { AsShown K.View lot.now keep.old disk.old keep.new disk.new (λ old new.
         OnOk result (Marked lot.now false old new (blocks_between (λ _. block.now) inode.now rest count))) }
+    ensures placed { OnOk result ((b : ℕ)
+        → has (blocks_between (λ _. block.now) inode.now rest count) b ≡ true → is_data lot.now b ≡ true) }
+    // Which blocks it put, and what the keep and the disk spent.
     ensures puts { Puts K.View lot.now (is_ok result) (given_puts (blocks_between (λ _. block.now) inode.now rest count)) keep.old disk.old keep.new disk.new }
     ensures bitmaps { Puts K.View lot.now (is_ok result) (sub_address ∷ bitmaps (length lot.now.groups)) keep.old disk.old keep.new disk.new }
     ensures spent { Spent D.Disk K.View lot.now (2 * (count - rest)) keep.old disk.old keep.new disk.new }
+    // Damage that it names is there.
     ensures zero { IsErrOf result (Damaged Counts) → IfShown K.View lot.now keep.old disk.old (λ old.
         counted false old < count - rest) }
     ensures unused { IsErrOf result (Damaged Bitmap) → IfShown K.View lot.now keep.old disk.old (λ old.
         FreeOrTwice old (blocks_between (λ _. block.now) inode.now rest count)) }
-    ensures placed { OnOk result ((b : ℕ)
-        → has (blocks_between (λ _. block.now) inode.now rest count) b ≡ true → is_data lot.now b ≡ true) }
     ensures pointer { IsErrOf result (Damaged Pointer) → (k : ℕ) × (rest ≤ k) × (k < count)
         × (is_data lot.now (nth_block (λ _. block.now) inode.now k) ≡ false) }
+    // Which refusals there are, and when a fault of the disk comes.
     ensures faults { IfErr result IsCutFault }
     ensures failed { Caused D.state FaultDisk result disk.old disk.new }
 {
@@ -82,10 +87,13 @@ fn read_indirect<D: Disk, V: View<D>>(
     into: &mut Block,
 ) -> Result<(), OpFault>
     requires sited { is_sited lot.now (D.state disk.old).size ≡ true }
+    // The block that it reads.
     ensures content { IfShown V.View lot.now view.old disk.old (λ old.
         OnOk result (into.new ≡ old inode.now.single)) }
     ensures data { OnOk result (is_data lot.now inode.now.single ≡ true) }
+    // Damage that it names is there.
     ensures pointer { IsErrOf result (Damaged Pointer) → is_data lot.now inode.now.single ≡ false }
+    // What stays as it was, and which refusals there are.
     ensures looked { Looked D.Disk V.View lot.now view.old disk.old view.new disk.new }
     ensures faults { IfErr result IsLookFault }
     ensures failed { Caused D.state FaultDisk result disk.old disk.new }
@@ -104,18 +112,25 @@ fn give_indirect<D: Disk, K: Keep<D>, P: Pool<D, K>>(
     count: u32,
     rest: u32,
 ) -> Result<(), OpFault>
+    // The lot lies on the disk, the keep can hold what is put, and the blocks are of one map.
     requires sited { is_sited lot.now (D.state disk.old).size ≡ true }
     requires order { rest < count }
     requires long { 12 < count }
     requires short { count ≤ longest }
     requires room { cut_room count rest ≤ K.room keep.old }
+    // What was given back was marked free, and is all data places.
     ensures gave { AsShown K.View lot.now keep.old disk.old keep.new disk.new (λ old new.
         OnOk result (Marked lot.now false old new (cut_off old inode.now count rest))) }
+    ensures placed { IfShown K.View lot.now keep.old disk.old (λ old.
+        OnOk result ((b : ℕ) → has (cut_off old inode.now count rest) b ≡ true
+        → is_data lot.now b ≡ true)) }
+    // Which blocks it put, that the indirect block stays, and what the keep and the disk spent.
     ensures puts { IfShown K.View lot.now keep.old disk.old (λ old.
         Puts K.View lot.now (is_ok result) (given_puts (cut_off old inode.now count rest)) keep.old disk.old keep.new disk.new) }
     ensures bitmaps { Puts K.View lot.now (is_ok result) (sub_address ∷ bitmaps (length lot.now.groups)) keep.old disk.old keep.new disk.new }
     ensures single { OnOk result (K.map keep.new disk.new lot.now inode.now.single ≡ K.map keep.old disk.old lot.now inode.now.single) }
     ensures spent { Spent D.Disk K.View lot.now (cut_room count rest) keep.old disk.old keep.new disk.new }
+    // Damage that it names is there.
     ensures zero { IsErrOf result (Damaged Counts) → IfShown K.View lot.now keep.old disk.old (λ old.
         counted false old < length (cut_off old inode.now count rest)) }
     ensures unused { IsErrOf result (Damaged Bitmap) → IfShown K.View lot.now keep.old disk.old (λ old.
@@ -124,9 +139,7 @@ fn give_indirect<D: Disk, K: Keep<D>, P: Pool<D, K>>(
         → is_data lot.now inode.now.single ≡ true }
     ensures misled { IsErrOf result (Damaged Pointer) → IfShown K.View lot.now keep.old disk.old (λ old.
         Misleads lot.now old inode.now count) }
-    ensures placed { IfShown K.View lot.now keep.old disk.old (λ old.
-        OnOk result ((b : ℕ) → has (cut_off old inode.now count rest) b ≡ true
-        → is_data lot.now b ≡ true)) }
+    // Which refusals there are, and when a fault of the disk comes.
     ensures faults { IfErr result IsCutFault }
     ensures failed { Caused D.state FaultDisk result disk.old disk.new }
 {
@@ -181,18 +194,25 @@ fn give_rest<D: Disk, K: Keep<D>, P: Pool<D, K>>(
     count: u32,
     rest: u32,
 ) -> Result<(), OpFault>
+    // The lot lies on the disk, the keep can hold what is put, and the blocks are of one map.
     requires sited { is_sited lot.now (D.state disk.old).size ≡ true }
     requires order { rest ≤ count }
     requires short { count ≤ longest }
     requires room { cut_room count rest ≤ K.room keep.old }
+    // What was given back was marked free, and is all data places.
     ensures gave { AsShown K.View lot.now keep.old disk.old keep.new disk.new (λ old new.
         OnOk result (Marked lot.now false old new (cut_off old inode.now count rest))) }
+    ensures placed { IfShown K.View lot.now keep.old disk.old (λ old.
+        OnOk result ((b : ℕ) → has (cut_off old inode.now count rest) b ≡ true
+        → is_data lot.now b ≡ true)) }
+    // Which blocks it put, that the indirect block stays, and what the keep and the disk spent.
     ensures puts { IfShown K.View lot.now keep.old disk.old (λ old.
         Puts K.View lot.now (is_ok result) (given_puts (cut_off old inode.now count rest)) keep.old disk.old keep.new disk.new) }
     ensures bitmaps { Puts K.View lot.now (is_ok result) (sub_address ∷ bitmaps (length lot.now.groups)) keep.old disk.old keep.new disk.new }
     ensures single { OnOk result (12 < rest
         → K.map keep.new disk.new lot.now inode.now.single ≡ K.map keep.old disk.old lot.now inode.now.single) }
     ensures spent { Spent D.Disk K.View lot.now (cut_room count rest) keep.old disk.old keep.new disk.new }
+    // Damage that it names is there.
     ensures zero { IsErrOf result (Damaged Counts) → IfShown K.View lot.now keep.old disk.old (λ old.
         counted false old < length (cut_off old inode.now count rest)) }
     ensures unused { IsErrOf result (Damaged Bitmap) → IfShown K.View lot.now keep.old disk.old (λ old.
@@ -201,9 +221,7 @@ fn give_rest<D: Disk, K: Keep<D>, P: Pool<D, K>>(
         → is_data lot.now inode.now.single ≡ true }
     ensures misled { IsErrOf result (Damaged Pointer) → IfShown K.View lot.now keep.old disk.old (λ old.
         Misleads lot.now old inode.now count) }
-    ensures placed { IfShown K.View lot.now keep.old disk.old (λ old.
-        OnOk result ((b : ℕ) → has (cut_off old inode.now count rest) b ≡ true
-        → is_data lot.now b ≡ true)) }
+    // Which refusals there are, and when a fault of the disk comes.
     ensures faults { IfErr result IsCutFault }
     ensures failed { Caused D.state FaultDisk result disk.old disk.new }
 {
@@ -228,21 +246,30 @@ pub fn cut<D: Disk, K: Keep<D>, P: Pool<D, K>, F: Form>(
     count: u32,
     rest: u32,
 ) -> Result<(), OpFault>
+    // The lot lies on the disk, the keep can hold what is put, and the blocks are of one map.
     requires sited { is_sited lot.now (D.state disk.old).size ≡ true }
     requires order { rest ≤ count }
     requires short { count ≤ longest }
     requires room { cut_room count rest ≤ K.room keep.old }
+    // The map was cut, and what was given back are data places.
     ensures cut { AsShown K.View lot.now keep.old disk.old keep.new disk.new (λ old new.
         OnOk result (Cut lot.now old new inode.old inode.new count rest)) }
+    ensures placed { IfShown K.View lot.now keep.old disk.old (λ old.
+        OnOk result ((b : ℕ) → has (cut_off old inode.old count rest) b ≡ true
+        → is_data lot.now b ≡ true)) }
+    // What the inode in hand became.
     ensures fields { OnOk result (inode.new ≡ shortened inode.old rest) }
     ensures kept { OnErr result (inode.new ≡ inode.old) }
+    // Which blocks it put, and what the keep and the disk spent.
     ensures puts { IfShown K.View lot.now keep.old disk.old (λ old.
         Puts K.View lot.now (is_ok result) (given_puts (cut_off old inode.old count rest)) keep.old disk.old keep.new disk.new) }
     ensures bitmaps { Puts K.View lot.now (is_ok result) (sub_address ∷ bitmaps (length lot.now.groups)) keep.old disk.old keep.new disk.new }
+    ensures spent { Spent D.Disk K.View lot.now (cut_room count rest) keep.old disk.old keep.new disk.new }
+    // What stays as it was: each inode, each data block that is marked used, and each map.
     ensures stays { Stays lot.now (K.map keep.old disk.old lot.now) (K.map keep.new disk.new lot.now) [] }
     ensures others { (other : Inode) (n : ℕ) → Owns lot.now (K.map keep.old disk.old lot.now) other n
         → MapStays (K.map keep.old disk.old lot.now) (K.map keep.new disk.new lot.now) other n }
-    ensures spent { Spent D.Disk K.View lot.now (cut_room count rest) keep.old disk.old keep.new disk.new }
+    // Damage that it names is there.
     ensures zero { IsErrOf result (Damaged Counts) → IfShown K.View lot.now keep.old disk.old (λ old.
         counted false old < length (cut_off old inode.old count rest)) }
     ensures unused { IsErrOf result (Damaged Bitmap) → IfShown K.View lot.now keep.old disk.old (λ old.
@@ -251,9 +278,7 @@ pub fn cut<D: Disk, K: Keep<D>, P: Pool<D, K>, F: Form>(
         → is_data lot.now inode.old.single ≡ true }
     ensures misled { IsErrOf result (Damaged Pointer) → IfShown K.View lot.now keep.old disk.old (λ old.
         Misleads lot.now old inode.old count) }
-    ensures placed { IfShown K.View lot.now keep.old disk.old (λ old.
-        OnOk result ((b : ℕ) → has (cut_off old inode.old count rest) b ≡ true
-        → is_data lot.now b ≡ true)) }
+    // Which refusals there are, and when a fault of the disk comes.
     ensures faults { IfErr result IsCutFault }
     ensures failed { Caused D.state FaultDisk result disk.old disk.new }
 {

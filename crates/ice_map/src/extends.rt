@@ -26,51 +26,6 @@ fn set_direct(direct: &mut [u32; 12], k: u32, value: u32)
     direct[k as usize] = value;
 }
 
-#[tactic(auto, using(ice_base::proofs::SpareLaws::room_laws, crate::proofs::MarkLaws::none_free, crate::proofs::GrowLaws::needs_laws))]
-fn extend_direct<D: Disk, K: Keep<D>, P: Pool<D, K>>(
-    keep: &mut K,
-    pool: &mut P,
-    disk: &mut D,
-    lot: &Lot,
-    inode: &mut Inode,
-    count: u32,
-) -> Result<u32, OpFault>
-    requires sited { is_sited lot.now (D.state disk.old).size ≡ true }
-    requires room { 6 ≤ K.room keep.old }
-    requires short { count < 12 }
-    ensures grown { AsShown K.View lot.now keep.old disk.old keep.new disk.new (λ old new.
-        IfOk result (Grown lot.now old new inode.old inode.new count)) }
-    ensures data { IfOk result (λ a. is_data lot.now a ≡ true) }
-    ensures single { OnOk result (12 ≤ count → is_data lot.now inode.new.single ≡ true) }
-    ensures fields { IfOk result (λ a. inode.new ≡ widened inode.old count a inode.new.single) }
-    ensures kept { OnErr result (inode.new ≡ inode.old) }
-    ensures puts { IfOk result (λ a. Puts K.View lot.now true (growth_puts count a inode.new.single) keep.old disk.old keep.new disk.new) }
-    ensures broken { OnErr result (GrowthFailed K.View lot.now inode.old count keep.old disk.old keep.new disk.new) }
-    ensures stays { AsShown K.View lot.now keep.old disk.old keep.new disk.new (λ old new.
-        Stays lot.now old new (indirect_of inode.old count)) }
-    ensures spent { Spent D.Disk K.View lot.now 6 keep.old disk.old keep.new disk.new }
-    ensures exact { IfShown K.View lot.now keep.old disk.old (λ old.
-        free_count false lot.now old < needs count → IfErr result IsShortFault) }
-    ensures none { IsErrOf result NoSpace → IfShown K.View lot.now keep.old disk.old (λ old.
-        free_count false lot.now old < needs count) }
-    ensures full { IsErrOf result (Damaged Counts) → IfShown K.View lot.now keep.old disk.old (λ old.
-        2 ^ 32 ≤ counted false old + needs count) }
-    ensures unreserved { IsErrOf result (Damaged Bitmap)
-        → IfShown K.View lot.now keep.old disk.old (λ old. ¬ Reserved lot.now old) }
-    ensures pointer { IsErrOf result (Damaged Pointer) → (12 < count)
-        × (is_data lot.now inode.old.single ≡ false) }
-    ensures looked { IsErrOf result NoSpace
-        → Looked D.Disk K.View lot.now keep.old disk.old keep.new disk.new }
-    ensures unmoved { IsErrOf result (Damaged Pointer)
-        → Looked D.Disk K.View lot.now keep.old disk.old keep.new disk.new }
-    ensures faults { IfErr result IsGrowFault }
-    ensures failed { Caused D.state FaultDisk result disk.old disk.new }
-{
-    let taken = pool.take_block(keep, disk, lot)?;
-    set_direct(&mut inode.direct, count, taken);
-    Ok(taken)
-}
-
 /// Takes a block where one is counted free. Damaged: as for a take of the pool, or none is marked free after all.
 #[tactic(auto, using(ice_base::proofs::SpareLaws::room_laws, crate::proofs::MarkLaws::none_free))]
 fn take_counted<D: Disk, K: Keep<D>, P: Pool<D, K>>(
@@ -139,113 +94,11 @@ fn take_two<D: Disk, K: Keep<D>, P: Pool<D, K>>(
     Ok((first, second))
 }
 
-/// The first block past the direct ones: it comes with an indirect block, whose other pointers are zeros.
-#[tactic(auto, using(ice_base::proofs::SpareLaws::room_laws, ice_base::proofs::UsedLaws::group_laws, ice_base::proofs::LotLaws::address_laws, crate::proofs::MarkLaws::none_free, crate::proofs::GrowLaws::needs_laws))]
-fn extend_first<D: Disk, K: Keep<D>, P: Pool<D, K>>(
-    keep: &mut K,
-    pool: &mut P,
-    disk: &mut D,
-    lot: &Lot,
-    inode: &mut Inode,
-    count: u32,
-) -> Result<u32, OpFault>
-    requires sited { is_sited lot.now (D.state disk.old).size ≡ true }
-    requires room { 6 ≤ K.room keep.old }
-    requires twelve { count ≡ 12 }
-    ensures grown { AsShown K.View lot.now keep.old disk.old keep.new disk.new (λ old new.
-        IfOk result (Grown lot.now old new inode.old inode.new count)) }
-    ensures data { IfOk result (λ a. is_data lot.now a ≡ true) }
-    ensures single { OnOk result (12 ≤ count → is_data lot.now inode.new.single ≡ true) }
-    ensures fields { IfOk result (λ a. inode.new ≡ widened inode.old count a inode.new.single) }
-    ensures kept { OnErr result (inode.new ≡ inode.old) }
-    ensures puts { IfOk result (λ a. Puts K.View lot.now true (growth_puts count a inode.new.single) keep.old disk.old keep.new disk.new) }
-    ensures broken { OnErr result (GrowthFailed K.View lot.now inode.old count keep.old disk.old keep.new disk.new) }
-    ensures stays { AsShown K.View lot.now keep.old disk.old keep.new disk.new (λ old new.
-        Stays lot.now old new (indirect_of inode.old count)) }
-    ensures spent { Spent D.Disk K.View lot.now 6 keep.old disk.old keep.new disk.new }
-    ensures exact { IfShown K.View lot.now keep.old disk.old (λ old.
-        free_count false lot.now old < needs count → IfErr result IsShortFault) }
-    ensures none { IsErrOf result NoSpace → IfShown K.View lot.now keep.old disk.old (λ old.
-        free_count false lot.now old < needs count) }
-    ensures full { IsErrOf result (Damaged Counts) → IfShown K.View lot.now keep.old disk.old (λ old.
-        2 ^ 32 ≤ counted false old + needs count) }
-    ensures unreserved { IsErrOf result (Damaged Bitmap)
-        → IfShown K.View lot.now keep.old disk.old (λ old. ¬ Reserved lot.now old) }
-    ensures pointer { IsErrOf result (Damaged Pointer) → (12 < count)
-        × (is_data lot.now inode.old.single ≡ false) }
-    ensures looked { IsErrOf result NoSpace
-        → Looked D.Disk K.View lot.now keep.old disk.old keep.new disk.new }
-    ensures unmoved { IsErrOf result (Damaged Pointer)
-        → Looked D.Disk K.View lot.now keep.old disk.old keep.new disk.new }
-    ensures faults { IfErr result IsGrowFault }
-    ensures failed { Caused D.state FaultDisk result disk.old disk.new }
-{
-    if pool.free_blocks(keep, disk, lot)? < 2 {
-        return Err(OpFault::NoSpace);
-    }
-    let (taken, single) = take_two(keep, pool, disk, lot)?;
-    let mut block = [0; 1024];
-    write_u32(&mut block, 0, taken);
-    store(keep, disk, lot, single, &block)?;
-    inode.single = single;
-    Ok(taken)
-}
-
-/// A block past the first that the indirect block names.
-#[tactic(auto, using(ice_base::proofs::SpareLaws::room_laws, ice_base::proofs::UsedLaws::group_laws, ice_base::proofs::LotLaws::address_laws, crate::proofs::MarkLaws::none_free, crate::proofs::GrowLaws::needs_laws))]
-fn extend_single<D: Disk, K: Keep<D>, P: Pool<D, K>>(
-    keep: &mut K,
-    pool: &mut P,
-    disk: &mut D,
-    lot: &Lot,
-    inode: &mut Inode,
-    count: u32,
-) -> Result<u32, OpFault>
-    requires sited { is_sited lot.now (D.state disk.old).size ≡ true }
-    requires room { 6 ≤ K.room keep.old }
-    requires long { 12 < count }
-    requires short { count < longest }
-    ensures grown { AsShown K.View lot.now keep.old disk.old keep.new disk.new (λ old new.
-        IfOk result (Grown lot.now old new inode.old inode.new count)) }
-    ensures data { IfOk result (λ a. is_data lot.now a ≡ true) }
-    ensures single { OnOk result (12 ≤ count → is_data lot.now inode.new.single ≡ true) }
-    ensures fields { IfOk result (λ a. inode.new ≡ widened inode.old count a inode.new.single) }
-    ensures kept { OnErr result (inode.new ≡ inode.old) }
-    ensures puts { IfOk result (λ a. Puts K.View lot.now true (growth_puts count a inode.new.single) keep.old disk.old keep.new disk.new) }
-    ensures broken { OnErr result (GrowthFailed K.View lot.now inode.old count keep.old disk.old keep.new disk.new) }
-    ensures stays { AsShown K.View lot.now keep.old disk.old keep.new disk.new (λ old new.
-        Stays lot.now old new (indirect_of inode.old count)) }
-    ensures spent { Spent D.Disk K.View lot.now 6 keep.old disk.old keep.new disk.new }
-    ensures exact { IfShown K.View lot.now keep.old disk.old (λ old.
-        free_count false lot.now old < needs count → IfErr result IsShortFault) }
-    ensures none { IsErrOf result NoSpace → IfShown K.View lot.now keep.old disk.old (λ old.
-        free_count false lot.now old < needs count) }
-    ensures full { IsErrOf result (Damaged Counts) → IfShown K.View lot.now keep.old disk.old (λ old.
-        2 ^ 32 ≤ counted false old + needs count) }
-    ensures unreserved { IsErrOf result (Damaged Bitmap)
-        → IfShown K.View lot.now keep.old disk.old (λ old. ¬ Reserved lot.now old) }
-    ensures pointer { IsErrOf result (Damaged Pointer) → (12 < count)
-        × (is_data lot.now inode.old.single ≡ false) }
-    ensures looked { IsErrOf result NoSpace
-        → Looked D.Disk K.View lot.now keep.old disk.old keep.new disk.new }
-    ensures unmoved { IsErrOf result (Damaged Pointer)
-        → Looked D.Disk K.View lot.now keep.old disk.old keep.new disk.new }
-    ensures faults { IfErr result IsGrowFault }
-    ensures failed { Caused D.state FaultDisk result disk.old disk.new }
-{
-    let single = checked(lot, inode.single)?;
-    let mut block = [0; 1024];
-    fetch(keep, disk, lot, single, &mut block)?;
-    let taken = pool.take_block(keep, disk, lot)?;
-    write_u32(&mut block, 4 * (count - 12) as usize, taken);
-    store(keep, disk, lot, single, &block)?;
-    Ok(taken)
-}
-
 /// Gives a map of `count` blocks one more, which is answered: the least free block, and with the first block past the direct ones
 /// the least free block after that as the indirect block. The inode is the caller's to put.
 /// NoSpace, exactly: fewer blocks are free than that takes, and the pointer to the indirect block is none that is damaged.
 /// Damaged: the count of used blocks can't grow so far, or the least free block is no data place, or the indirect block is none.
+#[tactic(auto, using(ice_base::proofs::SpareLaws::room_laws, ice_base::proofs::UsedLaws::group_laws, ice_base::proofs::LotLaws::address_laws, crate::proofs::MarkLaws::none_free, crate::proofs::GrowLaws::needs_laws))]
 pub fn extend<D: Disk, K: Keep<D>, P: Pool<D, K>, F: Form>(
     keep: &mut K,
     pool: &mut P,
@@ -254,44 +107,68 @@ pub fn extend<D: Disk, K: Keep<D>, P: Pool<D, K>, F: Form>(
     inode: &mut Inode,
     count: u32,
 ) -> Result<u32, OpFault>
+    // The lot lies on the disk, the keep can hold what a growth puts, and the map can grow.
     requires sited { is_sited lot.now (D.state disk.old).size ≡ true }
     requires room { 6 ≤ K.room keep.old }
     requires short { count < longest }
+    // The map has one block more, the one that it answers; what it took are data places.
     ensures grown { AsShown K.View lot.now keep.old disk.old keep.new disk.new (λ old new.
         IfOk result (Grown lot.now old new inode.old inode.new count)) }
     ensures data { IfOk result (λ a. is_data lot.now a ≡ true) }
     ensures single { OnOk result (12 ≤ count → is_data lot.now inode.new.single ≡ true) }
+    // What the inode in hand became.
     ensures fields { IfOk result (λ a. inode.new ≡ widened inode.old count a inode.new.single) }
     ensures kept { OnErr result (inode.new ≡ inode.old) }
+    // Which blocks it put, where it grew and where it failed.
     ensures puts { IfOk result (λ a. Puts K.View lot.now true (growth_puts count a inode.new.single) keep.old disk.old keep.new disk.new) }
     ensures broken { OnErr result (GrowthFailed K.View lot.now inode.old count keep.old disk.old keep.new disk.new) }
+    // What stays as it was: each inode, the data blocks and the other maps; and what the keep and the disk spent.
     ensures stays { AsShown K.View lot.now keep.old disk.old keep.new disk.new (λ old new.
         Stays lot.now old new (indirect_of inode.old count)) }
     ensures others { AsShown K.View lot.now keep.old disk.old keep.new disk.new (λ old new.
         OthersStay lot.now old new inode.old count) }
     ensures spent { Spent D.Disk K.View lot.now 6 keep.old disk.old keep.new disk.new }
+    // It has no space exactly where too few blocks are free.
     ensures exact { IfShown K.View lot.now keep.old disk.old (λ old.
         free_count false lot.now old < needs count → IfErr result IsShortFault) }
     ensures none { IsErrOf result NoSpace → IfShown K.View lot.now keep.old disk.old (λ old.
         free_count false lot.now old < needs count) }
+    // Damage that it names is there.
     ensures full { IsErrOf result (Damaged Counts) → IfShown K.View lot.now keep.old disk.old (λ old.
         2 ^ 32 ≤ counted false old + needs count) }
     ensures unreserved { IsErrOf result (Damaged Bitmap)
         → IfShown K.View lot.now keep.old disk.old (λ old. ¬ Reserved lot.now old) }
     ensures pointer { IsErrOf result (Damaged Pointer) → (12 < count)
         × (is_data lot.now inode.old.single ≡ false) }
+    // Where it has no space or no indirect block, it only looked.
     ensures looked { IsErrOf result NoSpace
         → Looked D.Disk K.View lot.now keep.old disk.old keep.new disk.new }
     ensures unmoved { IsErrOf result (Damaged Pointer)
         → Looked D.Disk K.View lot.now keep.old disk.old keep.new disk.new }
+    // Which refusals there are, and when a fault of the disk comes.
     ensures faults { IfErr result IsGrowFault }
     ensures failed { Caused D.state FaultDisk result disk.old disk.new }
 {
     if count < 12 {
-        return extend_direct(keep, pool, disk, lot, inode, count);
+        let taken = pool.take_block(keep, disk, lot)?;
+        set_direct(&mut inode.direct, count, taken);
+        return Ok(taken);
     }
+    let mut block = [0; 1024];
     if count == 12 {
-        return extend_first(keep, pool, disk, lot, inode, count);
+        if pool.free_blocks(keep, disk, lot)? < 2 {
+            return Err(OpFault::NoSpace);
+        }
+        let (first, indirect) = take_two(keep, pool, disk, lot)?;
+        write_u32(&mut block, 0, first);
+        store(keep, disk, lot, indirect, &block)?;
+        inode.single = indirect;
+        return Ok(first);
     }
-    extend_single(keep, pool, disk, lot, inode, count)
+    let single = checked(lot, inode.single)?;
+    fetch(keep, disk, lot, single, &mut block)?;
+    let next = pool.take_block(keep, disk, lot)?;
+    write_u32(&mut block, 4 * (count - 12) as usize, next);
+    store(keep, disk, lot, single, &block)?;
+    Ok(next)
 }

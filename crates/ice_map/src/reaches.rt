@@ -29,28 +29,29 @@ pub fn reach<D: Disk, K: Keep<D>, P: Pool<D, K>, F: Form>(
     count: u32,
     k: u32,
 ) -> Result<u32, OpFault>
+    // The lot lies on the disk, the keep can hold what a growth puts, and the block is one of the map or the next.
     requires sited { is_sited lot.now (D.state disk.old).size ≡ true }
     requires room { 6 ≤ K.room keep.old }
     requires order { k ≤ count }
     requires short { k < longest }
-    // the block, at a data place: that of the map, or a new one
+    // The block, at a data place: that of the map, or a new one.
     ensures reached { AsShown K.View lot.now keep.old disk.old keep.new disk.new (λ old new.
         MadeOf lot.now old inode.old count
         → IfOk result (HadBlock lot.now old new inode.old inode.new count k)) }
     ensures data { IfOk result (λ a. is_data lot.now a ≡ true) }
     ensures had { AsShown K.View lot.now keep.old disk.old keep.new disk.new (λ old new.
         k < count → IfOk result (λ a. (a ≡ nth_block old inode.old k) × (new ≡ old))) }
-    // the inode and its map
+    // What the inode and its map became, and that each inode on the disk stays.
     ensures kind { OnOk result (inode.new.kind ≡ inode.old.kind) }
     ensures size { OnOk result (inode.new.size ≡ inode.old.size) }
     ensures grew { AsShown K.View lot.now keep.old disk.old keep.new disk.new (λ old new.
         OnOk result (Grew lot.now old new inode.old inode.new count (max count (k + 1)))) }
     ensures stays { AsShown K.View lot.now keep.old disk.old keep.new disk.new (λ old new. InodesStay old new) }
-    // what it takes of the keep
+    // What it takes of the keep and of the disk.
     ensures pays { OnOk result (K.room keep.old + due (K.held keep.new) inode.new.single (max count (k + 1))
         ≤ K.room keep.new + due (K.held keep.old) inode.old.single count + 1) }
     ensures spent { Spent D.Disk K.View lot.now 6 keep.old disk.old keep.new disk.new }
-    // when each fault may come
+    // When each refusal may come; damage that it names is there.
     ensures none { IsErrOf result NoSpace → IfShown K.View lot.now keep.old disk.old (λ old.
         (k ≡ count) × (free_count false lot.now old < needs count)) }
     ensures full { IsErrOf result (Damaged Counts) → IfShown K.View lot.now keep.old disk.old (λ old.
@@ -59,10 +60,12 @@ pub fn reach<D: Disk, K: Keep<D>, P: Pool<D, K>, F: Form>(
         → IfShown K.View lot.now keep.old disk.old (λ old. ¬ Reserved lot.now old) }
     ensures strays { IsErrOf result (Damaged Pointer) → IfShown K.View lot.now keep.old disk.old (λ old.
         Strays lot.now old inode.old count k) }
+    // Where it has no space or strays, it only looked.
     ensures looked { IsErrOf result NoSpace
         → Looked D.Disk K.View lot.now keep.old disk.old keep.new disk.new }
     ensures unmoved { IsErrOf result (Damaged Pointer)
         → Looked D.Disk K.View lot.now keep.old disk.old keep.new disk.new }
+    // Which refusals there are, and when a fault of the disk comes.
     ensures faults { IfErr result IsGrowFault }
     ensures failed { Caused D.state FaultDisk result disk.old disk.new }
 {
