@@ -6,5 +6,5 @@ mod read;
 #[cfg(test)]
 mod tests;
 
-pub use prefix::is_prefix;
+pub use prefix::{begins, is_prefix};
 pub use read::{PathFault, read_path};
