@@ -9,7 +9,6 @@ use Rattle.tree_spec.specs.Why as why
 use Rattle.tree_spec.specs.Trees.{Tree, File, Dir, Walk, Found, NotFound, NotDir, walk, parent, parent_walk, last_name, rows, height, at}
 use Rattle.tree_spec.specs.Costs.{Form, form_one, nodes}
 use Rattle.tree_spec.specs.Operations.{Rename, Operation}
-use Rattle.tree_spec.specs.Routes.{is_prefix, is_same_name}
 use Rattle.tree_spec.specs.Answers.{refusal, answer, answer_by, next_tree, deepest, is_found, is_not_found, is_not_dir, is_root, is_taken, tree_found, moves_into_itself}
 use Rattle.tree_spec.proofs.Sums.{total-at}
 use Rattle.ice_reads.specs.Tables.{Map, Table}
