@@ -1,3 +1,3 @@
 mod Texts
 mod Faults
-pub mod Prefixes
+mod Prefixes

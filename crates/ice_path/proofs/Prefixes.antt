@@ -1,14 +1,14 @@
 -- Paths compared name by name.
-use Rattle.std.proofs.Common.{◌≡◌, ℕ, zero, suc, ◌+◌, ◌<◌, ◌≤◌, Bool, true, false, T, List, [], ◌∷◌, length, drop, get_or, sym, refl, ap, ◌∙◌, subst, arith, drop-cons}
+use Rattle.std.proofs.Common.{◌≡◌, ℕ, zero, suc, ◌+◌, ◌-◌, ◌<◌, ◌≤◌, Bool, true, false, T, List, [], ◌∷◌, length, drop, get_or, sym, refl, ap, ◌∙◌, subst, arith, drop-cons}
 use Rattle.std.specs.Prelude.{◌&&◌}
-use Rattle.std.proofs.Math.Seq.{drop-length}
+use Rattle.std.proofs.lemmas.List.{get_or-drop, length-drop}
 use Rattle.tree_spec.specs.Routes.{is_prefix, is_same_name}
 
 abbrev Names : Type 0
 Names = List (List ℕ)
 
 -- a path is no prefix of a shorter one
-pub longer : (p q : Names) → length q < length p → false ≡ is_prefix p q
+longer : (p q : Names) → length q < length p → false ≡ is_prefix p q
 longer [] q h = absurd (omega arith)
 longer (c ∷ p) [] h = refl
 longer (c ∷ p) (d ∷ q) h = both (is_same_name c d) (is_prefix p q) (longer p q (omega arith))
@@ -28,15 +28,37 @@ cut : (p q : Names) (i : ℕ) → i < length p → i < length q
 cut p q i h k = ap (λ x. is_prefix x (drop i q)) (at_place p i h) ∙ ap (λ x. is_prefix (get_or p i [] ∷ drop (i + 1) p) x) (at_place q i k)
 
 -- one name on
-pub step : (p q : Names) (i : ℕ) → i < length p → i < length q → is_same_name (get_or p i []) (get_or q i []) ≡ true
+step : (p q : Names) (i : ℕ) → i < length p → i < length q → is_same_name (get_or p i []) (get_or q i []) ≡ true
     → is_prefix (drop i p) (drop i q) ≡ is_prefix p q → is_prefix (drop (i + 1) p) (drop (i + 1) q) ≡ is_prefix p q
 step p q i h k same is = sym (cut p q i h k ∙ ap (λ b. b && is_prefix (drop (i + 1) p) (drop (i + 1) q)) same) ∙ is
 
 -- a name that differs
-pub differs : (p q : Names) (i : ℕ) → i < length p → i < length q → is_same_name (get_or p i []) (get_or q i []) ≡ false
+differs : (p q : Names) (i : ℕ) → i < length p → i < length q → is_same_name (get_or p i []) (get_or q i []) ≡ false
     → is_prefix (drop i p) (drop i q) ≡ is_prefix p q → false ≡ is_prefix p q
 differs p q i h k other is = sym (sym is ∙ cut p q i h k ∙ ap (λ b. b && is_prefix (drop (i + 1) p) (drop (i + 1) q)) other)
 
--- each name is the same
-pub end : (p q : Names) (i : ℕ) → i ≡ length p → is_prefix (drop i p) (drop i q) ≡ is_prefix p q → true ≡ is_prefix p q
-end p q i h is = ap (λ x. is_prefix x (drop i q)) (sym (ap (λ k. drop k p) h ∙ drop-length p)) ∙ is
+-- the names from `depth` on begin those of the other path, as far as those from i on do
+abbrev pub BeginsFrom : Names → Names → ℕ → ℕ → Type 0
+BeginsFrom p q depth i = is_prefix (drop (i - depth) (drop depth p)) (drop (i - depth) (drop depth q)) ≡ is_prefix (drop depth p) (drop depth q)
+
+module _ (p q : Names) (depth : ℕ) where
+  pub begins-longer : depth ≤ length q → length q < length p → false ≡ is_prefix (drop depth p) (drop depth q)
+  begins-longer h l = longer (drop depth p) (drop depth q) (omega (arith, length-drop depth p, length-drop depth q))
+
+  module _ (i : ℕ) (from : depth ≤ i) (in_p : i < length p) (in_q : i < length q) where
+    here : (x : Names) → get_or (drop depth x) (i - depth) [] ≡ get_or x i []
+    here x = let at : depth + (i - depth) ≡ i = omega arith in get_or-drop depth x (i - depth) [] ∙ ap (λ n. get_or x n []) at
+
+    same-here : (b : Bool) → is_same_name (get_or p i []) (get_or q i []) ≡ b
+        → is_same_name (get_or (drop depth p) (i - depth) []) (get_or (drop depth q) (i - depth) []) ≡ b
+    same-here b e = (λ z. is_same_name (here p z) (here q z)) ∙ e
+
+    pub begins-step : is_same_name (get_or p i []) (get_or q i []) ≡ true → BeginsFrom p q depth i → BeginsFrom p q depth (i + 1)
+    begins-step e is =
+        let one : i + 1 - depth ≡ (i - depth) + 1 = omega arith in
+        ap (λ n. is_prefix (drop n (drop depth p)) (drop n (drop depth q))) one
+        ∙ step (drop depth p) (drop depth q) (i - depth) (omega (arith, length-drop depth p)) (omega (arith, length-drop depth q)) (same-here true e) is
+
+    pub begins-differs : is_same_name (get_or p i []) (get_or q i []) ≡ false → BeginsFrom p q depth i → false ≡ is_prefix (drop depth p) (drop depth q)
+    begins-differs e is =
+        differs (drop depth p) (drop depth q) (i - depth) (omega (arith, length-drop depth p)) (omega (arith, length-drop depth q)) (same-here false e) is

@@ -1,17 +1,14 @@
--- The stages of a rename, and names that begin a path.
+-- The stages of a rename.
 use Rattle.std.proofs.Common.{◌≡◌, ◌≢◌, ◌≤◌, ◌<◌, ◌+◌, ◌-◌, ◌*◌, ℕ, Bool, true, false, List, [], ◌∷◌, ◌++◌, length, drop, take, get_or, Option, Some, None, Result, Ok, Err, MatchResult, sym, refl, subst, ap, ◌∙◌, arith, nat_lt}
 use Rattle.std.specs.Prelude.{◌&&◌, ◌||◌, not, if◌then◌else◌}
 use Rattle.std.specs.List.{list_any}
 use Rattle.std.proofs.lemmas.Bool.Decides.{nat_tests}
-use Rattle.std.proofs.lemmas.List.{get_or-drop, length-drop}
-use Rattle.ice_path.proofs.Prefixes.{longer, step, differs}
 use Rattle.ice_base.specs.Lots.{LotView}
 use Rattle.tree_spec.specs.Why.{Why}
 use Rattle.tree_spec.specs.Why as why
 use Rattle.tree_spec.specs.Trees.{Tree, File, Dir, Walk, Found, NotFound, NotDir, walk, parent, parent_walk, last_name, rows, height, at}
 use Rattle.tree_spec.specs.Costs.{Form, form_one, nodes}
 use Rattle.tree_spec.specs.Operations.{Rename, Operation}
-use Rattle.tree_spec.specs.Routes.{is_prefix, is_same_name}
 use Rattle.tree_spec.specs.Answers.{refusal, answer, answer_by, next_tree, deepest, is_found, is_not_found, is_not_dir, is_root, is_taken, tree_found, moves_into_itself}
 use Rattle.tree_spec.proofs.Sums.{total-at}
 use Rattle.ice_reads.specs.Tables.{Map, Table}
@@ -40,34 +37,6 @@ use Rattle.ice_tree.proofs.Chains.{refusal_rename}
 
 abbrev Names : Type 0
 Names = List (List ℕ)
-
--- ---- names that begin a path
-
--- the names from `depth` on begin those of the other path, as far as those from i on do
-abbrev pub BeginsFrom : Names → Names → ℕ → ℕ → Type 0
-BeginsFrom p q depth i = is_prefix (drop (i - depth) (drop depth p)) (drop (i - depth) (drop depth q)) ≡ is_prefix (drop depth p) (drop depth q)
-
-module _ (p q : Names) (depth : ℕ) where
-  pub begins-longer : depth ≤ length q → length q < length p → false ≡ is_prefix (drop depth p) (drop depth q)
-  begins-longer h l = longer (drop depth p) (drop depth q) (omega (arith, length-drop depth p, length-drop depth q))
-
-  module _ (i : ℕ) (from : depth ≤ i) (in_p : i < length p) (in_q : i < length q) where
-    here : (x : Names) → get_or (drop depth x) (i - depth) [] ≡ get_or x i []
-    here x = let at : depth + (i - depth) ≡ i = omega arith in get_or-drop depth x (i - depth) [] ∙ ap (λ n. get_or x n []) at
-
-    same-here : (b : Bool) → is_same_name (get_or p i []) (get_or q i []) ≡ b
-        → is_same_name (get_or (drop depth p) (i - depth) []) (get_or (drop depth q) (i - depth) []) ≡ b
-    same-here b e = (λ z. is_same_name (here p z) (here q z)) ∙ e
-
-    pub begins-step : is_same_name (get_or p i []) (get_or q i []) ≡ true → BeginsFrom p q depth i → BeginsFrom p q depth (i + 1)
-    begins-step e is =
-        let one : i + 1 - depth ≡ (i - depth) + 1 = omega arith in
-        ap (λ n. is_prefix (drop n (drop depth p)) (drop n (drop depth q))) one
-        ∙ step (drop depth p) (drop depth q) (i - depth) (omega (arith, length-drop depth p)) (omega (arith, length-drop depth q)) (same-here true e) is
-
-    pub begins-differs : is_same_name (get_or p i []) (get_or q i []) ≡ false → BeginsFrom p q depth i → false ≡ is_prefix (drop depth p) (drop depth q)
-    begins-differs e is =
-        differs (drop depth p) (drop depth q) (i - depth) (omega (arith, length-drop depth p)) (omega (arith, length-drop depth q)) (same-here false e) is
 
 -- ---- one stage after another
 

@@ -8,7 +8,7 @@ ghost use Rattle.ice_base.specs.declared.fault.Rule.{Rule};
 ghost use Rattle.tree_spec.specs.Answers.{answer, refusal, next_tree, is_root, is_found, is_not_found, is_not_dir, deepest};
 ghost use Rattle.tree_spec.specs.Costs.{Form, form_of, map_cost, dir_blocks};
 ghost use Rattle.tree_spec.specs.Operations.{Rename};
-ghost use Rattle.tree_spec.specs.Routes.{is_prefix, is_same_name, is_same_path};
+ghost use Rattle.tree_spec.specs.Routes.{is_prefix, is_same_path};
 ghost use Rattle.tree_spec.specs.Trees.{last_name, Tree, Walk, needs_dir};
 ghost use Rattle.tree_spec.specs.declared.reply.Refusal.TheVariants.{Fault, Damaged};
 ghost use Rattle.ice_reads.specs.Tables.{Map, Table};
@@ -32,6 +32,7 @@ use crate::quota::{Need, check_quota, dir_cost};
 use ice_base::{Disk, Form, Keep, Lot, OpFault, Pool, Rule, View};
 use ice_dir::{add, take};
 use ice_look::{DEEPEST, DirAt, Ends, Place, check_paths, find_ends, is_higher, refusal_of};
+use ice_path::begins;
 use tree_spec::{Name, Path, Refusal};
 
 /// A rename: the directory that loses an entry, the one that gains it, and whether both paths are one, so that nothing moves.
@@ -40,34 +41,6 @@ pub struct Move {
     pub from: DirAt,
     pub to: DirAt,
     pub same: bool,
-}
-
-/// Whether two paths have the same name at a place.
-fn same_name(path: &Path, to: &Path, i: usize) -> bool
-    requires in_path { i < length path.now }
-    requires in_to { i < length to.now }
-    ensures { (d : List ℕ) → result ≡ is_same_name (get_or path.now i d) (get_or to.now i d) }
-{
-    let a = path.name(i);
-    let b = to.name(i);
-    a.bytes() == b.bytes()
-}
-
-/// Whether the names of the first path from `depth` on begin those of the second.
-fn begins(path: &Path, to: &Path, depth: usize) -> bool
-    requires path { depth ≤ length path.now }
-    requires to { depth ≤ length to.now }
-    ensures { result ≡ is_prefix (drop depth path.now) (drop depth to.now) }
-{
-    if path.len() > to.len() {
-        return false;
-    }
-    for i in depth..path.len() {
-        if !same_name(path, to, i) {
-            return false;
-        }
-    }
-    true
 }
 
 /// Whether the names from `depth` on are the same.

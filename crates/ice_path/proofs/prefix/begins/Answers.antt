@@ -1,6 +1,6 @@
 use Rattle.std.proofs.Common.{[], sym, ◌∙◌, arith}
-use Rattle.ice_tree.proofs.RenameLaws.{begins-longer, begins-step, begins-differs}
-use Rattle.ice_tree.proofs.renames.begins.Goals as goal
+use Rattle.ice_path.proofs.Prefixes.{begins-longer, begins-step, begins-differs}
+use Rattle.ice_path.proofs.prefix.begins.Goals as goal
 
 pub returns-then-len : goal.returns-then-len
 returns-then-len c = begins-longer c.args.path.now c.args.to.now c.args.depth (omega arith) (omega arith)
