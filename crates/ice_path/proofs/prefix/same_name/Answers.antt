@@ -1,5 +1,4 @@
-use Rattle.std.proofs.Common.{◌≡◌, List, ℕ, get_or, sym, ap, ◌∙◌}
-use Rattle.std.specs.Prelude.{nat_eq}
+use Rattle.std.proofs.Common.{◌≡◌, get_or, ◌∙◌}
 use Rattle.std.specs.Cmp.Lexicographic.{texts_ties}
 use Rattle.tree_spec.specs.Routes.{is_same_name}
 use Rattle.ice_path.proofs.prefix.same_name.Goals as goal

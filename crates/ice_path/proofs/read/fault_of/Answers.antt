@@ -1,9 +1,5 @@
-use Rattle.std.proofs.Common.{◌≡◌, sym, ap, refl, ◌∙◌, true, false, length}
-use Rattle.std.specs.Prelude.{nat_lt, Bool}
-use Rattle.std.specs.List.{list_all}
-use Rattle.tree_spec.specs.Names.{longest_text}
-use Rattle.ice_path.specs.Paths.{is_path_byte}
-use Rattle.ice_path.proofs.Faults.{begins, by_tests, fault_by_tests, one, two, three, four, five, six}
+use Rattle.std.proofs.Common.{sym, refl, ◌∙◌}
+use Rattle.ice_path.proofs.Faults.{begins, fault_by_tests, one, two, three, four, five, six}
 use Rattle.ice_path.proofs.read.fault_of.Goals as goal
 
 pub look-seen-requires : goal.look-seen-requires

@@ -1,4 +1,4 @@
-use Rattle.std.proofs.Common.{◌≡◌, ◌∷◌, length, arith}
+use Rattle.std.proofs.Common.{arith}
 use Rattle.tree_spec.specs.Names.{is_dots, names_of}
 use Rattle.ice_path.specs.Paths.{is_empty_name, is_long_name}
 use Rattle.ice_path.proofs.Texts.{some_left, none_left, has_name, behind_shorter, any_end}

@@ -1,4 +1,4 @@
-use Rattle.std.proofs.Common.{◌≡◌, ◌∷◌, ◌++◌, [], length, true, false, sym, ap, ◌∙◌, T, subst, arith, refl}
+use Rattle.std.proofs.Common.{◌≡◌, ◌∷◌, ◌++◌, [], true, sym, ap, ◌∙◌, T, subst, arith}
 use Rattle.tree_spec.specs.Names.{is_name, names_of}
 use Rattle.ice_path.proofs.Texts.{some_left, none_left, has_name, behind_shorter, names_step, names_end, name_of_text, name_fits, names_pushed}
 use Rattle.ice_path.proofs.read.path_of.Goals as goal
