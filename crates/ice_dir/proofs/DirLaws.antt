@@ -13,9 +13,9 @@ use Rattle.ice_map.specs.declared.codec.Inode.{Inode}
 use Rattle.ice_map.specs.Inodes.{inode_of}
 use Rattle.ice_map.specs.Maps.{nth_block}
 use Rattle.ice_map.specs.Own.{entry_size, Own, map_length, blocks_for}
-use Rattle.ice_map.proofs.OwnLaws.{own-short}
+use Rattle.ice_map.proofs.OwnLaws.{own-short, own-at-short}
 use Rattle.tree_spec.specs.Costs.{Form, form_one}
-use Rattle.ice_dir.specs.Rows.{DirRow, entries_in, per_block, place_of, row_at, row_sized, row_of, dir_rows, dir_rows_of, named, look_up, NoneNamed, FirstNamed}
+use Rattle.ice_dir.specs.Rows.{DirRow, entries_in, per_block, place_of, row_at, row_sized, row_of, dir_rows, rows_at, dir_rows_of, named, look_up, NoneNamed, FirstNamed}
 
 pub map-same : {X : Type 0} (f g : ℕ → X) (a n : ℕ) → ((k : ℕ) → a ≤ k → k < a + n → f k ≡ g k) → map f (range_with_len a n) ≡ map g (range_with_len a n)
 map-same f g a zero h = refl
@@ -54,21 +54,26 @@ mapped m f count k h =
     get_or-map m (map f (range_with_len 0 count)) k 0 [] (omega arith) ∙ ap m (get_or-map-range_with_len f 0 count k k 0 h (omega arith))
 
 -- the rows of a directory are those of its blocks
-pub rows-all : (f : Form) (m : ℕ → List ℕ) (number : ℕ) → f ≡ form_one → (inode_of m number).kind ≡ 2
-    → dir_rows_of f m number ≡ map (row_of f m (inode_of m number)) (range_with_len 0 (inode_of m number).size)
+pub rows-all : (f : Form) (m : ℕ → List ℕ) (inode : Inode) → f ≡ form_one → inode.kind ≡ 2
+    → rows_at f m inode ≡ map (row_of f m inode) (range_with_len 0 inode.size)
 unfolding dir_rows
-rows-all f m number e kind =
-    ap (λ (o : Own). dir_rows f o) (own-short f e m number)
-    ∙ map-same _ (row_of f m (inode_of m number)) 0 (inode_of m number).size (λ k l h.
+rows-all f m inode e kind =
+    ap (λ (o : Own). dir_rows f o) (own-at-short f e m inode)
+    ∙ map-same _ (row_of f m inode) 0 inode.size (λ k l h.
     ap (λ (b : List ℕ). row_at (entry_size f) b (place_of (entry_size f) k))
-    (mapped m (nth_block m (inode_of m number)) (map_length f (inode_of m number)) (k / per_block f)
-    (row-below f (inode_of m number) k e kind (omega arith))))
+    (mapped m (nth_block m inode) (map_length f inode) (k / per_block f)
+    (row-below f inode k e kind (omega arith))))
 
--- so they are where entries have just as many bytes
+-- so they are of an inode in hand where entries have just as many bytes
+pub rows-at-sized : (f : Form) (entry : ℕ) (m : ℕ → List ℕ) (inode : Inode) → f ≡ form_one → entry_size f ≡ entry → inode.kind ≡ 2
+    → rows_at f m inode ≡ map (row_sized entry m inode) (range_with_len 0 inode.size)
+rows-at-sized f entry m inode e same kind =
+    rows-all f m inode e kind ∙ ap (λ n. map (row_sized n m inode) (range_with_len 0 inode.size)) same
+
+-- and so they are of the inode of a number
 pub rows-sized : (f : Form) (entry : ℕ) (m : ℕ → List ℕ) (number : ℕ) → f ≡ form_one → entry_size f ≡ entry → (inode_of m number).kind ≡ 2
     → dir_rows_of f m number ≡ map (row_sized entry m (inode_of m number)) (range_with_len 0 (inode_of m number).size)
-rows-sized f entry m number e same kind =
-    rows-all f m number e kind ∙ ap (λ n. map (row_sized n m (inode_of m number)) (range_with_len 0 (inode_of m number).size)) same
+rows-sized f entry m number e same kind = rows-at-sized f entry m (inode_of m number) e same kind
 
 -- in version 1 a directory has as many rows as the size of its inode says
 pub length-rows : (f : Form) (m : ℕ → List ℕ) (number : ℕ) → f ≡ form_one → length (dir_rows_of f m number) ≡ (inode_of m number).size
@@ -80,24 +85,26 @@ get-mapped f a zero k h = absurd (omega arith)
 get-mapped f a (suc n) zero h = ap (λ x. Some (f x)) (omega arith)
 get-mapped f a (suc n) (suc k) h = get-mapped f (a + 1) n k (omega arith) ∙ ap (λ x. Some (f x)) (omega arith)
 
--- row k
+-- row k of an inode in hand
+get-at : (f : Form) (m : ℕ → List ℕ) (inode : Inode) (k : ℕ) → f ≡ form_one → inode.kind ≡ 2 → k < inode.size
+    → slice_get (rows_at f m inode) k ≡ Some (row_of f m inode k)
+get-at f m inode k e kind h =
+    ap (λ (xs : List DirRow). slice_get xs k) (rows-all f m inode e kind)
+    ∙ get-mapped (row_of f m inode) 0 inode.size k h
+    ∙ ap (λ x. Some (row_of f m inode x)) (omega arith)
+
+-- and of the inode of a number
 pub get-row : (f : Form) (m : ℕ → List ℕ) (number k : ℕ) → f ≡ form_one → (inode_of m number).kind ≡ 2 → k < (inode_of m number).size
     → slice_get (dir_rows_of f m number) k ≡ Some (row_of f m (inode_of m number) k)
-get-row f m number k e kind h =
-    ap (λ (xs : List DirRow). slice_get xs k) (rows-all f m number e kind)
-    ∙ get-mapped (row_of f m (inode_of m number)) 0 (inode_of m number).size k h
-    ∙ ap (λ x. Some (row_of f m (inode_of m number) x)) (omega arith)
+get-row f m number k e kind h = get-at f m (inode_of m number) k e kind h
 
 -- a row that was read
-pub read-row : (f : Form) (entry : ℕ) (m : ℕ → List ℕ) (number k b at : ℕ) (inode : Inode) (block : List ℕ) → f ≡ form_one
-    → entry_size f ≡ entry → inode ≡ inode_of m number → inode.kind ≡ 2 → k < inode.size
-    → b ≡ k / entries_in entry → at ≡ place_of entry k → block ≡ m (nth_block m inode b) → slice_get (dir_rows_of f m number) k ≡ Some (row_at entry block at)
-read-row f entry m number k b at inode block e same is kind h eb ep read =
-    let kind' : (inode_of m number).kind ≡ 2 = ap (λ (i : Inode). i.kind) (sym is) ∙ kind in
-    let small : k < (inode_of m number).size = rw is at h in
-    get-row f m number k e kind' small
-    ∙ ap (λ n. Some (row_sized n m (inode_of m number) k)) same
-    ∙ ap (λ (i : Inode). Some (row_sized entry m i k)) (sym is)
+pub read-row : (f : Form) (entry : ℕ) (m : ℕ → List ℕ) (k b at : ℕ) (inode : Inode) (block : List ℕ) → f ≡ form_one
+    → entry_size f ≡ entry → inode.kind ≡ 2 → k < inode.size
+    → b ≡ k / entries_in entry → at ≡ place_of entry k → block ≡ m (nth_block m inode b) → slice_get (rows_at f m inode) k ≡ Some (row_at entry block at)
+read-row f entry m k b at inode block e same kind h eb ep read =
+    get-at f m inode k e kind h
+    ∙ ap (λ n. Some (row_sized n m inode k)) same
     ∙ ap (λ x. Some (row_at entry (m (nth_block m inode x)) (place_of entry k))) (sym eb)
     ∙ ap (λ (c : List ℕ). Some (row_at entry c (place_of entry k))) (sym read)
     ∙ ap (λ x. Some (row_at entry block x)) (sym ep)

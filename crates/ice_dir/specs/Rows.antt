@@ -8,7 +8,7 @@ use Rattle.ice_base.specs.Lots.{LotView}
 use Rattle.ice_map.specs.declared.codec.Inode.{Inode}
 use Rattle.ice_map.specs.Inodes.{inode_of}
 use Rattle.ice_map.specs.Maps.{nth_block}
-use Rattle.ice_map.specs.Own.{entry_size, Own, own}
+use Rattle.ice_map.specs.Own.{entry_size, Own, own_at}
 use Rattle.tree_spec.specs.Costs.{Form}
 
 -- one entry of a directory: a name, and the inode that it names
@@ -68,9 +68,13 @@ pub record IsText (row : DirRow) (bytes : List ℕ) : Type 0 where
 unfoldable pub dir_rows : Form → Own → List DirRow
 dir_rows f o = map (λ k. row_at (entry_size f) (slice_index_or o.contents (k / per_block f) []) (place_of (entry_size f) k)) (range_with_len 0 o.inode.size)
 
+-- the rows of a directory's inode in hand
+abbrev pub rows_at : Form → (ℕ → List ℕ) → Inode → List DirRow
+rows_at f m inode = dir_rows f (own_at f m inode)
+
 -- the rows of the directory of a number
 abbrev pub dir_rows_of : Form → (ℕ → List ℕ) → ℕ → List DirRow
-dir_rows_of f m number = dir_rows f (own f m number)
+dir_rows_of f m number = rows_at f m (inode_of m number)
 
 -- whether a row has this name
 abbrev pub named : List ℕ → DirRow → Bool

@@ -7,5 +7,5 @@ mod rows;
 mod takes;
 
 pub use adds::add;
-pub use looks::{entry, find, len};
+pub use looks::{entry, entry_in, find, find_in, len};
 pub use takes::take;

@@ -11,7 +11,7 @@ ghost use Rattle.ice_map.specs.Inodes.{inode_of};
 ghost use Rattle.ice_map.specs.Maps.{longest, nth_block, leads};
 ghost use Rattle.tree_spec.specs.Names.{is_name};
 ghost use Rattle.ice_dir.specs.Faults.{IsDirFault, IsFindFault, IsEntryFault};
-ghost use Rattle.ice_dir.specs.Rows.{entries_in, dir_rows_of, row_at, row_sized, look_up, NoneNamed, FirstNamed, IsDirectory, HasEntry, per_block};
+ghost use Rattle.ice_dir.specs.Rows.{entries_in, rows_at, dir_rows_of, row_at, row_sized, look_up, NoneNamed, FirstNamed, IsDirectory, HasEntry, per_block};
 ghost use Rattle.tree_spec.specs.Costs.{form_of};
 
 use crate::rows::{read_name, read_number, row_place, rows_per_block};
@@ -95,9 +95,62 @@ pub fn len<D: Disk, V: View<D>, F: Form>(
     Ok(dir_inode::<D, V, F>(view, disk, lot, number)?.size)
 }
 
+/// Entry `k` of a directory whose inode is in hand: its name goes into `into`, and its inode is answered.
+/// Damaged: there is no such entry, a pointer to the entry's block is no data place, or the entry's name is none of the form.
+#[tactic(auto, using(ice_base::proofs::LotLaws::sited_laws, crate::proofs::SizeLaws::size_laws))]
+pub fn entry_in<D: Disk, V: View<D>, F: Form>(
+    view: &mut V,
+    disk: &mut D,
+    lot: &Lot,
+    inode: &Inode,
+    k: u32,
+    into: &mut Name,
+) -> Result<u32, OpFault>
+    // The lot lies on the disk, and the inode is a directory's.
+    requires sited { is_sited lot.now (D.state disk.old).size ≡ true }
+    requires is { IsDirectory lot.now inode.now }
+    // What it answers.
+    ensures row { IfShown V.View lot.now view.old disk.old (λ old.
+        IfOk result (λ next. slice_get (rows_at (form_of F.VERSION) old inode.now) k ≡ Some (into.new, next))) }
+    ensures fits { OnOk result (length into.new ≤ F.NAME) }
+    ensures has { OnOk result (HasEntry lot.now k inode.now) }
+    // Damage that it names is there.
+    ensures kind { IsErrOf result (Damaged Kind) → ¬ HasEntry lot.now k inode.now }
+    ensures pointer { IsErrOf result (Damaged Pointer) → IfShown V.View lot.now view.old disk.old (λ old.
+        leads lot.now old inode.now (k / per_block (form_of F.VERSION)) ≡ false) }
+    ensures name { IsErrOf result (Damaged BadName) → IfShown V.View lot.now view.old disk.old (λ old.
+        IfSome (slice_get (rows_at (form_of F.VERSION) old inode.now) k) (λ row. is_name row.0 ≡ false)) }
+    // What stays as it was.
+    ensures kept { OnErr result (into.new ≡ into.old) }
+    ensures looked { Looked D.Disk V.View lot.now view.old disk.old view.new disk.new }
+    // Which refusals there are, and when a fault comes.
+    ensures faults { IfErr result IsEntryFault }
+    ensures failed { Caused D.state FaultDisk result disk.old disk.new }
+{
+    if k >= inode.size {
+        return Err(OpFault::Damaged(Rule::Kind));
+    }
+    let mut block = [0; 1024];
+    read_block::<D, V, F>(
+        view,
+        disk,
+        lot,
+        inode,
+        k / rows_per_block::<F>(),
+        &mut block,
+    )?;
+    let at = row_place::<F>(k);
+    match Name::new(read_name::<F>(&block, at)) {
+        None => Err(OpFault::Damaged(Rule::Name)),
+        Some(name) => {
+            *into = name;
+            Ok(read_number::<F>(&block, at))
+        }
+    }
+}
+
 /// Entry `k`: its name goes into `into`, and its inode is answered.
 /// Damaged: the inode is no directory with such an entry, a pointer to the entry's block is no data place, or the entry's name is none of the form.
-#[tactic(auto, using(ice_base::proofs::LotLaws::sited_laws, crate::proofs::SizeLaws::size_laws))]
 pub fn entry<D: Disk, V: View<D>, F: Form>(
     view: &mut V,
     disk: &mut D,
@@ -125,26 +178,7 @@ pub fn entry<D: Disk, V: View<D>, F: Form>(
     ensures failed { Caused D.state FaultDisk result disk.old disk.new }
 {
     let inode = dir_inode::<D, V, F>(view, disk, lot, number)?;
-    if k >= inode.size {
-        return Err(OpFault::Damaged(Rule::Kind));
-    }
-    let mut block = [0; 1024];
-    read_block::<D, V, F>(
-        view,
-        disk,
-        lot,
-        &inode,
-        k / rows_per_block::<F>(),
-        &mut block,
-    )?;
-    let at = row_place::<F>(k);
-    match Name::new(read_name::<F>(&block, at)) {
-        None => Err(OpFault::Damaged(Rule::Name)),
-        Some(name) => {
-            *into = name;
-            Ok(read_number::<F>(&block, at))
-        }
-    }
+    entry_in::<D, V, F>(view, disk, lot, &inode, k, into)
 }
 
 /// The first of the first `count` entries of a block that has this name.
@@ -225,9 +259,40 @@ pub fn seek<D: Disk, V: View<D>, F: Form>(
     Ok(None)
 }
 
+/// The inode that a directory whose inode is in hand names so, None exactly where no entry has the name.
+/// Damaged: a pointer to one of its blocks is no data place.
+#[tactic(auto, using(crate::proofs::SizeLaws::size_laws))]
+pub fn find_in<D: Disk, V: View<D>, F: Form>(
+    view: &mut V,
+    disk: &mut D,
+    lot: &Lot,
+    inode: &Inode,
+    name: &Name,
+) -> Result<Option<u32>, OpFault>
+    // The lot lies on the disk, and the inode is a directory's.
+    requires sited { is_sited lot.now (D.state disk.old).size ≡ true }
+    requires is { IsDirectory lot.now inode.now }
+    // What it answers.
+    ensures found { IfShown V.View lot.now view.old disk.old (λ old.
+        IfOk result (λ o. o ≡ look_up name.now (rows_at (form_of F.VERSION) old inode.now))) }
+    // Damage that it names is there.
+    ensures pointer { IsErrOf result (Damaged Pointer) → IfShown V.View lot.now view.old disk.old (λ old.
+        (n : ℕ) × (n * per_block (form_of F.VERSION) < inode.now.size)
+        × (leads lot.now old inode.now n ≡ false)) }
+    // What stays as it was.
+    ensures looked { Looked D.Disk V.View lot.now view.old disk.old view.new disk.new }
+    // Which refusals there are, and when a fault comes.
+    ensures faults { IfErr result IsLookFault }
+    ensures failed { Caused D.state FaultDisk result disk.old disk.new }
+{
+    match seek::<D, V, F>(view, disk, lot, inode, name.bytes())? {
+        None => Ok(None),
+        Some((_, number)) => Ok(Some(number)),
+    }
+}
+
 /// The inode that a directory names so, None exactly where no entry has the name.
 /// Damaged: the inode is no directory, or a pointer to one of its blocks is no data place.
-#[tactic(auto, using(crate::proofs::SizeLaws::size_laws))]
 pub fn find<D: Disk, V: View<D>, F: Form>(
     view: &mut V,
     disk: &mut D,
@@ -251,8 +316,5 @@ pub fn find<D: Disk, V: View<D>, F: Form>(
     ensures failed { Caused D.state FaultDisk result disk.old disk.new }
 {
     let inode = dir_inode::<D, V, F>(view, disk, lot, number)?;
-    match seek::<D, V, F>(view, disk, lot, &inode, name.bytes())? {
-        None => Ok(None),
-        Some((_, number)) => Ok(Some(number)),
-    }
+    find_in::<D, V, F>(view, disk, lot, &inode, name)
 }

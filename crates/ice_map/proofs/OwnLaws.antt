@@ -14,13 +14,17 @@ use Rattle.ice_map.specs.Maps.{nth_block, blocks_of, indirect_of, uses, times, M
 use Rattle.ice_map.proofs.ListLaws.{times-append, has-cons, has-head, has-left, has-right, has-range, has-times, range-append}
 use Rattle.ice_map.proofs.MapLaws.{nth-direct, nth-single}
 use Rattle.ice_map.proofs.MarkLaws.{used-same, free-same}
-use Rattle.ice_map.specs.Own.{Own, own, own_of, map_length, mark, MarksFollow, Made, MadeOf, WellMade}
+use Rattle.ice_map.specs.Own.{Own, own, own_at, own_of, map_length, mark, MarksFollow, Made, MadeOf, WellMade}
 use Rattle.ice_map.specs.Moves.{uses_of}
 use Rattle.tree_spec.specs.Costs.{Form, form_one}
 
--- in version 1 an inode says what its map of at most 268 blocks does
+-- in version 1 an inode in hand says what its map of at most 268 blocks does
+pub own-at-short : (f : Form) → f ≡ form_one → (m : ℕ → List ℕ) (inode : Inode) → own_at f m inode ≡ own_of m inode (map_length f inode)
+own-at-short f one m inode = rw one refl
+
+-- and so does the inode of a number
 pub own-short : (f : Form) → f ≡ form_one → (m : ℕ → List ℕ) (number : ℕ) → own f m number ≡ own_of m (inode_of m number) (map_length f (inode_of m number))
-own-short f one m number = rw one refl
+own-short f one m number = own-at-short f one m (inode_of m number)
 
 -- and uses what that map uses
 pub uses-short : (f : Form) → f ≡ form_one → (m : ℕ → List ℕ) (number : ℕ)

@@ -51,11 +51,13 @@ own_long_of m inode count = record {
   contents = map (λ n. m (nth_long m inode n)) (range_with_len 0 count);
 }
 
--- what the inode of a number says: version 2 has long maps, version 1 has maps of at most 268 blocks
+-- what an inode in hand says: version 2 has long maps, version 1 has maps of at most 268 blocks
+abbrev pub own_at : Form → (ℕ → List ℕ) → Inode → Own
+own_at f m inode = if nat_eq f.version 2 then own_long_of m inode (map_length f inode) else own_of m inode (map_length f inode)
+
+-- what the inode of a number says
 abbrev pub own : Form → (ℕ → List ℕ) → ℕ → Own
-own f m number =
-    if nat_eq f.version 2 then own_long_of m (inode_of m number) (map_length f (inode_of m number))
-    else own_of m (inode_of m number) (map_length f (inode_of m number))
+own f m number = own_at f m (inode_of m number)
 
 -- the bytes of a file: byte i is byte `i mod 1024` of block `i / 1024` of its map
 unfoldable pub file_bytes : Own → List ℕ
