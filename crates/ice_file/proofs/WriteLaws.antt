@@ -1,5 +1,5 @@
 -- One piece of a write after another.
-use Rattle.std.proofs.Common.{◌≡◌, ◌≢◌, ◌≤◌, ◌<◌, ◌⊎◌, ◌+◌, ◌-◌, ◌*◌, ◌^◌, ◌/◌, ◌%◌, ◌==◌, min, max, ℕ, true, false, List, length, slice_index, slice_range, ◌∙◌, sym, refl, ap, subst, inl, inr, ⊎_elim, arith, ltb}
+use Rattle.std.proofs.Common.{◌≡◌, ◌≢◌, ◌≤◌, ◌<◌, ◌⊎◌, ◌+◌, ◌-◌, ◌*◌, ◌/◌, ◌%◌, ◌==◌, min, max, ℕ, true, false, List, length, slice_index, slice_range, ◌∙◌, sym, refl, ap, subst, inl, inr, ⊎_elim, arith, ltb}
 use Rattle.std.proofs.lemmas.Bool.Decides.{nat_tests}
 use Rattle.std.proofs.lemmas.Nat.{div-add-mod', mod_below}
 use Rattle.std.proofs.lemmas.List.Edits.{length-between, get_or-between}
