@@ -2,6 +2,7 @@ pub mod EndLaws
 pub mod Chains
 pub mod Names
 pub mod PlaceLaws
+mod NodeLaws
 mod BrokenLaws
 pub mod LookLaws
 mod HeightLaws

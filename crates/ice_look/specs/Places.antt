@@ -62,6 +62,20 @@ PlaceIs m (Dir number size) = ((inode_of m number).kind ≡ 2) × ((inode_of m n
 PlaceIs m Missing = ⊤
 PlaceIs m Blocked = ⊤
 
+-- an inode in hand agrees with a place: it is a file, or a directory that the lot can have, of the place's size
+abbrev pub NodeFits : LotView → Place → Inode → Type 0
+NodeFits lot (File number size) node = (node.kind ≡ 1) × (node.size ≡ size)
+NodeFits lot (Dir number size) node = IsDirectory lot node × (node.size ≡ size)
+NodeFits lot Missing node = ⊤
+NodeFits lot Blocked node = ⊤
+
+-- the inode in hand is that of a place
+abbrev pub NodeIs : (ℕ → List ℕ) → Place → Inode → Type 0
+NodeIs m (File number size) node = node ≡ inode_of m number
+NodeIs m (Dir number size) node = node ≡ inode_of m number
+NodeIs m Missing node = ⊤
+NodeIs m Blocked node = ⊤
+
 -- the directories lead to the inode of a place
 abbrev pub PlaceReached : Form → LotView → (ℕ → List ℕ) → Place → Type 0
 PlaceReached form lot m (File number size) = IsReached form lot m number

@@ -1,4 +1,5 @@
-//! A name for entries to be read into.
+//! A name for entries to be read into, and an inode for walks.
+use ice_map::Inode;
 use tree_spec::Name;
 
 /// A name to read others into.
@@ -7,5 +8,16 @@ pub(crate) fn blank_name() -> Name {
     match Name::new(b"-") {
         Some(name) => name,
         None => unreachable!(),
+    }
+}
+
+/// An inode for a walk to hand on.
+pub(crate) fn blank_inode() -> Inode {
+    Inode {
+        kind: 0,
+        size: 0,
+        direct: [0; 12],
+        single: 0,
+        double: 0,
     }
 }

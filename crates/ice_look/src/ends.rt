@@ -14,6 +14,7 @@ ghost use Rattle.ice_look.specs.Places.{PlaceNamed, IsWalkFault};
 ghost use Rattle.ice_look.specs.Stages.{paths_refusal};
 ghost use Rattle.ice_look.specs.Calls.{IfRecovers, FailsByDiskAlone};
 
+use crate::blank::blank_inode;
 use crate::place::{Place, step, walk};
 use ice_base::{Disk, Form, Lot, OpFault, View};
 use tree_spec::{Name, Path};
@@ -71,16 +72,17 @@ pub fn find_ends<D: Disk, V: View<D>, F: Form>(
     ensures faults { IfErr result IsWalkFault }
     ensures failed { Caused D.state FaultDisk result disk.old disk.new }
 {
+    let mut node = blank_inode();
     if path.len() == depth {
-        let root = walk::<D, V, F>(view, disk, lot, path, depth, depth)?;
+        let root = walk::<D, V, F>(view, disk, lot, path, depth, depth, &mut node)?;
         return Ok(Ends {
             parent: root,
             end: root,
         });
     }
     let last = path.len() - 1;
-    let parent = walk::<D, V, F>(view, disk, lot, path, depth, last)?;
+    let parent = walk::<D, V, F>(view, disk, lot, path, depth, last, &mut node)?;
     let name = path.name(last);
-    let end = step::<D, V, F>(view, disk, lot, parent, &name)?;
+    let end = step::<D, V, F>(view, disk, lot, parent, &name, &mut node)?;
     Ok(Ends { parent, end })
 }

@@ -15,7 +15,7 @@ ghost use Rattle.ice_look.specs.Heights.{IsEntry, IsChild, IsHeightFault};
 ghost use Rattle.ice_look.specs.Places.{IsReached, PlaceFits, PlaceIs, PlaceReached, place_by};
 ghost use Rattle.ice_look.specs.Calls.{FailsByDisk, ReadsIn};
 
-use crate::blank::blank_name;
+use crate::blank::{blank_inode, blank_name};
 use crate::place::{Place, enter};
 use ice_base::{Disk, Form, Lot, OpFault, Rule, View};
 use ice_dir::entry;
@@ -56,7 +56,8 @@ fn entry_place<D: Disk, V: View<D>, F: Form>(
 {
     let mut name = blank_name();
     let inode = entry::<D, V, F>(view, disk, lot, number, k, &mut name)?;
-    enter::<D, V, F>(view, disk, lot, inode)
+    let mut node = blank_inode();
+    enter::<D, V, F>(view, disk, lot, inode, &mut node)
 }
 
 /// Whether one of the `size` entries of a directory is higher than `levels`.

@@ -22,7 +22,7 @@ ghost use Rattle.ice_look.specs.Outcomes.{IsOneOf, look_refusals, list_rules};
 ghost use Rattle.ice_look.specs.Places.{IsReached};
 ghost use Rattle.ice_look.specs.Calls.{AnswersAs, FailsByDisk, ReadsIn, RefusesPaths, Untouched, NamesBroken};
 
-use crate::blank::blank_name;
+use crate::blank::{blank_inode, blank_name};
 use crate::fault::refusal_of;
 use crate::looks::dir_at;
 use crate::paths::check_path;
@@ -72,7 +72,8 @@ fn add_entry<D: Disk, V: View<D>, F: Form>(
 {
     let mut name = blank_name();
     let next = entry::<D, V, F>(view, disk, lot, number, k, &mut name)?;
-    let place = enter_named::<D, V, F>(view, disk, lot, next)?;
+    let mut node = blank_inode();
+    let place = enter_named::<D, V, F>(view, disk, lot, next, &mut node)?;
     let dir = matches!(place, Place::Dir { .. });
     room.add_entry(Entry { name, dir });
     Ok(())

@@ -20,6 +20,7 @@ ghost use Rattle.ice_look.specs.Calls.{IfRecovers, AnswersAs, inode_at, Finds, R
 
 use crate::fault::refusal_of;
 use crate::paths::check_path;
+use crate::blank::blank_inode;
 use crate::place::{Place, walk};
 use ice_base::{Disk, Form, Lot, View};
 use ice_file::read_at;
@@ -64,7 +65,8 @@ pub fn file_at<D: Disk, V: View<D>, F: Form>(
     ensures set { IfErr result (IsOneOf read_refusals look_rules) }
     ensures failed { Caused D.state Fault result disk.old disk.new }
 {
-    match walk::<D, V, F>(view, disk, lot, path, depth, path.len()) {
+    let mut node = blank_inode();
+    match walk::<D, V, F>(view, disk, lot, path, depth, path.len(), &mut node) {
         Ok(Place::File { number, size }) => Ok(FileAt { number, size }),
         Ok(Place::Dir { .. }) => Err(Refusal::IsDir),
         Ok(Place::Missing) => Err(Refusal::NotFound),
@@ -110,7 +112,8 @@ pub(crate) fn dir_at<D: Disk, V: View<D>, F: Form>(
     ensures set { IfErr result (IsOneOf look_refusals look_rules) }
     ensures failed { Caused D.state Fault result disk.old disk.new }
 {
-    match walk::<D, V, F>(view, disk, lot, path, depth, path.len()) {
+    let mut node = blank_inode();
+    match walk::<D, V, F>(view, disk, lot, path, depth, path.len(), &mut node) {
         Ok(Place::Dir { number, size }) => Ok(DirAt {
             number,
             entries: size,
@@ -210,7 +213,8 @@ pub fn stat<D: Disk, V: View<D>, F: Form>(
     if let Err(refusal) = check_path::<F>(path, depth) {
         return Err(refusal);
     }
-    match walk::<D, V, F>(view, disk, lot, path, depth, path.len()) {
+    let mut node = blank_inode();
+    match walk::<D, V, F>(view, disk, lot, path, depth, path.len(), &mut node) {
         Ok(Place::File { size, .. }) => Ok(Value::File(size)),
         Ok(Place::Dir { size, .. }) => Ok(Value::Dir(size)),
         Ok(Place::Missing) => Err(Refusal::NotFound),

@@ -8,7 +8,7 @@ ghost use Rattle.ice_base.specs.declared.fault.Rule.TheVariants.{Kind};
 ghost use Rattle.ice_map.specs.Inodes.{inode_of};
 ghost use Rattle.ice_look.specs.declared.place.Place.TheVariants.{Missing, Blocked};
 ghost use Rattle.ice_look.specs.Broken.{BadEntry, IsBrokenBy};
-ghost use Rattle.ice_look.specs.Places.{place_by, place_at, IsNode, Reached, PlaceFits, PlaceOf, PlaceIs, PlaceReached, PlaceNamed, IsWalkFault};
+ghost use Rattle.ice_look.specs.Places.{place_by, place_at, IsNode, NodeFits, NodeIs, Reached, PlaceFits, PlaceOf, PlaceIs, PlaceReached, PlaceNamed, IsWalkFault};
 ghost use Rattle.tree_spec.specs.Trees.{Tree, child, Found};
 ghost use Rattle.tree_spec.specs.Costs.{form_of};
 ghost use Rattle.ice_map.specs.Own.{own};
@@ -16,8 +16,8 @@ ghost use Rattle.ice_reads.specs.Tables.{rows_in, inode_named};
 ghost use Rattle.ice_look.specs.Calls.{IfRecovers, FailsByDisk, FailsByDiskAlone, ReadsIn};
 
 use ice_base::{Disk, Form, Lot, OpFault, Rule, View};
-use ice_dir::find;
-use ice_map::{get_inode, longest_file};
+use ice_dir::find_in;
+use ice_map::{Inode, get_inode, longest_file};
 use tree_spec::{Name, Path};
 
 /// Where a walk ends: at a file or a directory, with the number and the size of its inode, at a directory without the next name, or at a
@@ -36,6 +36,7 @@ pub(crate) fn look<D: Disk, V: View<D>, F: Form>(
     disk: &mut D,
     lot: &Lot,
     number: u32,
+    node: &mut Inode,
 ) -> Result<Place, OpFault>
     // The lot lies on the disk.
     requires sited { is_sited lot.now (D.state disk.old).size ≡ true }
@@ -48,6 +49,9 @@ pub(crate) fn look<D: Disk, V: View<D>, F: Form>(
         ReadsIn F.VERSION lot.now old number h t → FailsByDisk result) }
     // What it answers of any lot, damaged or not.
     ensures fits { IfOk result (PlaceFits lot.now) }
+    ensures node { IfOk result (λ p. NodeFits lot.now p node.new) }
+    ensures node_is { IfShown V.View lot.now view.old disk.old (λ old.
+        IfOk result (λ p. NodeIs old p node.new)) }
     ensures at { IfOk result (PlaceOf number) }
     ensures is { IfShown V.View lot.now view.old disk.old (λ old. IfOk result (PlaceIs old)) }
     ensures reached { IfShown V.View lot.now view.old disk.old (λ old.
@@ -64,6 +68,7 @@ pub(crate) fn look<D: Disk, V: View<D>, F: Form>(
     ensures failed { Caused D.state FaultDisk result disk.old disk.new }
 {
     let inode = get_inode::<D, V, F>(view, disk, lot, number)?;
+    *node = inode;
     let size = inode.size;
     let longest = longest_file::<F>();
     if inode.kind == 1 && size <= longest {
@@ -81,6 +86,7 @@ pub(crate) fn enter<D: Disk, V: View<D>, F: Form>(
     disk: &mut D,
     lot: &Lot,
     number: u32,
+    node: &mut Inode,
 ) -> Result<Place, OpFault>
     // The lot lies on the disk.
     requires sited { is_sited lot.now (D.state disk.old).size ≡ true }
@@ -92,6 +98,9 @@ pub(crate) fn enter<D: Disk, V: View<D>, F: Form>(
         ReadsIn F.VERSION lot.now old number h t → FailsByDisk result) }
     // What it answers of any lot, damaged or not.
     ensures fits { IfOk result (PlaceFits lot.now) }
+    ensures node { IfOk result (λ p. NodeFits lot.now p node.new) }
+    ensures node_is { IfShown V.View lot.now view.old disk.old (λ old.
+        IfOk result (λ p. NodeIs old p node.new)) }
     ensures at { IfOk result (PlaceOf number) }
     ensures is { IfShown V.View lot.now view.old disk.old (λ old. IfOk result (PlaceIs old)) }
     ensures reached { IfShown V.View lot.now view.old disk.old (λ old.
@@ -110,7 +119,7 @@ pub(crate) fn enter<D: Disk, V: View<D>, F: Form>(
     if number >= 64 * lot.len() as u32 {
         return Err(OpFault::Damaged(Rule::InodeTwice));
     }
-    look::<D, V, F>(view, disk, lot, number)
+    look::<D, V, F>(view, disk, lot, number, node)
 }
 
 /// The place of the inode that an entry names. Damaged: the number is the root's or none of the lot.
@@ -119,6 +128,7 @@ pub(crate) fn enter_named<D: Disk, V: View<D>, F: Form>(
     disk: &mut D,
     lot: &Lot,
     number: u32,
+    node: &mut Inode,
 ) -> Result<Place, OpFault>
     // The lot lies on the disk.
     requires sited { is_sited lot.now (D.state disk.old).size ≡ true }
@@ -130,6 +140,9 @@ pub(crate) fn enter_named<D: Disk, V: View<D>, F: Form>(
         number ≢ 0 → ReadsIn F.VERSION lot.now old number h t → FailsByDisk result) }
     // What it answers of any lot, damaged or not.
     ensures fits { IfOk result (PlaceFits lot.now) }
+    ensures node { IfOk result (λ p. NodeFits lot.now p node.new) }
+    ensures node_is { IfShown V.View lot.now view.old disk.old (λ old.
+        IfOk result (λ p. NodeIs old p node.new)) }
     ensures at { IfOk result (PlaceOf number) }
     ensures is { IfShown V.View lot.now view.old disk.old (λ old. IfOk result (PlaceIs old)) }
     ensures reached { IfShown V.View lot.now view.old disk.old (λ old.
@@ -148,7 +161,7 @@ pub(crate) fn enter_named<D: Disk, V: View<D>, F: Form>(
     if number == 0 {
         return Err(OpFault::Damaged(Rule::InodeTwice));
     }
-    enter::<D, V, F>(view, disk, lot, number)
+    enter::<D, V, F>(view, disk, lot, number, node)
 }
 
 /// The place of a walk's next name.
@@ -158,32 +171,38 @@ pub(crate) fn step<D: Disk, V: View<D>, F: Form>(
     lot: &Lot,
     from: Place,
     name: &Name,
+    node: &mut Inode,
 ) -> Result<Place, OpFault>
     // The lot lies on the disk.
     requires sited { is_sited lot.now (D.state disk.old).size ≡ true }
     requires fits { PlaceFits lot.now from }
+    requires in_hand { NodeFits lot.now from node.old }
     // Where the inode stands for a tree, it finds what the tree has; the disk alone may fail.
     ensures place { (i h : ℕ) (t : Tree) → IfShown V.View lot.now view.old disk.old (λ old.
-        ReadsIn F.VERSION lot.now old i h t → from ≡ place_by i (Found t)
+        NodeIs old from node.old → ReadsIn F.VERSION lot.now old i h t → from ≡ place_by i (Found t)
         → PlaceReached (form_of F.VERSION) lot.now old from → ¬ BadEntry (form_of F.VERSION) lot.now old
         → IfOk result (λ p. p ≡ place_by (inode_named name.now
         (rows_in (form_of F.VERSION) (own (form_of F.VERSION) old i))) (child name.now t))) }
     ensures sound { (i h : ℕ) (t : Tree) → IfShown V.View lot.now view.old disk.old (λ old.
-        ReadsIn F.VERSION lot.now old i h t → from ≡ place_by i (Found t)
+        NodeIs old from node.old → ReadsIn F.VERSION lot.now old i h t → from ≡ place_by i (Found t)
         → PlaceReached (form_of F.VERSION) lot.now old from → ¬ BadEntry (form_of F.VERSION) lot.now old
         → FailsByDisk result) }
     // What it answers of any lot, damaged or not.
     ensures missing { from ≡ Missing → result ≡ Ok Missing }
     ensures blocked { from ≡ Blocked → result ≡ Ok Blocked }
     ensures fits { IfOk result (PlaceFits lot.now) }
+    ensures node { IfOk result (λ p. NodeFits lot.now p node.new) }
+    ensures node_is { IfShown V.View lot.now view.old disk.old (λ old.
+        IfOk result (λ p. NodeIs old p node.new)) }
     ensures is { IfShown V.View lot.now view.old disk.old (λ old. IfOk result (PlaceIs old)) }
     ensures reached { IfShown V.View lot.now view.old disk.old (λ old.
-        PlaceReached (form_of F.VERSION) lot.now old from → IfOk result (PlaceReached (form_of F.VERSION) lot.now old)) }
+        NodeIs old from node.old → PlaceReached (form_of F.VERSION) lot.now old from
+        → IfOk result (PlaceReached (form_of F.VERSION) lot.now old)) }
     ensures named { IfShown V.View lot.now view.old disk.old (λ old.
-        IfOk result (PlaceNamed (form_of F.VERSION) old from name.now)) }
+        NodeIs old from node.old → IfOk result (PlaceNamed (form_of F.VERSION) old from name.now)) }
     // Damage that it names is there.
     ensures broken { IfShown V.View lot.now view.old disk.old (λ old.
-        PlaceIs old from → PlaceReached (form_of F.VERSION) lot.now old from
+        NodeIs old from node.old → PlaceIs old from → PlaceReached (form_of F.VERSION) lot.now old from
         → IfErr result (IsBrokenBy (form_of F.VERSION) lot.now old)) }
     // What stays as it was.
     ensures looked { Looked D.Disk V.View lot.now view.old disk.old view.new disk.new }
@@ -192,9 +211,9 @@ pub(crate) fn step<D: Disk, V: View<D>, F: Form>(
     ensures failed { Caused D.state FaultDisk result disk.old disk.new }
 {
     match from {
-        Place::Dir { number, .. } => match find::<D, V, F>(view, disk, lot, number, name)? {
+        Place::Dir { .. } => match find_in::<D, V, F>(view, disk, lot, node, name)? {
             None => Ok(Place::Missing),
-            Some(next) => enter_named::<D, V, F>(view, disk, lot, next),
+            Some(next) => enter_named::<D, V, F>(view, disk, lot, next, node),
         },
         Place::File { .. } => Ok(Place::Blocked),
         Place::Missing => Ok(Place::Missing),
@@ -211,6 +230,7 @@ pub(crate) fn walk<D: Disk, V: View<D>, F: Form>(
     path: &Path,
     depth: usize,
     end: usize,
+    node: &mut Inode,
 ) -> Result<Place, OpFault>
     // The lot lies on the disk and has a group, and the path begins with the cube's names.
     requires sited { is_sited lot.now (D.state disk.old).size ≡ true }
@@ -224,6 +244,9 @@ pub(crate) fn walk<D: Disk, V: View<D>, F: Form>(
     ensures sound { FailsByDiskAlone V.View F.VERSION lot.now view.old disk.old result }
     // What it answers of any lot, damaged or not.
     ensures fits { IfOk result (PlaceFits lot.now) }
+    ensures node { IfOk result (λ p. NodeFits lot.now p node.new) }
+    ensures node_is { IfShown V.View lot.now view.old disk.old (λ old.
+        IfOk result (λ p. NodeIs old p node.new)) }
     ensures is { IfShown V.View lot.now view.old disk.old (λ old. IfOk result (PlaceIs old)) }
     ensures reached { IfShown V.View lot.now view.old disk.old (λ old.
         IfOk result (PlaceReached (form_of F.VERSION) lot.now old)) }
@@ -236,10 +259,10 @@ pub(crate) fn walk<D: Disk, V: View<D>, F: Form>(
     ensures faults { IfErr result IsWalkFault }
     ensures failed { Caused D.state FaultDisk result disk.old disk.new }
 {
-    let mut place = look::<D, V, F>(view, disk, lot, 0)?;
+    let mut place = look::<D, V, F>(view, disk, lot, 0, node)?;
     for k in depth..end {
         let name = path.name(k);
-        place = step::<D, V, F>(view, disk, lot, place, &name)?;
+        place = step::<D, V, F>(view, disk, lot, place, &name, node)?;
     }
     Ok(place)
 }

@@ -8,7 +8,7 @@ use Rattle.ice_map.specs.Own.{own}
 use Rattle.ice_reads.specs.Reads.{Reads}
 use Rattle.ice_look.specs.Broken.{BadEntry, IsBrokenBy}
 use Rattle.ice_look.proofs.SoundLaws.{no-bad-entry}
-use Rattle.ice_look.specs.Places.{place_by, PlaceIs, PlaceReached, PlaceNamed}
+use Rattle.ice_look.specs.Places.{place_by, NodeIs, PlaceIs, PlaceReached, PlaceNamed}
 use Rattle.ice_look.proofs.EndLaws.{names-last, ends-root, ends-more, last-is}
 use Rattle.ice_look.proofs.PlaceLaws.{next-place, next-fault}
 use Rattle.ice_look.proofs.ends.find_ends.Goals as goal
@@ -33,7 +33,7 @@ returns-in_err-end-clause-sound g c = λ mode k t s r.
     (next-fault f c.args.lot.now (own f (g.V.View.map c.args.view.now c.args.disk.now c.args.lot.now)) (take (c.len-last.result - 1 - c.args.depth) (drop c.args.depth c.args.path.now)) t c.in_ok-parent.parent _
     r.holds.reads (c.in_ok-parent.ensures.place mode k t s r)
     (subst (λ (m : Map). (i h : ℕ) (u : Tree) → Reads f c.args.lot.now (own f m) i h u → c.in_ok-parent.parent ≡ place_by i (Found u) → c.in_err-end.field-0.0 ≡ FaultDisk) looked.map
-    (λ i h u q is. e.sound i h u (looked.shows s) q is
+    (λ i h u q is. e.sound i h u (looked.shows s) (subst (λ (m : Map). NodeIs m c.in_ok-parent.parent c.walk-2.new.node) (sym looked.map) (c.in_ok-parent.ensures.node_is s)) q is
     (subst (λ (m : Map). PlaceReached (form_of g.F.Form.VERSION) c.args.lot.now m c.in_ok-parent.parent) (sym looked.map) (c.in_ok-parent.ensures.reached s))
     (λ b. no-bad-entry f (ap form_of g.F.Form.is_one.0) (form_of g.F.Form.VERSION) (ap form_of g.F.Form.is_one.0) mode c.args.lot.now (g.V.View.map c.args.view.now c.args.disk.now c.args.lot.now) t k r (subst (BadEntry (form_of g.F.Form.VERSION) c.args.lot.now) looked.map b))))
     e.missing e.blocked)
@@ -52,7 +52,7 @@ returns-clause-found g c = λ mode k t s r.
     at
     (next-place f c.args.lot.now o names c.name-name.result t c.in_ok-parent.parent c.in_ok-end.end r.holds.reads at
     (subst (λ (m : Map). (i h : ℕ) (u : Tree) → Reads f c.args.lot.now (own f m) i h u → c.in_ok-parent.parent ≡ place_by i (Found u) → c.in_ok-end.end ≡ place_by (inode_named c.name-name.result (rows_in f (own f m i))) (child c.name-name.result u)) looked.map
-    (λ i h u q is. e.place i h u (looked.shows s) q is
+    (λ i h u q is. e.place i h u (looked.shows s) (subst (λ (m : Map). NodeIs m c.in_ok-parent.parent c.walk-2.new.node) (sym looked.map) (c.in_ok-parent.ensures.node_is s)) q is
     (subst (λ (m : Map). PlaceReached (form_of g.F.Form.VERSION) c.args.lot.now m c.in_ok-parent.parent) (sym looked.map) (c.in_ok-parent.ensures.reached s))
     (λ b. no-bad-entry f (ap form_of g.F.Form.is_one.0) (form_of g.F.Form.VERSION) (ap form_of g.F.Form.is_one.0) mode c.args.lot.now (g.V.View.map c.args.view.now c.args.disk.now c.args.lot.now) t k r (subst (BadEntry (form_of g.F.Form.VERSION) c.args.lot.now) looked.map b))))
     e.missing e.blocked)
@@ -69,7 +69,7 @@ returns-in_err-end-clause-broken g c = λ s.
     let looked = c.walk-2.ensures.looked in
     rw (p.1, p.2)
     (subst (λ (m : Map). IsBrokenBy (form_of g.F.Form.VERSION) c.args.lot.now m c.in_err-end.field-0.0) looked.map
-    (e.broken (looked.shows s) (subst (λ (m : Map). PlaceIs m c.in_ok-parent.parent) (sym looked.map) (c.in_ok-parent.ensures.is s))
+    (e.broken (looked.shows s) (subst (λ (m : Map). NodeIs m c.in_ok-parent.parent c.walk-2.new.node) (sym looked.map) (c.in_ok-parent.ensures.node_is s)) (subst (λ (m : Map). PlaceIs m c.in_ok-parent.parent) (sym looked.map) (c.in_ok-parent.ensures.is s))
     (subst (λ (m : Map). PlaceReached (form_of g.F.Form.VERSION) c.args.lot.now m c.in_ok-parent.parent) (sym looked.map) (c.in_ok-parent.ensures.reached s))))
 
 pub returns-clause-are : goal.returns-clause-are
@@ -81,7 +81,7 @@ returns-clause-are g c = λ s.
       end = subst (λ (m : Map). PlaceIs m c.in_ok-end.end) looked.map (e.is (looked.shows s));
       parent_reached = c.in_ok-parent.ensures.reached s;
       end_reached = subst (λ (m : Map). PlaceReached (form_of g.F.Form.VERSION) c.args.lot.now m c.in_ok-end.end) looked.map
-          (e.reached (looked.shows s) (subst (λ (m : Map). PlaceReached (form_of g.F.Form.VERSION) c.args.lot.now m c.in_ok-parent.parent) (sym looked.map) (c.in_ok-parent.ensures.reached s)));
+          (e.reached (looked.shows s) (subst (λ (m : Map). NodeIs m c.in_ok-parent.parent c.walk-2.new.node) (sym looked.map) (c.in_ok-parent.ensures.node_is s)) (subst (λ (m : Map). PlaceReached (form_of g.F.Form.VERSION) c.args.lot.now m c.in_ok-parent.parent) (sym looked.map) (c.in_ok-parent.ensures.reached s)));
     }
 
 pub returns-clause-named : goal.returns-clause-named
@@ -89,7 +89,7 @@ returns-clause-named g c = λ s below.
     let looked = c.walk-2.ensures.looked in
     subst (λ (name : List ℕ). PlaceNamed (form_of g.F.Form.VERSION) (g.V.View.map c.args.view.now c.args.disk.now c.args.lot.now) c.in_ok-parent.parent name c.in_ok-end.end)
     (last-is c.args.path.now c.args.depth (c.len-last.result - 1) c.name-name.result (omega arith) (omega arith) (c.name-name.ensures []))
-    (subst (λ (m : Map). PlaceNamed (form_of g.F.Form.VERSION) m c.in_ok-parent.parent c.name-name.result c.in_ok-end.end) looked.map (c.in_ok-end.ensures.named (looked.shows s)))
+    (subst (λ (m : Map). PlaceNamed (form_of g.F.Form.VERSION) m c.in_ok-parent.parent c.name-name.result c.in_ok-end.end) looked.map (c.in_ok-end.ensures.named (looked.shows s) (subst (λ (m : Map). NodeIs m c.in_ok-parent.parent c.walk-2.new.node) (sym looked.map) (c.in_ok-parent.ensures.node_is s))))
 
 pub returns-in_err-root-clause-sound : goal.returns-in_err-root-clause-sound
 returns-in_err-root-clause-sound g c = λ mode k t s r.
