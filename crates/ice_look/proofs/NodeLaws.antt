@@ -2,8 +2,8 @@
 use Rattle.std.proofs.Common.{◌≡◌, ◌<◌, ◌*◌, ℕ, false, List, Option, ap, subst, ◌∙◌, arith}
 use Rattle.ice_base.specs.Lots.{LotView}
 use Rattle.ice_base.specs.declared.fault.OpFault.{OpFault}
-use Rattle.ice_base.specs.declared.fault.OpFault.TheVariants.{Disk, Damaged}
-use Rattle.ice_base.specs.declared.fault.Rule.TheVariants.{Kind, Pointer}
+use Rattle.ice_base.specs.declared.fault.OpFault.TheVariants.{Damaged}
+use Rattle.ice_base.specs.declared.fault.Rule.TheVariants.{Kind}
 use Rattle.ice_map.specs.Faults.{IsLookFault}
 use Rattle.ice_map.specs.declared.codec.Inode.{Inode}
 use Rattle.ice_map.specs.Inodes.{inode_of}

@@ -28,7 +28,8 @@ use crate::looks::dir_at;
 use crate::paths::check_path;
 use crate::place::{Place, enter_named};
 use ice_base::{Disk, Form, Lot, OpFault, View};
-use ice_dir::entry;
+use ice_dir::entry_in;
+use ice_map::Inode;
 use tree_spec::{Entry, Path, Refusal, Reply, Room, Value};
 
 /// Adds entry `k` of a directory to the room. After an `Err` the room is as before.
@@ -36,30 +37,30 @@ fn add_entry<D: Disk, V: View<D>, F: Form>(
     view: &mut V,
     disk: &mut D,
     lot: &Lot,
-    number: u32,
+    node: &Inode,
     k: u32,
     room: &mut Room,
 ) -> Result<(), OpFault>
-    // The lot lies on the disk.
+    // The lot lies on the disk, and the inode in hand is a directory's.
     requires sited { is_sited lot.now (D.state disk.old).size ≡ true }
-    requires number { number < 64 * length lot.now.groups }
+    requires is { IsDirectory lot.now node.now }
     requires fits { length room.old.entries < most_entries }
     // Where the inode stands for a tree, it finds what the tree has; the disk alone may fail.
-    ensures added { (h : ℕ) (es : Entries) (row : DirRow)
+    ensures added { (number h : ℕ) (es : Entries) (row : DirRow)
         → IfShown V.View lot.now view.old disk.old (λ old.
-        ReadsIn F.VERSION lot.now old number h (Dir es)
+        node.now ≡ inode_of old number → ReadsIn F.VERSION lot.now old number h (Dir es)
         → slice_get (rows_in (form_of F.VERSION) (own (form_of F.VERSION) old number))
         k ≡ Some row → IsReached (form_of F.VERSION) lot.now old number → ¬ BadEntry (form_of F.VERSION) lot.now old
         → OnOk result (room.new.entries ≡ room.old.entries ++ listed_as es row ∷ [])) }
-    ensures sound { (h : ℕ) (es : Entries) → IfShown V.View lot.now view.old disk.old (λ old.
-        ReadsIn F.VERSION lot.now old number h (Dir es) → k < length (rows es)
+    ensures sound { (number h : ℕ) (es : Entries) → IfShown V.View lot.now view.old disk.old (λ old.
+        node.now ≡ inode_of old number → ReadsIn F.VERSION lot.now old number h (Dir es) → k < length (rows es)
         → IsReached (form_of F.VERSION) lot.now old number → ¬ BadEntry (form_of F.VERSION) lot.now old
         → FailsByDisk result) }
     // What it answers of any lot, damaged or not.
     ensures one { OnOk result (length room.new.entries ≡ length room.old.entries + 1) }
     // Damage that it names is there.
-    ensures broken { IfShown V.View lot.now view.old disk.old (λ old.
-        IsReached (form_of F.VERSION) lot.now old number → HasEntry lot.now k (inode_of old number)
+    ensures broken { (number : ℕ) → IfShown V.View lot.now view.old disk.old (λ old.
+        node.now ≡ inode_of old number → IsReached (form_of F.VERSION) lot.now old number → HasEntry lot.now k node.now
         → IfErr result (IsBrokenBy (form_of F.VERSION) lot.now old)) }
     // What stays as it was.
     ensures kept { OnErr result (room.new.entries ≡ room.old.entries) }
@@ -71,9 +72,9 @@ fn add_entry<D: Disk, V: View<D>, F: Form>(
     ensures failed { Caused D.state FaultDisk result disk.old disk.new }
 {
     let mut name = blank_name();
-    let next = entry::<D, V, F>(view, disk, lot, number, k, &mut name)?;
-    let mut node = blank_inode();
-    let place = enter_named::<D, V, F>(view, disk, lot, next, &mut node)?;
+    let next = entry_in::<D, V, F>(view, disk, lot, node, k, &mut name)?;
+    let mut child = blank_inode();
+    let place = enter_named::<D, V, F>(view, disk, lot, next, &mut child)?;
     let dir = matches!(place, Place::Dir { .. });
     room.add_entry(Entry { name, dir });
     Ok(())
@@ -84,31 +85,31 @@ fn add_entries<D: Disk, V: View<D>, F: Form>(
     view: &mut V,
     disk: &mut D,
     lot: &Lot,
-    number: u32,
+    node: &Inode,
     count: u32,
     room: &mut Room,
 ) -> Result<(), OpFault>
-    // The lot lies on the disk.
+    // The lot lies on the disk, and the inode in hand is a directory's.
     requires sited { is_sited lot.now (D.state disk.old).size ≡ true }
-    requires number { number < 64 * length lot.now.groups }
+    requires is { IsDirectory lot.now node.now }
     requires few { count ≤ most_entries }
     requires empty { room.old.entries ≡ [] }
     // Where the inode stands for a tree, it finds what the tree has; the disk alone may fail.
-    ensures listed { (h : ℕ) (es : Entries) → IfShown V.View lot.now view.old disk.old (λ old.
-        ReadsIn F.VERSION lot.now old number h (Dir es) → count ≡ length (rows es)
+    ensures listed { (number h : ℕ) (es : Entries) → IfShown V.View lot.now view.old disk.old (λ old.
+        node.now ≡ inode_of old number → ReadsIn F.VERSION lot.now old number h (Dir es) → count ≡ length (rows es)
         → IsReached (form_of F.VERSION) lot.now old number → ¬ BadEntry (form_of F.VERSION) lot.now old
         → OnOk result (room.new.entries ≡ map (listed_as es)
         (rows_in (form_of F.VERSION) (own (form_of F.VERSION) old number)))) }
-    ensures sound { (h : ℕ) (es : Entries) → IfShown V.View lot.now view.old disk.old (λ old.
-        ReadsIn F.VERSION lot.now old number h (Dir es) → count ≡ length (rows es)
+    ensures sound { (number h : ℕ) (es : Entries) → IfShown V.View lot.now view.old disk.old (λ old.
+        node.now ≡ inode_of old number → ReadsIn F.VERSION lot.now old number h (Dir es) → count ≡ length (rows es)
         → IsReached (form_of F.VERSION) lot.now old number → ¬ BadEntry (form_of F.VERSION) lot.now old
         → FailsByDisk result) }
     // What it answers of any lot, damaged or not.
     ensures all { OnOk result (length room.new.entries ≡ count) }
     // Damage that it names is there.
-    ensures broken { IfShown V.View lot.now view.old disk.old (λ old.
-        IsReached (form_of F.VERSION) lot.now old number → IsDirectory lot.now (inode_of old number)
-        → count ≤ (inode_of old number).size → IfErr result (IsBrokenBy (form_of F.VERSION) lot.now old)) }
+    ensures broken { (number : ℕ) → IfShown V.View lot.now view.old disk.old (λ old.
+        node.now ≡ inode_of old number → IsReached (form_of F.VERSION) lot.now old number
+        → count ≤ node.now.size → IfErr result (IsBrokenBy (form_of F.VERSION) lot.now old)) }
     // What stays as it was.
     ensures bytes { room.new.bytes ≡ room.old.bytes }
     ensures rows { room.new.rows ≡ room.old.rows }
@@ -118,7 +119,7 @@ fn add_entries<D: Disk, V: View<D>, F: Form>(
     ensures failed { Caused D.state FaultDisk result disk.old disk.new }
 {
     for k in 0..count {
-        add_entry::<D, V, F>(view, disk, lot, number, k, room)?;
+        add_entry::<D, V, F>(view, disk, lot, node, k, room)?;
     }
     Ok(())
 }
@@ -178,9 +179,10 @@ pub fn list<D: Disk, V: View<D>, F: Form>(
     if let Err(refusal) = check_path::<F>(path, depth) {
         return Err(refusal);
     }
-    match dir_at::<D, V, F>(view, disk, lot, path, depth) {
+    let mut node = blank_inode();
+    match dir_at::<D, V, F>(view, disk, lot, path, depth, &mut node) {
         Err(refusal) => Err(refusal),
-        Ok(dir) => match add_entries::<D, V, F>(view, disk, lot, dir.number, dir.entries, room) {
+        Ok(dir) => match add_entries::<D, V, F>(view, disk, lot, &node, dir.entries, room) {
             Err(fault) => Err(refusal_of(fault)),
             Ok(()) => Ok(in_order(room)),
         },

@@ -1,5 +1,5 @@
 //! Commands that change nothing.
-ghost use Rattle.std.specs.Prelude.{◌≡◌, ◌≤◌, ◌<◌, ◌*◌, ℕ, List, true, [], ◌∷◌, IfOk, IfErr, length, drop};
+ghost use Rattle.std.specs.Prelude.{◌≡◌, ◌≤◌, ◌<◌, ◌*◌, ℕ, List, true, [], ◌∷◌, IfOk, IfErr, OnOk, length, drop};
 ghost use Rattle.ice_base.specs.Disk.{Caused};
 ghost use Rattle.ice_base.specs.Lots.{is_sited};
 ghost use Rattle.ice_base.specs.Views.{Looked, IfShown};
@@ -11,6 +11,8 @@ ghost use Rattle.tree_spec.specs.Replies.{meant, Tallies};
 ghost use Rattle.tree_spec.specs.Trees.{Found, File, walk};
 ghost use Rattle.tree_spec.specs.declared.reply.Refusal.TheVariants.{Fault};
 ghost use Rattle.ice_map.specs.Own.{own};
+ghost use Rattle.ice_map.specs.Inodes.{inode_of};
+ghost use Rattle.ice_dir.specs.Rows.{IsDirectory};
 ghost use Rattle.ice_look.specs.Outcomes.{IsOneOf, read_refusals, look_refusals, look_rules};
 ghost use Rattle.ice_look.specs.Places.{IsReached, PlaceIs};
 ghost use Rattle.ice_look.specs.Stages.{file_refusal, dir_refusal};
@@ -18,12 +20,13 @@ ghost use Rattle.ice_look.specs.declared.place.Place.TheVariants.{File as AtFile
 ghost use Rattle.ice_look.specs.Ends.{IsDirAt, DirFits};
 ghost use Rattle.ice_look.specs.Calls.{IfRecovers, AnswersAs, inode_at, Finds, RefusesPaths, Untouched, NamesBroken};
 
+use crate::blank::blank_inode;
 use crate::fault::refusal_of;
 use crate::paths::check_path;
-use crate::blank::blank_inode;
 use crate::place::{Place, walk};
 use ice_base::{Disk, Form, Lot, View};
 use ice_file::read_at;
+use ice_map::Inode;
 use tree_spec::{Path, Refusal, Reply, Room, Value};
 
 /// The file at a path's end: the number of its inode, and its size in bytes.
@@ -82,13 +85,14 @@ pub struct DirAt {
     pub entries: u32,
 }
 
-/// The directory at a path's end. NotFound and NotDir: the walk ends so. NotDir: a file stands there.
+/// The directory at a path's end, whose inode goes into `node`. NotFound and NotDir: the walk ends so. NotDir: a file stands there.
 pub(crate) fn dir_at<D: Disk, V: View<D>, F: Form>(
     view: &mut V,
     disk: &mut D,
     lot: &Lot,
     path: &Path,
     depth: usize,
+    node: &mut Inode,
 ) -> Result<DirAt, Refusal>
     // The lot lies on the disk and has a group, and the path begins with the cube's names.
     requires sited { is_sited lot.now (D.state disk.old).size ≡ true }
@@ -100,6 +104,9 @@ pub(crate) fn dir_at<D: Disk, V: View<D>, F: Form>(
         (drop depth path.now) t) (dir_refusal (walk (drop depth path.now) t)) result) }
     // What it answers of any lot, damaged or not.
     ensures fits { IfOk result (DirFits lot.now) }
+    ensures node { OnOk result (IsDirectory lot.now node.new) }
+    ensures node_is { IfShown V.View lot.now view.old disk.old (λ old.
+        IfOk result (λ dir. node.new ≡ inode_of old dir.number)) }
     ensures is { IfShown V.View lot.now view.old disk.old (λ old.
         IfOk result (λ dir. PlaceIs old (AtDir dir.number dir.entries))) }
     ensures reached { IfShown V.View lot.now view.old disk.old (λ old.
@@ -112,8 +119,7 @@ pub(crate) fn dir_at<D: Disk, V: View<D>, F: Form>(
     ensures set { IfErr result (IsOneOf look_refusals look_rules) }
     ensures failed { Caused D.state Fault result disk.old disk.new }
 {
-    let mut node = blank_inode();
-    match walk::<D, V, F>(view, disk, lot, path, depth, path.len(), &mut node) {
+    match walk::<D, V, F>(view, disk, lot, path, depth, path.len(), node) {
         Ok(Place::Dir { number, size }) => Ok(DirAt {
             number,
             entries: size,

@@ -21,7 +21,13 @@ const CHANGES: [&[u8]; 6] = [
     b"rename /a/e/x /a/d/x",
 ];
 
-const LOOKS: [&[u8]; 3] = [b"read /a/f 0 9", b"list /a/e", b"stat /a/e/x"];
+/// A look of each kind, with its reads: on a walk one for each inode and one for the block of each directory; at its end, for a read of
+/// a file, its inode and its block, and for a listing the block and the inode of each of two entries.
+const LOOKS: [(&[u8], u64); 3] = [
+    (b"read /a/f 0 9", 5),
+    (b"list /a/e", 7),
+    (b"stat /a/e/x", 5),
+];
 
 /// The reply through a keep that holds all puts in memory, or through one that writes home at once.
 fn ask(
@@ -100,9 +106,9 @@ fn fail_changes(rt: &impl Abort, alloc: Global, base: &MemHost, held: bool) -> R
 }
 
 fn fail_looks(rt: &impl Abort, alloc: Global, base: &MemHost, held: bool) -> Result<(), Fail> {
-    for line in &LOOKS {
+    for (line, reads) in &LOOKS {
         let calls = fail_each(rt, alloc, base, line, held, true)?;
-        assert!(rt; calls > 2, "{calls} calls");
+        assert!(rt; calls == *reads, "{calls} calls");
     }
     Ok(())
 }

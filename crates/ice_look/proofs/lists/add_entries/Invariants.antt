@@ -2,6 +2,7 @@ use Rattle.std.proofs.Common.{◌≡◌, ℕ, length, take, map}
 use Rattle.ice_base.specs.Views.{Looked}
 use Rattle.tree_spec.specs.Trees.{Entries, Dir, rows}
 use Rattle.tree_spec.specs.Costs.{form_of}
+use Rattle.ice_map.specs.Inodes.{inode_of}
 use Rattle.ice_map.specs.Own.{own}
 use Rattle.ice_reads.specs.Tables.{rows_in}
 use Rattle.ice_reads.specs.Reads.{Reads}
@@ -17,6 +18,6 @@ invariant-loop-k g l = record {
   all : length l.room.entries ≡ l.k;
   bytes : l.room.bytes ≡ l.fn.room.bytes;
   cube_rows : l.room.rows ≡ l.fn.room.rows;
-  listed : (h : ℕ) (es : Entries) → g.V.View.shows l.lot l.fn.view l.fn.disk → Reads (form_of g.F.Form.VERSION) l.lot (own (form_of g.F.Form.VERSION) (g.V.View.map l.fn.view l.fn.disk l.lot)) l.number h (Dir es) → l.count ≡ length (rows es)
-      → IsReached (form_of g.F.Form.VERSION) l.lot (g.V.View.map l.fn.view l.fn.disk l.lot) l.number → ¬ BadEntry (form_of g.F.Form.VERSION) l.lot (g.V.View.map l.fn.view l.fn.disk l.lot) → l.room.entries ≡ map (listed_as es) (take l.k (rows_in (form_of g.F.Form.VERSION) (own (form_of g.F.Form.VERSION) (g.V.View.map l.fn.view l.fn.disk l.lot) l.number)));
+  listed : (number h : ℕ) (es : Entries) → g.V.View.shows l.lot l.fn.view l.fn.disk → l.node ≡ inode_of (g.V.View.map l.fn.view l.fn.disk l.lot) number → Reads (form_of g.F.Form.VERSION) l.lot (own (form_of g.F.Form.VERSION) (g.V.View.map l.fn.view l.fn.disk l.lot)) number h (Dir es) → l.count ≡ length (rows es)
+      → IsReached (form_of g.F.Form.VERSION) l.lot (g.V.View.map l.fn.view l.fn.disk l.lot) number → ¬ BadEntry (form_of g.F.Form.VERSION) l.lot (g.V.View.map l.fn.view l.fn.disk l.lot) → l.room.entries ≡ map (listed_as es) (take l.k (rows_in (form_of g.F.Form.VERSION) (own (form_of g.F.Form.VERSION) (g.V.View.map l.fn.view l.fn.disk l.lot) number)));
 }

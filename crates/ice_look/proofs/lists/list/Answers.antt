@@ -5,13 +5,16 @@ use Rattle.tree_spec.specs.Costs.{form_of}
 use Rattle.tree_spec.specs.Replies.{accepted_of, Tallies}
 use Rattle.tree_spec.specs.Trees.{Dir}
 use Rattle.ice_reads.specs.Reads.{Reads}
+use Rattle.ice_map.specs.Inodes.{inode_of}
 use Rattle.ice_map.specs.Own.{own}
 use Rattle.ice_reads.specs.Tables.{rows_in}
 use Rattle.ice_reads.proofs.Focus.{Reads-part}
 use Rattle.ice_look.specs.Listings.{listed_as}
 use Rattle.ice_look.proofs.ListLaws.{sorted-listing}
 use Rattle.ice_look.proofs.LookLaws.{list-paths, list-walk, list-value, fault_model}
-use Rattle.ice_look.specs.Broken.{BadEntry}
+use Rattle.ice_map.specs.declared.codec.Inode.{Inode}
+use Rattle.ice_look.specs.Broken.{BadEntry, IsBroken, IsBrokenBy}
+use Rattle.ice_look.proofs.FaultLaws.{fault-names}
 use Rattle.ice_look.specs.Places.{IsReached}
 use Rattle.ice_look.proofs.SoundLaws.{no-bad-entry}
 use Rattle.ice_look.proofs.lists.list.Goals as goal
@@ -36,7 +39,7 @@ returns-in-Err-add_entries-clause-answers g c = λ mode k t s recovers.
     let r : Reads f c.args.lot.now (own f m) c.in-Ok.dir.number (0 + length names) (Dir x.inside) =
     subst (λ j. Reads f c.args.lot.now (own f m) j (0 + length names) (Dir x.inside)) (sym x.number) (Reads-part f c.args.lot.now (own f m) names 0 0 t (Dir x.inside) x.there recovers.holds.reads) in
     fault_model _ c.in-Err-add_entries.fault _ c.refusal_of.ensures
-    (c.in-Err-add_entries.ensures.sound (0 + length names) x.inside (looked.shows s) (subst (λ (m : ℕ → List ℕ). Reads f c.args.lot.now (own f m) c.in-Ok.dir.number (0 + length names) (Dir x.inside)) (sym looked.map) r) x.count
+    (c.in-Err-add_entries.ensures.sound c.in-Ok.dir.number (0 + length names) x.inside (looked.shows s) (subst (λ (m : ℕ → List ℕ). c.dir_at.new.node ≡ inode_of m c.in-Ok.dir.number) (sym looked.map) (c.in-Ok.ensures.node_is s)) (subst (λ (m : ℕ → List ℕ). Reads f c.args.lot.now (own f m) c.in-Ok.dir.number (0 + length names) (Dir x.inside)) (sym looked.map) r) x.count
     (subst (λ (m : ℕ → List ℕ). IsReached (form_of g.F.Form.VERSION) c.args.lot.now m c.in-Ok.dir.number) (sym looked.map) (c.in-Ok.ensures.reached s))
     (λ b. no-bad-entry f (ap form_of g.F.Form.is_one.0) (form_of g.F.Form.VERSION) (ap form_of g.F.Form.is_one.0) mode c.args.lot.now m t k recovers (subst (BadEntry (form_of g.F.Form.VERSION) c.args.lot.now) looked.map b)))
 
@@ -49,7 +52,7 @@ returns-in-Ok-add_entries-clause-answers g c = λ mode k t s recovers.
     let looked = c.dir_at.ensures.looked in
     let r : Reads f c.args.lot.now (own f m) c.in-Ok.dir.number (0 + length names) (Dir x.inside) =
     subst (λ j. Reads f c.args.lot.now (own f m) j (0 + length names) (Dir x.inside)) (sym x.number) (Reads-part f c.args.lot.now (own f m) names 0 0 t (Dir x.inside) x.there recovers.holds.reads) in
-    let there = c.in-Ok-add_entries.ensures.listed (0 + length names) x.inside (looked.shows s) (subst (λ (m : ℕ → List ℕ). Reads f c.args.lot.now (own f m) c.in-Ok.dir.number (0 + length names) (Dir x.inside)) (sym looked.map) r) x.count
+    let there = c.in-Ok-add_entries.ensures.listed c.in-Ok.dir.number (0 + length names) x.inside (looked.shows s) (subst (λ (m : ℕ → List ℕ). c.dir_at.new.node ≡ inode_of m c.in-Ok.dir.number) (sym looked.map) (c.in-Ok.ensures.node_is s)) (subst (λ (m : ℕ → List ℕ). Reads f c.args.lot.now (own f m) c.in-Ok.dir.number (0 + length names) (Dir x.inside)) (sym looked.map) r) x.count
     (subst (λ (m : ℕ → List ℕ). IsReached (form_of g.F.Form.VERSION) c.args.lot.now m c.in-Ok.dir.number) (sym looked.map) (c.in-Ok.ensures.reached s))
     (λ b. no-bad-entry f (ap form_of g.F.Form.is_one.0) (form_of g.F.Form.VERSION) (ap form_of g.F.Form.is_one.0) mode c.args.lot.now m t k recovers (subst (BadEntry (form_of g.F.Form.VERSION) c.args.lot.now) looked.map b)) in
     let here : c.add_entries.new.room.entries ≡ map (listed_as x.inside) (rows_in f (own f m c.in-Ok.dir.number)) = there ∙ ap (λ (m : ℕ → List ℕ). map (listed_as x.inside) (rows_in f (own f m c.in-Ok.dir.number))) looked.map in
@@ -61,3 +64,17 @@ returns-in-Ok-add_entries-clause-answers g c = λ mode k t s recovers.
 pub returns-in-Ok-add_entries-clause-tallies : goal.returns-in-Ok-add_entries-clause-tallies
 returns-in-Ok-add_entries-clause-tallies g c =
     subst (λ v. Tallies (Ok v) c.in_order.new.room) (sym c.in_order.ensures.number) (omega (arith, ap length c.in_order.ensures.rows))
+
+pub returns-in-Err-add_entries-clause-damaged : goal.returns-in-Err-add_entries-clause-damaged
+returns-in-Err-add_entries-clause-damaged g c = λ n named s.
+    let f = form_of g.F.Form.VERSION in
+    let m : ℕ → List ℕ = g.V.View.map c.args.view.now c.args.disk.now c.args.lot.now in
+    let looked = c.dir_at.ensures.looked in
+    let number = c.in-Ok.dir.number in
+    let is = c.in-Ok.ensures.is s in
+    let size = ap (λ (i : Inode). i.size) (c.in-Ok.ensures.node_is s) in
+    let broken = c.in-Err-add_entries.ensures.broken number (looked.shows s)
+    (subst (λ (m : ℕ → List ℕ). c.dir_at.new.node ≡ inode_of m number) (sym looked.map) (c.in-Ok.ensures.node_is s))
+    (subst (λ (m : ℕ → List ℕ). IsReached f c.args.lot.now m number) (sym looked.map) (c.in-Ok.ensures.reached s)) (omega (arith, size, is.1)) in
+    fault-names (IsBroken f c.args.lot.now m) c.in-Err-add_entries.fault _ c.refusal_of.ensures
+    (subst (λ (m : ℕ → List ℕ). IsBrokenBy f c.args.lot.now m c.in-Err-add_entries.fault) looked.map broken) n named
