@@ -230,9 +230,11 @@ cut-room-by g lot ok v d w e count rest n few puts spent small =
       | false ↦ λ t. let short : cut_room count rest ≡ 6 = grind (arith, nat_tests) in let s = small (grind (arith, nat_tests)) in omega arith
     ] refl
 
-pub cut-run-more : (m : ℕ → List ℕ) (b : List ℕ) (inode : Inode) (count rest : ℕ) → 12 < rest → (12 < count → b ≡ m inode.single)
+-- where the map has no indirect block, or keeps it, just the run is cut off
+pub cut-run-whole : (m : ℕ → List ℕ) (b : List ℕ) (inode : Inode) (count rest : ℕ) → (count ≤ 12) ⊎ ((12 < count) × (12 < rest)) → (12 < count → b ≡ m inode.single)
     → cut_off m inode count rest ≡ blocks_between (λ _. b) inode rest count
-cut-run-more m b inode count rest h e = cut-more m inode count rest h ∙ same-run m b inode rest count e
+cut-run-whole m b inode count rest h e =
+    ⊎_elim (cut-direct m inode count rest) (λ k. cut-more m inode count rest k.1) h ∙ same-run m b inode rest count e
 
 pub cut-run-last : (m : ℕ → List ℕ) (b : List ℕ) (inode : Inode) (count rest : ℕ) → 12 < count → rest ≤ 12
     → (12 < count → b ≡ m inode.single) → cut_off m inode count rest ≡ blocks_between (λ _. b) inode rest count ++ inode.single ∷ []
@@ -268,11 +270,6 @@ pub shortened-none : (inode : Inode) (rest : ℕ) → rest ≤ 12 → (shortened
 shortened-none inode rest h = grind (arith, nat_tests)
 
 pub ruleset shortened_laws = (shortened-single, shortened-none)
-
--- where nothing but direct blocks is given back
-pub on-cut : (P : List ℕ → Type 0) (m : ℕ → List ℕ) (b : List ℕ) (inode : Inode) (count rest : ℕ) → count ≤ 12
-    → P (blocks_between (λ _. b) inode rest count) → P (cut_off m inode count rest)
-on-cut P m b inode count rest h p = subst P (sym (cut-direct m inode count rest h ∙ same-run m b inode rest count (λ n. absurd (omega arith)))) p
 
 -- the blocks that stay
 rest-stays : (m0 m1 : ℕ → List ℕ) (old : Inode) (rest : ℕ) → length old.direct ≡ 12 → (12 < rest → m1 old.single ≡ m0 old.single) → (k : ℕ)

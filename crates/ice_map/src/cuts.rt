@@ -77,88 +77,33 @@ fn give_between<D: Disk, K: Keep<D>, P: Pool<D, K>>(
     Ok(())
 }
 
-/// Reads the indirect block. Damaged: its address is no data place.
+/// Reads the indirect block where a map of `count` blocks has one. Damaged: its address is no data place.
 #[tactic(auto, using(ice_base::proofs::UsedLaws::group_laws, ice_base::proofs::LotLaws::address_laws))]
 fn read_indirect<D: Disk, V: View<D>>(
     view: &mut V,
     disk: &mut D,
     lot: &Lot,
     inode: &Inode,
+    count: u32,
     into: &mut Block,
 ) -> Result<(), OpFault>
     requires sited { is_sited lot.now (D.state disk.old).size ≡ true }
     // The block that it reads.
     ensures content { IfShown V.View lot.now view.old disk.old (λ old.
-        OnOk result (into.new ≡ old inode.now.single)) }
-    ensures data { OnOk result (is_data lot.now inode.now.single ≡ true) }
+        OnOk result (12 < count → into.new ≡ old inode.now.single)) }
+    ensures data { OnOk result (12 < count → is_data lot.now inode.now.single ≡ true) }
     // Damage that it names is there.
-    ensures pointer { IsErrOf result (Damaged Pointer) → is_data lot.now inode.now.single ≡ false }
+    ensures pointer { IsErrOf result (Damaged Pointer) → (12 < count) × (is_data lot.now inode.now.single ≡ false) }
     // What stays as it was, and which refusals there are.
     ensures looked { Looked D.Disk V.View lot.now view.old disk.old view.new disk.new }
     ensures faults { IfErr result IsLookFault }
     ensures failed { Caused D.state FaultDisk result disk.old disk.new }
 {
-    let single = checked(lot, inode.single)?;
-    fetch(view, disk, lot, single, into)
-}
-
-/// Gives back what a map past the direct blocks uses past its first `rest`.
-fn give_indirect<D: Disk, K: Keep<D>, P: Pool<D, K>>(
-    keep: &mut K,
-    pool: &mut P,
-    disk: &mut D,
-    lot: &Lot,
-    inode: &Inode,
-    count: u32,
-    rest: u32,
-) -> Result<(), OpFault>
-    // The lot lies on the disk, the keep can hold what is put, and the blocks are of one map.
-    requires sited { is_sited lot.now (D.state disk.old).size ≡ true }
-    requires order { rest < count }
-    requires long { 12 < count }
-    requires short { count ≤ longest }
-    requires room { cut_room count rest ≤ K.room keep.old }
-    // What was given back was marked free, and is all data places.
-    ensures gave { AsShown K.View lot.now keep.old disk.old keep.new disk.new (λ old new.
-        OnOk result (Marked lot.now false old new (cut_off old inode.now count rest))) }
-    ensures placed { IfShown K.View lot.now keep.old disk.old (λ old.
-        OnOk result ((b : ℕ) → has (cut_off old inode.now count rest) b ≡ true
-        → is_data lot.now b ≡ true)) }
-    // Which blocks it put, that the indirect block stays, and what the keep and the disk spent.
-    ensures puts { IfShown K.View lot.now keep.old disk.old (λ old.
-        Puts K.View lot.now (is_ok result) (given_puts (cut_off old inode.now count rest)) keep.old disk.old keep.new disk.new) }
-    ensures bitmaps { Puts K.View lot.now (is_ok result) (sub_address ∷ bitmaps (length lot.now.groups)) keep.old disk.old keep.new disk.new }
-    ensures single { OnOk result (K.map keep.new disk.new lot.now inode.now.single ≡ K.map keep.old disk.old lot.now inode.now.single) }
-    ensures spent { Spent D.Disk K.View lot.now (cut_room count rest) keep.old disk.old keep.new disk.new }
-    // Damage that it names is there.
-    ensures zero { IsErrOf result (Damaged Counts) → IfShown K.View lot.now keep.old disk.old (λ old.
-        counted false old < length (cut_off old inode.now count rest)) }
-    ensures unused { IsErrOf result (Damaged Bitmap) → IfShown K.View lot.now keep.old disk.old (λ old.
-        FreeOrTwice old (cut_off old inode.now count rest)) }
-    ensures single_placed { IsErrOf result (Damaged Bitmap) → 12 < count
-        → is_data lot.now inode.now.single ≡ true }
-    ensures misled { IsErrOf result (Damaged Pointer) → IfShown K.View lot.now keep.old disk.old (λ old.
-        Misleads lot.now old inode.now count) }
-    // Which refusals there are, and when a fault of the disk comes.
-    ensures faults { IfErr result IsCutFault }
-    ensures failed { Caused D.state FaultDisk result disk.old disk.new }
-{
-    let mut block = [0; 1024];
-    match read_indirect(keep, disk, lot, inode, &mut block) {
-        Ok(()) => {}
-        Err(fault) => return Err(fault),
-    }
-    match give_between(keep, pool, disk, lot, inode, &block, rest, count) {
-        Ok(()) => {}
-        Err(fault) => return Err(fault),
-    }
-    if rest > 12 {
+    if count <= 12 {
         return Ok(());
     }
-    match pool.give_block(keep, disk, lot, inode.single) {
-        Ok(()) => Ok(()),
-        Err(fault) => Err(fault),
-    }
+    let single = checked(lot, inode.single)?;
+    fetch(view, disk, lot, single, into)
 }
 
 fn clear_direct(direct: &mut [u32; 12], rest: u32)
@@ -182,56 +127,6 @@ fn shorten(inode: &mut Inode, rest: u32)
         inode.single = 0;
     }
     inode.double = 0;
-}
-
-/// Gives back what a map of `count` blocks uses past its first `rest`.
-fn give_rest<D: Disk, K: Keep<D>, P: Pool<D, K>>(
-    keep: &mut K,
-    pool: &mut P,
-    disk: &mut D,
-    lot: &Lot,
-    inode: &Inode,
-    count: u32,
-    rest: u32,
-) -> Result<(), OpFault>
-    // The lot lies on the disk, the keep can hold what is put, and the blocks are of one map.
-    requires sited { is_sited lot.now (D.state disk.old).size ≡ true }
-    requires order { rest ≤ count }
-    requires short { count ≤ longest }
-    requires room { cut_room count rest ≤ K.room keep.old }
-    // What was given back was marked free, and is all data places.
-    ensures gave { AsShown K.View lot.now keep.old disk.old keep.new disk.new (λ old new.
-        OnOk result (Marked lot.now false old new (cut_off old inode.now count rest))) }
-    ensures placed { IfShown K.View lot.now keep.old disk.old (λ old.
-        OnOk result ((b : ℕ) → has (cut_off old inode.now count rest) b ≡ true
-        → is_data lot.now b ≡ true)) }
-    // Which blocks it put, that the indirect block stays, and what the keep and the disk spent.
-    ensures puts { IfShown K.View lot.now keep.old disk.old (λ old.
-        Puts K.View lot.now (is_ok result) (given_puts (cut_off old inode.now count rest)) keep.old disk.old keep.new disk.new) }
-    ensures bitmaps { Puts K.View lot.now (is_ok result) (sub_address ∷ bitmaps (length lot.now.groups)) keep.old disk.old keep.new disk.new }
-    ensures single { OnOk result (12 < rest
-        → K.map keep.new disk.new lot.now inode.now.single ≡ K.map keep.old disk.old lot.now inode.now.single) }
-    ensures spent { Spent D.Disk K.View lot.now (cut_room count rest) keep.old disk.old keep.new disk.new }
-    // Damage that it names is there.
-    ensures zero { IsErrOf result (Damaged Counts) → IfShown K.View lot.now keep.old disk.old (λ old.
-        counted false old < length (cut_off old inode.now count rest)) }
-    ensures unused { IsErrOf result (Damaged Bitmap) → IfShown K.View lot.now keep.old disk.old (λ old.
-        FreeOrTwice old (cut_off old inode.now count rest)) }
-    ensures single_placed { IsErrOf result (Damaged Bitmap) → 12 < count
-        → is_data lot.now inode.now.single ≡ true }
-    ensures misled { IsErrOf result (Damaged Pointer) → IfShown K.View lot.now keep.old disk.old (λ old.
-        Misleads lot.now old inode.now count) }
-    // Which refusals there are, and when a fault of the disk comes.
-    ensures faults { IfErr result IsCutFault }
-    ensures failed { Caused D.state FaultDisk result disk.old disk.new }
-{
-    if rest == count {
-        return Ok(());
-    }
-    if count > 12 {
-        return give_indirect(keep, pool, disk, lot, inode, count, rest);
-    }
-    give_between(keep, pool, disk, lot, inode, &[0; 1024], rest, count)
 }
 
 /// Cuts a map of `count` blocks to its first `rest`. The others are given back, and with the last of its pointers the indirect block.
@@ -282,7 +177,24 @@ pub fn cut<D: Disk, K: Keep<D>, P: Pool<D, K>, F: Form>(
     ensures faults { IfErr result IsCutFault }
     ensures failed { Caused D.state FaultDisk result disk.old disk.new }
 {
-    match give_rest(keep, pool, disk, lot, inode, count, rest) {
+    if rest == count {
+        shorten(inode, rest);
+        return Ok(());
+    }
+    let mut block = [0; 1024];
+    match read_indirect(keep, disk, lot, inode, count, &mut block) {
+        Ok(()) => {}
+        Err(fault) => return Err(fault),
+    }
+    match give_between(keep, pool, disk, lot, inode, &block, rest, count) {
+        Ok(()) => {}
+        Err(fault) => return Err(fault),
+    }
+    if count <= 12 || rest > 12 {
+        shorten(inode, rest);
+        return Ok(());
+    }
+    match pool.give_block(keep, disk, lot, inode.single) {
         Ok(()) => {
             shorten(inode, rest);
             Ok(())
