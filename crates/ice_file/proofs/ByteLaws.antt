@@ -9,8 +9,8 @@ use Rattle.ice_map.specs.declared.codec.Inode.{Inode}
 use Rattle.ice_map.specs.Inodes.{inode_of}
 use Rattle.ice_map.specs.Maps.{nth_block}
 use Rattle.ice_map.proofs.ListLaws.{map_range_same, range-append}
-use Rattle.ice_map.proofs.OwnLaws.{own-short}
-use Rattle.ice_map.specs.Own.{Own, own, own_of, file_bytes, map_length, blocks_for}
+use Rattle.ice_map.proofs.OwnLaws.{own-at-short}
+use Rattle.ice_map.specs.Own.{Own, own, own_at, own_of, file_bytes, map_length, blocks_for}
 use Rattle.tree_spec.specs.Costs.{Form, form_one}
 use Rattle.ice_file.specs.Files.{byte_of, bytes_from}
 
@@ -71,15 +71,18 @@ file_byte m inode count i h =
     let below : i / 1024 < count = omega arith in
     ap (λ (x : List ℕ). slice_index x (i % 1024)) (mapped m (nth_block m inode) count (i / 1024) below)
 
--- the bytes of a file are the first of its blocks
+-- the bytes of a file whose inode is in hand are the first of its blocks
+all_bytes_at : (f : Form) → f ≡ form_one → (m : ℕ → List ℕ) (inode : Inode) → inode.kind ≡ 1 → file_bytes (own_at f m inode) ≡ bytes_from m inode 0 inode.size
+unfolding file_bytes
+all_bytes_at f one m inode k =
+    let count = file_length f inode k in
+    ap (λ (o : Own). map (λ i. slice_index (slice_index_or o.contents (i / 1024) []) (i % 1024)) (range_with_len 0 o.inode.size)) (own-at-short f one m inode)
+    ∙ map_range_same _ (byte_of m inode) 0 inode.size (λ i l h. file_byte m inode (map_length f inode) i (omega (arith, count)))
+
+-- and so are those of the file of a number
 pub all_bytes : (f : Form) → f ≡ form_one → (m : ℕ → List ℕ) (number : ℕ) → (inode_of m number).kind ≡ 1
     → file_bytes (own f m number) ≡ bytes_from m (inode_of m number) 0 (inode_of m number).size
-unfolding file_bytes
-all_bytes f one m number k =
-    let count = file_length f (inode_of m number) k in
-    ap (λ (o : Own). map (λ i. slice_index (slice_index_or o.contents (i / 1024) []) (i % 1024)) (range_with_len 0 o.inode.size)) (own-short f one m number)
-    ∙ map_range_same _ (byte_of m (inode_of m number)) 0 (inode_of m number).size
-    (λ i l h. file_byte m (inode_of m number) (map_length f (inode_of m number)) i (omega (arith, count)))
+all_bytes f one m number k = all_bytes_at f one m (inode_of m number) k
 
 -- some of them
 pub some_bytes : (m : ℕ → List ℕ) (inode : Inode) (size at len end : ℕ) → at ≤ size → end ≡ min size (at + len)
@@ -96,11 +99,9 @@ some_bytes m inode size at len end h e =
     ∙ sym (get_or-take len (drop at (bytes_from m inode 0 size)) j 0 (omega arith)))
 
 -- what a read gives
-pub read_bytes : (f : Form) → f ≡ form_one → (m : ℕ → List ℕ) (number at len end : ℕ) (inode : Inode) → inode ≡ inode_of m number
+pub read_bytes : (f : Form) → f ≡ form_one → (m : ℕ → List ℕ) (at len end : ℕ) (inode : Inode)
     → inode.kind ≡ 1 → at ≤ inode.size → end ≡ min inode.size (at + len)
-    → (held : List ℕ) (from : ℕ) → from ≡ end → held ≡ bytes_from m inode at (from - at) → held ≡ take len (drop at (file_bytes (own f m number)))
-read_bytes f one m number at len end inode is k h e held from e1 b =
-    let kind : (inode_of m number).kind ≡ 1 = ap (λ (x : Inode). x.kind) (sym is) ∙ k in
+    → (held : List ℕ) (from : ℕ) → from ≡ end → held ≡ bytes_from m inode at (from - at) → held ≡ take len (drop at (file_bytes (own_at f m inode)))
+read_bytes f one m at len end inode k h e held from e1 b =
     b ∙ ap (λ x. bytes_from m inode at (x - at)) e1 ∙ some_bytes m inode inode.size at len end h e
-    ∙ ap (λ (x : Inode). take len (drop at (bytes_from m x 0 x.size))) is
-    ∙ ap (λ (x : List ℕ). take len (drop at x)) (sym (all_bytes f one m number kind))
+    ∙ ap (λ (x : List ℕ). take len (drop at x)) (sym (all_bytes_at f one m inode k))

@@ -8,5 +8,5 @@ mod reads;
 mod writes;
 
 pub use cuts::cut_to;
-pub use reads::read_at;
+pub use reads::{read_at, read_in};
 pub use writes::write_at;

@@ -10,7 +10,7 @@ ghost use Rattle.ice_map.specs.Inodes.{inode_of};
 ghost use Rattle.ice_map.specs.Maps.{leads};
 ghost use Rattle.ice_file.specs.Files.{ReachesTo, bytes_from, IsReadFault};
 ghost use Rattle.tree_spec.specs.Held.{most_bytes};
-ghost use Rattle.ice_map.specs.Own.{own, file_bytes, WellMade};
+ghost use Rattle.ice_map.specs.Own.{own, own_at, file_bytes, WellMade};
 ghost use Rattle.tree_spec.specs.Costs.{form_of};
 
 use crate::inode::file_inode;
@@ -55,9 +55,48 @@ fn read_piece<D: Disk, V: View<D>, F: Form>(
     Ok(n)
 }
 
+/// Puts the bytes of a file whose inode is in hand from `at` on into the room: `len` of them, or as many as there are.
+/// After an `Err` any bytes may stand in the room. Damaged: a pointer to one of its blocks is no data place.
+#[tactic(auto, using(ice_map::proofs::SizeLaws::size_laws))]
+pub fn read_in<D: Disk, V: View<D>, F: Form>(
+    view: &mut V,
+    disk: &mut D,
+    lot: &Lot,
+    inode: &Inode,
+    at: u32,
+    len: u32,
+    room: &mut Room,
+) -> Result<(), OpFault>
+    // The lot lies on the disk, the inode is that of a file of at least `at` bytes, and the room is empty.
+    requires sited { is_sited lot.now (D.state disk.old).size ≡ true }
+    requires reaches { ReachesTo (form_of F.VERSION) at inode.now }
+    requires few { len ≤ most_bytes }
+    requires empty { room.old.bytes ≡ [] }
+    // What it puts into the room.
+    ensures bytes { IfShown V.View lot.now view.old disk.old (λ old.
+        OnOk result (room.new.bytes ≡ take len (drop at (file_bytes (own_at (form_of F.VERSION) old inode.now))))) }
+    ensures most { length room.new.bytes ≤ len }
+    // Damage that it names is there.
+    ensures pointer { IsErrOf result (Damaged Pointer) → IfShown V.View lot.now view.old disk.old (λ old.
+        (k : ℕ) × (1024 * k < inode.now.size) × (leads lot.now old inode.now k ≡ false)) }
+    // What stays as it was.
+    ensures entries { room.new.entries ≡ room.old.entries }
+    ensures rows { room.new.rows ≡ room.old.rows }
+    ensures looked { Looked D.Disk V.View lot.now view.old disk.old view.new disk.new }
+    // Which refusals there are, and when a fault comes.
+    ensures faults { IfErr result IsLookFault }
+    ensures failed { Caused D.state FaultDisk result disk.old disk.new }
+{
+    let end = inode.size.min(at + len);
+    let mut from = at;
+    while from < end {
+        from += read_piece::<D, V, F>(view, disk, lot, inode, from, end, room)?;
+    }
+    Ok(())
+}
+
 /// Puts the bytes of a file from `at` on into the room: `len` of them, or as many as there are.
 /// After an `Err` any bytes may stand in the room. Damaged: the inode is no file of at least `at` bytes, or a pointer to one of its blocks is no data place.
-#[tactic(auto, using(ice_map::proofs::SizeLaws::size_laws))]
 pub fn read_at<D: Disk, V: View<D>, F: Form>(
     view: &mut V,
     disk: &mut D,
@@ -90,10 +129,5 @@ pub fn read_at<D: Disk, V: View<D>, F: Form>(
     ensures failed { Caused D.state FaultDisk result disk.old disk.new }
 {
     let inode = file_inode::<D, V, F>(view, disk, lot, number, at)?;
-    let end = inode.size.min(at + len);
-    let mut from = at;
-    while from < end {
-        from += read_piece::<D, V, F>(view, disk, lot, &inode, from, end, room)?;
-    }
-    Ok(())
+    read_in::<D, V, F>(view, disk, lot, &inode, at, len, room)
 }

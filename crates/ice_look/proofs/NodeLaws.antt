@@ -8,6 +8,7 @@ use Rattle.ice_map.specs.Faults.{IsLookFault}
 use Rattle.ice_map.specs.declared.codec.Inode.{Inode}
 use Rattle.ice_map.specs.Inodes.{inode_of}
 use Rattle.ice_map.specs.Maps.{leads}
+use Rattle.ice_file.specs.Files.{IsReadFault}
 use Rattle.ice_dir.specs.Faults.{IsFindFault}
 use Rattle.ice_dir.specs.Rows.{look_up, rows_at, dir_rows_of, per_block, IsDirectory}
 use Rattle.tree_spec.specs.Costs.{Form}
@@ -19,7 +20,11 @@ use Rattle.ice_look.specs.Places.{NodeFits, NodeIs}
 pub find-fault : (e : OpFault) → IsLookFault e → IsFindFault e
 find-fault e h = grind arith
 
--- so it never says that the directory is none
+-- and so does a read of a file
+pub read-fault : (e : OpFault) → IsLookFault e → IsReadFault e
+read-fault e h = grind arith
+
+-- so neither says that the inode in hand is none of its kind
 pub not-kind : (e : OpFault) → IsLookFault e → e ≡ Damaged Kind → ⊥
 not-kind e h k = subst IsLookFault k h
 

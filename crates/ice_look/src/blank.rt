@@ -11,8 +11,8 @@ pub(crate) fn blank_name() -> Name {
     }
 }
 
-/// An inode for a walk to hand on.
-pub(crate) fn blank_inode() -> Inode {
+/// An inode for a walk to put those that it reads into.
+pub fn blank_inode() -> Inode {
     Inode {
         kind: 0,
         size: 0,

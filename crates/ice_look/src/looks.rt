@@ -25,7 +25,7 @@ use crate::fault::refusal_of;
 use crate::paths::check_path;
 use crate::place::{Place, walk};
 use ice_base::{Disk, Form, Lot, View};
-use ice_file::read_at;
+use ice_file::read_in;
 use ice_map::Inode;
 use tree_spec::{Path, Refusal, Reply, Room, Value};
 
@@ -36,13 +36,14 @@ pub struct FileAt {
     pub size: u32,
 }
 
-/// The file at a path's end. NotFound and NotDir: the walk ends so. IsDir: a directory stands there.
+/// The file at a path's end, whose inode goes into `node`. NotFound and NotDir: the walk ends so. IsDir: a directory stands there.
 pub fn file_at<D: Disk, V: View<D>, F: Form>(
     view: &mut V,
     disk: &mut D,
     lot: &Lot,
     path: &Path,
     depth: usize,
+    node: &mut Inode,
 ) -> Result<FileAt, Refusal>
     // The lot lies on the disk and has a group, and the path begins with the cube's names.
     requires sited { is_sited lot.now (D.state disk.old).size ≡ true }
@@ -56,6 +57,9 @@ pub fn file_at<D: Disk, V: View<D>, F: Form>(
     // What it answers of any lot, damaged or not.
     ensures fits { IfOk result (λ file. (file.number < 64 * length lot.now.groups)
         × (file.size ≤ form_one.longest_file)) }
+    ensures node { IfOk result (λ file. (node.new.kind ≡ 1) × (node.new.size ≡ file.size)) }
+    ensures node_is { IfShown V.View lot.now view.old disk.old (λ old.
+        IfOk result (λ file. node.new ≡ inode_of old file.number)) }
     ensures is { IfShown V.View lot.now view.old disk.old (λ old.
         IfOk result (λ file. PlaceIs old (AtFile file.number file.size))) }
     ensures reached { IfShown V.View lot.now view.old disk.old (λ old.
@@ -68,8 +72,7 @@ pub fn file_at<D: Disk, V: View<D>, F: Form>(
     ensures set { IfErr result (IsOneOf read_refusals look_rules) }
     ensures failed { Caused D.state Fault result disk.old disk.new }
 {
-    let mut node = blank_inode();
-    match walk::<D, V, F>(view, disk, lot, path, depth, path.len(), &mut node) {
+    match walk::<D, V, F>(view, disk, lot, path, depth, path.len(), node) {
         Ok(Place::File { number, size }) => Ok(FileAt { number, size }),
         Ok(Place::Dir { .. }) => Err(Refusal::IsDir),
         Ok(Place::Missing) => Err(Refusal::NotFound),
@@ -173,13 +176,14 @@ pub fn read<D: Disk, V: View<D>, F: Form>(
     if let Err(refusal) = check_path::<F>(path, depth) {
         return Err(refusal);
     }
-    match file_at::<D, V, F>(view, disk, lot, path, depth) {
+    let mut node = blank_inode();
+    match file_at::<D, V, F>(view, disk, lot, path, depth, &mut node) {
         Err(refusal) => Err(refusal),
         Ok(file) => {
             if at > file.size {
                 return Err(Refusal::BeyondEnd);
             }
-            match read_at::<D, V, F>(view, disk, lot, file.number, at, len, room) {
+            match read_in::<D, V, F>(view, disk, lot, &node, at, len, room) {
                 Ok(()) => Ok(Value::Bytes),
                 Err(fault) => Err(refusal_of(fault)),
             }

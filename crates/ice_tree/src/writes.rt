@@ -26,7 +26,7 @@ use crate::counts::count_up;
 use crate::quota::{Need, check_quota, file_cost};
 use ice_base::{Disk, Form, Keep, Lot, OpFault, Pool, View};
 use ice_file::{cut_to, write_at};
-use ice_look::{FileAt, check_path, file_at, refusal_of};
+use ice_look::{FileAt, blank_inode, check_path, file_at, refusal_of};
 use ice_map::longest_file;
 use tree_spec::{Path, Refusal};
 
@@ -91,7 +91,8 @@ fn reach_file<D: Disk, V: View<D>, F: Form>(
     if let Err(refusal) = check_path::<F>(path, depth) {
         return Err(refusal);
     }
-    match file_at::<D, V, F>(view, disk, lot, path, depth) {
+    let mut node = blank_inode();
+    match file_at::<D, V, F>(view, disk, lot, path, depth, &mut node) {
         Err(refusal) => Err(refusal),
         Ok(file) => {
             if at > file.size {

@@ -22,9 +22,9 @@ const CHANGES: [&[u8]; 6] = [
 ];
 
 /// A look of each kind, with its reads: on a walk one for each inode and one for the block of each directory; at its end, for a read of
-/// a file, its inode and its block, and for a listing the block and the inode of each of two entries.
+/// a file, one for its block, and for a listing the block and the inode of each of two entries.
 const LOOKS: [(&[u8], u64); 3] = [
-    (b"read /a/f 0 9", 5),
+    (b"read /a/f 0 9", 4),
     (b"list /a/e", 7),
     (b"stat /a/e/x", 5),
 ];
