@@ -124,6 +124,62 @@ fn append<D: Disk, K: Keep<D>, P: Pool<D, K>, F: Form>(
     Ok(())
 }
 
+/// Adds an entry at the end of a directory whose inode is in hand, which has none of this name, and room for one more.
+/// NoSpace: the directory's new block, with its indirect block, needs more blocks than are free.
+/// Damaged: the directory's map is not well made, the count of used blocks can't grow so far, or the least free block is no data place.
+#[tactic(auto, using(crate::proofs::SizeLaws::size_laws))]
+pub fn add_in<D: Disk, K: Keep<D>, P: Pool<D, K>, F: Form>(
+    keep: &mut K,
+    pool: &mut P,
+    disk: &mut D,
+    lot: &Lot,
+    number: u32,
+    dir: &Inode,
+    name: &Name,
+    inode: u32,
+) -> Result<(), OpFault>
+    // The lot lies on the disk, the keep has room, and the inode is a directory that can have one entry more.
+    requires sited { is_sited lot.now (D.state disk.old).size ≡ true }
+    requires number { number < 64 * length lot.now.groups }
+    requires inode { inode < 64 * length lot.now.groups }
+    requires fits { length name.now ≤ F.NAME }
+    requires room { 8 ≤ K.room keep.old }
+    requires is { HasEntryRoom lot.now dir.now }
+    // What it makes of a well-made directory, where the inode is that of the number.
+    ensures added { AsShown K.View lot.now keep.old disk.old keep.new disk.new (λ old new.
+        dir.now ≡ inode_of old number → WellMade lot.now (form_of F.VERSION) old number
+        → OnOk result (DirSet lot.now (form_of F.VERSION) old new number (dir_rows_of (form_of F.VERSION) old number ++ (name.now, inode) ∷ []))) }
+    ensures text { AsShown K.View lot.now keep.old disk.old keep.new disk.new (λ old new.
+        dir.now ≡ inode_of old number → WellMade lot.now (form_of F.VERSION) old number
+        → OnOk result (TextAdded (form_of F.VERSION) old new number (name.now, inode))) }
+    // Each refusal has its cause.
+    ensures none { IsErrOf result NoSpace → IfShown K.View lot.now keep.old disk.old (λ old.
+        FewFree lot.now (form_of F.VERSION) old dir.now.size) }
+    ensures full { IsErrOf result (Damaged Counts) → IfShown K.View lot.now keep.old disk.old (λ old.
+        CountFull (form_of F.VERSION) old dir.now.size) }
+    ensures unreserved { IsErrOf result (Damaged Bitmap)
+        → IfShown K.View lot.now keep.old disk.old (λ old. ¬ Reserved lot.now old) }
+    ensures misled { IsErrOf result (Damaged Pointer) → IfShown K.View lot.now keep.old disk.old (λ old.
+        Misleads lot.now old dir.now (entry_blocks (form_of F.VERSION) dir.now.size)) }
+    // What it spends of the keep, and what stays as it was.
+    ensures looked { IsErrOf result NoSpace
+        → Looked D.Disk K.View lot.now keep.old disk.old keep.new disk.new }
+    ensures unmoved { IsErrOf result (Damaged Pointer)
+        → Looked D.Disk K.View lot.now keep.old disk.old keep.new disk.new }
+    ensures sub { AsShown K.View lot.now keep.old disk.old keep.new disk.new (λ old new.
+        OnOk result (SameBeside (count_place false) 4 (old sub_address) (new sub_address))) }
+    ensures spent { Spent D.Disk K.View lot.now 8 keep.old disk.old keep.new disk.new }
+    // Which refusals there are, and when a fault comes.
+    ensures faults { IfErr result IsGrowFault }
+    ensures failed { Caused D.state FaultDisk result disk.old disk.new }
+{
+    let mut longer = *dir;
+    append::<D, K, P, F>(keep, pool, disk, lot, &mut longer, name.bytes(), inode)?;
+    longer.size += 1;
+    put_inode::<D, K, P, F>(keep, pool, disk, lot, number, &longer)?;
+    Ok(())
+}
+
 /// Adds an entry at the end of a directory, which has none of this name.
 /// NoSpace: the directory's new block, with its indirect block, needs more blocks than are free.
 /// Damaged: the inode is no directory that can have one entry more, its map is not well made, the count of used blocks
@@ -175,12 +231,9 @@ pub fn add<D: Disk, K: Keep<D>, P: Pool<D, K>, F: Form>(
     ensures faults { IfErr result IsAddFault }
     ensures failed { Caused D.state FaultDisk result disk.old disk.new }
 {
-    let mut dir = dir_inode::<D, K, F>(keep, disk, lot, number)?;
+    let dir = dir_inode::<D, K, F>(keep, disk, lot, number)?;
     if dir.size + 1 >= 64 * lot.len() as u32 {
         return Err(OpFault::Damaged(Rule::Kind));
     }
-    append::<D, K, P, F>(keep, pool, disk, lot, &mut dir, name.bytes(), inode)?;
-    dir.size += 1;
-    put_inode::<D, K, P, F>(keep, pool, disk, lot, number, &dir)?;
-    Ok(())
+    add_in::<D, K, P, F>(keep, pool, disk, lot, number, &dir, name, inode)
 }

@@ -6,6 +6,6 @@ mod looks;
 mod rows;
 mod takes;
 
-pub use adds::add;
+pub use adds::{add, add_in};
 pub use looks::{entry, entry_in, find, find_in, len};
-pub use takes::take;
+pub use takes::{take, take_in};

@@ -2,8 +2,9 @@
 ghost use Rattle.std.specs.Prelude.{◌≡◌, ◌≢◌, ◌≤◌, ◌<◌, ◌*◌, ◌+◌, ◌-◌, ◌/◌, ℕ, true, false, [], IsSome, IsNone, OnOk, OnErr, IfOk, IfErr, IsErrOf, length};
 ghost use Rattle.std.specs.List.{swap_remove, position_or_len};
 ghost use Rattle.ice_base.specs.Disk.{Caused};
+ghost use Rattle.ice_base.specs.Fields.{SameBeside};
 ghost use Rattle.ice_base.specs.Lots.{is_sited, sub_address};
-ghost use Rattle.ice_base.specs.Used.{is_data, counted};
+ghost use Rattle.ice_base.specs.Used.{is_data, count_place, counted};
 ghost use Rattle.ice_base.specs.Views.{Looked, Spent, AsShown, IfShown};
 ghost use Rattle.ice_base.specs.declared.fault.OpFault.TheVariants.{Disk as FaultDisk, Damaged};
 ghost use Rattle.ice_base.specs.declared.fault.Rule.{Rule};
@@ -70,45 +71,115 @@ fn remove_row<D: Disk, K: Keep<D>, P: Pool<D, K>, F: Form>(
     disk: &mut D,
     lot: &Lot,
     number: u32,
-    dir: Inode,
+    dir: &mut Inode,
     k: u32,
 ) -> Result<(), OpFault>
     requires sited { is_sited lot.now (D.state disk.old).size ≡ true }
     requires number { number < 64 * length lot.now.groups }
     requires room { 8 ≤ K.room keep.old }
-    requires is { IsDirectory lot.now dir }
-    requires below { k < dir.size }
+    requires is { IsDirectory lot.now dir.old }
+    requires below { k < dir.old.size }
     ensures removed { AsShown K.View lot.now keep.old disk.old keep.new disk.new (λ old new.
-        inode_of old number ≡ dir → WellMade lot.now (form_of F.VERSION) old number
+        inode_of old number ≡ dir.old → WellMade lot.now (form_of F.VERSION) old number
         → OnOk result (DirSet lot.now (form_of F.VERSION) old new number (swap_remove (dir_rows_of (form_of F.VERSION) old number) k ([], 0)))) }
     ensures texts { AsShown K.View lot.now keep.old disk.old keep.new disk.new (λ old new.
-        inode_of old number ≡ dir → WellMade lot.now (form_of F.VERSION) old number
+        inode_of old number ≡ dir.old → WellMade lot.now (form_of F.VERSION) old number
         → OnOk result (TextTaken (form_of F.VERSION) old new number k)) }
     ensures left { AsShown K.View lot.now keep.old disk.old keep.new disk.new (λ old new.
-        inode_of old number ≡ dir → OnOk result (EntryGone lot.now (form_of F.VERSION) old new number)) }
+        inode_of old number ≡ dir.old → OnOk result (EntryGone lot.now (form_of F.VERSION) old new number)) }
+    ensures hand { AsShown K.View lot.now keep.old disk.old keep.new disk.new (λ old new.
+        OnOk result (dir.new ≡ inode_of new number)) }
+    ensures is_dir { OnOk result (IsDirectory lot.now dir.new) }
+    ensures shorter { OnOk result (dir.new.size + 1 ≡ dir.old.size) }
+    ensures sub { AsShown K.View lot.now keep.old disk.old keep.new disk.new (λ old new.
+        OnOk result (SameBeside (count_place false) 4 (old sub_address) (new sub_address))) }
     ensures spent { Spent D.Disk K.View lot.now 8 keep.old disk.old keep.new disk.new }
     ensures zero { IsErrOf result (Damaged Counts) → IfShown K.View lot.now keep.old disk.old (λ old.
-        counted false old + uses_of (blocks_sized F.ENTRY (dir.size - 1)) < uses_of (blocks_sized F.ENTRY dir.size)) }
+        counted false old + uses_of (blocks_sized F.ENTRY (dir.old.size - 1)) < uses_of (blocks_sized F.ENTRY dir.old.size)) }
     ensures unused { IsErrOf result (Damaged Bitmap) → IfShown K.View lot.now keep.old disk.old (λ old.
-        FreeOrTwice old (uses old dir (blocks_sized F.ENTRY dir.size))) }
+        FreeOrTwice old (uses old dir.old (blocks_sized F.ENTRY dir.old.size))) }
     ensures kept { (rule : Rule) → IsErrOf result (Damaged rule)
         → AsShown K.View lot.now keep.old disk.old keep.new disk.new (λ old new.
         inode_of new number ≡ inode_of old number) }
     ensures misled { IsErrOf result (Damaged Pointer) → IfShown K.View lot.now keep.old disk.old (λ old.
-        Confuses lot.now old dir (blocks_sized F.ENTRY dir.size)) }
+        Confuses lot.now old dir.old (blocks_sized F.ENTRY dir.old.size)) }
     ensures faults { IfErr result IsCutFault }
     ensures failed { Caused D.state FaultDisk result disk.old disk.new }
 {
     let _groups = lot.len();
-    move_last::<D, K, F>(keep, disk, lot, &dir, k)?;
+    move_last::<D, K, F>(keep, disk, lot, dir, k)?;
     let last = dir.size - 1;
     let count = blocks_for_rows::<F>(dir.size);
     let rest = blocks_for_rows::<F>(last);
-    let mut shorter = dir;
-    cut::<D, K, P, F>(keep, pool, disk, lot, &mut shorter, count, rest)?;
-    shorter.size = last;
-    put_inode::<D, K, P, F>(keep, pool, disk, lot, number, &shorter)?;
+    cut::<D, K, P, F>(keep, pool, disk, lot, dir, count, rest)?;
+    dir.size = last;
+    put_inode::<D, K, P, F>(keep, pool, disk, lot, number, dir)?;
     Ok(())
+}
+
+/// Takes the entry of a name from a directory whose inode is in hand and answers the entry's inode, None exactly where no entry has the name: then nothing is put.
+/// The last entry moves into the gap, and a block that becomes empty is given back. The inode in hand becomes the directory's new one.
+/// Damaged: the directory's map is not well made, or the count of used blocks is too low.
+#[tactic(auto, using(crate::proofs::SizeLaws::size_laws))]
+pub fn take_in<D: Disk, K: Keep<D>, P: Pool<D, K>, F: Form>(
+    keep: &mut K,
+    pool: &mut P,
+    disk: &mut D,
+    lot: &Lot,
+    number: u32,
+    dir: &mut Inode,
+    name: &Name,
+) -> Result<Option<u32>, OpFault>
+    // The lot lies on the disk, the keep has room, and the inode is a directory.
+    requires sited { is_sited lot.now (D.state disk.old).size ≡ true }
+    requires number { number < 64 * length lot.now.groups }
+    requires room { 8 ≤ K.room keep.old }
+    requires is { IsDirectory lot.now dir.old }
+    // What it answers, and what it makes of the directory, where the inode is that of the number.
+    ensures found { IfShown K.View lot.now keep.old disk.old (λ old.
+        dir.old ≡ inode_of old number → IfOk result (λ o. o ≡ look_up name.now (dir_rows_of (form_of F.VERSION) old number))) }
+    ensures taken { AsShown K.View lot.now keep.old disk.old keep.new disk.new (λ old new.
+        dir.old ≡ inode_of old number → WellMade lot.now (form_of F.VERSION) old number
+        → IfOk result (λ o. IsSome o
+        → DirSet lot.now (form_of F.VERSION) old new number (rows_without name.now (dir_rows_of (form_of F.VERSION) old number)))) }
+    ensures texts { AsShown K.View lot.now keep.old disk.old keep.new disk.new (λ old new.
+        dir.old ≡ inode_of old number → WellMade lot.now (form_of F.VERSION) old number
+        → IfOk result (λ o. IsSome o
+        → TextTaken (form_of F.VERSION) old new number (position_or_len (named name.now) (dir_rows_of (form_of F.VERSION) old number)))) }
+    ensures left { AsShown K.View lot.now keep.old disk.old keep.new disk.new (λ old new.
+        dir.old ≡ inode_of old number → IfOk result (λ o. IsSome o → EntryGone lot.now (form_of F.VERSION) old new number)) }
+    ensures absent { IfOk result (λ o. IsNone o
+        → Looked D.Disk K.View lot.now keep.old disk.old keep.new disk.new) }
+    // The inode in hand, behind an `Ok`.
+    ensures hand { AsShown K.View lot.now keep.old disk.old keep.new disk.new (λ old new.
+        dir.old ≡ inode_of old number → OnOk result (dir.new ≡ inode_of new number)) }
+    ensures is_dir { OnOk result (IsDirectory lot.now dir.new) }
+    ensures shorter { IfOk result (λ o. IsSome o → dir.new.size + 1 ≡ dir.old.size) }
+    // Each refusal has its cause.
+    ensures zero { IsErrOf result (Damaged Counts) → IfShown K.View lot.now keep.old disk.old (λ old.
+        CountLow (form_of F.VERSION) old dir.old.size) }
+    ensures unused { IsErrOf result (Damaged Bitmap) → IfShown K.View lot.now keep.old disk.old (λ old.
+        FreeOrTwice old (uses old dir.old (entry_blocks (form_of F.VERSION) dir.old.size))) }
+    ensures misled { IsErrOf result (Damaged Pointer) → IfShown K.View lot.now keep.old disk.old (λ old.
+        Confuses lot.now old dir.old (entry_blocks (form_of F.VERSION) dir.old.size)) }
+    // What it spends of the keep, and what stays as it was.
+    ensures kept { (rule : Rule) → IsErrOf result (Damaged rule)
+        → AsShown K.View lot.now keep.old disk.old keep.new disk.new (λ old new.
+        inode_of new number ≡ inode_of old number) }
+    ensures sub { AsShown K.View lot.now keep.old disk.old keep.new disk.new (λ old new.
+        OnOk result (SameBeside (count_place false) 4 (old sub_address) (new sub_address))) }
+    ensures spent { Spent D.Disk K.View lot.now 8 keep.old disk.old keep.new disk.new }
+    // Which refusals there are, and when a fault comes.
+    ensures faults { IfErr result IsCutFault }
+    ensures failed { Caused D.state FaultDisk result disk.old disk.new }
+{
+    match seek::<D, K, F>(keep, disk, lot, dir, name.bytes())? {
+        None => Ok(None),
+        Some((k, inode)) => {
+            remove_row::<D, K, P, F>(keep, pool, disk, lot, number, dir, k)?;
+            Ok(Some(inode))
+        }
+    }
 }
 
 /// Takes the entry of a name and answers its inode, None exactly where no entry has the name: then nothing is put.
@@ -161,12 +232,6 @@ pub fn take<D: Disk, K: Keep<D>, P: Pool<D, K>, F: Form>(
     ensures faults { IfErr result IsRemovalFault }
     ensures failed { Caused D.state FaultDisk result disk.old disk.new }
 {
-    let dir = dir_inode::<D, K, F>(keep, disk, lot, number)?;
-    match seek::<D, K, F>(keep, disk, lot, &dir, name.bytes())? {
-        None => Ok(None),
-        Some((k, inode)) => {
-            remove_row::<D, K, P, F>(keep, pool, disk, lot, number, dir, k)?;
-            Ok(Some(inode))
-        }
-    }
+    let mut dir = dir_inode::<D, K, F>(keep, disk, lot, number)?;
+    take_in::<D, K, P, F>(keep, pool, disk, lot, number, &mut dir, name)
 }

@@ -5,7 +5,7 @@ use Rattle.ice_base.specs.Lots.{LotView}
 use Rattle.ice_base.specs.Inodes.{inode_address}
 use Rattle.ice_map.specs.declared.codec.Inode.{Inode}
 use Rattle.ice_map.specs.Inodes.{inode_of, InodeSet}
-use Rattle.ice_map.specs.Maps.{leads, cut_off, shortened, Stays, Cut, FreeOrTwice}
+use Rattle.ice_map.specs.Maps.{leads, cut_off, shortened, Stays, Cut}
 use Rattle.tree_spec.specs.Costs.{Form, form_one}
 use Rattle.ice_map.proofs.OwnLaws.{made-short}
 use Rattle.ice_map.specs.Own.{own, file_bytes, map_length, blocks_for, MadeOf, WellMade}
@@ -27,48 +27,37 @@ made-file lot m m0 x f one number e is kind made =
     (subst (λ c. MadeOf lot m x c) (file_length f x kind)
     (subst (λ (i : Inode). MadeOf lot m i (map_length f i)) (sym is) (made-short lot f one m number made)))
 
-pub write-all : (lot : LotView) (m m0 m1 m2 : ℕ → List ℕ) (x y : Inode) (f : Form) → f ≡ form_one → (number at s : ℕ) (bytes : List ℕ)
-    → m0 ≡ m → x ≡ inode_of m number → ReachesTo f at x
-    → Written lot m0 m1 x y (blocks_for x.size) (blocks_with x.size (at + length bytes)) at (at + length bytes) bytes
+-- a file in hand was written
+pub write-all : (lot : LotView) (m m1 m2 : ℕ → List ℕ) (x y : Inode) (f : Form) → f ≡ form_one → (number at s : ℕ) (bytes : List ℕ)
+    → x ≡ inode_of m number → ReachesTo f at x
+    → Written lot m m1 x y (blocks_for x.size) (blocks_with x.size (at + length bytes)) at (at + length bytes) bytes
     → s ≡ max y.size (at + length bytes) → InodeSet m1 m2 number (resized y s) → ((b : ℕ) → b ≢ inode_address number → m2 b ≡ m1 b)
     → FileSet lot f m m2 number (overwritten (file_bytes (own f m number)) at bytes)
-write-all lot m m0 m1 m2 x y f one number at s bytes e is r w long set only =
-    file-written lot m m1 m2 x y f one number at bytes (sym is) r.kind r.reaches
-    (subst (λ (n : ℕ → List ℕ). Written lot n m1 x y (blocks_for x.size) (blocks_with x.size (at + length bytes)) at (at + length bytes) bytes) e w)
+write-all lot m m1 m2 x y f one number at s bytes is r w long set only =
+    file-written lot m m1 m2 x y f one number at bytes (sym is) r.kind r.reaches w
     (subst (λ n. InodeSet m1 m2 number (resized y n)) (long ∙ ap (λ n. max n (at + length bytes)) w.moved.size) set) only
 
-pub cut-all : (lot : LotView) (m m0 m1 m2 : ℕ → List ℕ) (x y : Inode) (f : Form) → f ≡ form_one → (number len count rest : ℕ) → m0 ≡ m
+-- a file in hand was cut
+pub cut-all : (lot : LotView) (m m1 m2 : ℕ → List ℕ) (x y : Inode) (f : Form) → f ≡ form_one → (number len count rest : ℕ)
     → x ≡ inode_of m number → ReachesTo f len x → count ≡ blocks_for x.size → rest ≡ blocks_for len
-    → Cut lot m0 m1 x y count rest → Stays lot m0 m1 [] → y ≡ shortened x rest
+    → Cut lot m m1 x y count rest → Stays lot m m1 [] → y ≡ shortened x rest
     → InodeSet m1 m2 number (resized y len) → ((b : ℕ) → b ≢ inode_address number → m2 b ≡ m1 b) → WellMade lot f m number
     → FileSet lot f m m2 number (take len (file_bytes (own f m number)))
-cut-all lot m m0 m1 m2 x y f one number len count rest e is r n o was stay fields set only made =
+cut-all lot m m1 m2 x y f one number len count rest is r n o was stay fields set only made =
     let order = count-less len x.size r.reaches in
-    let was' = subst (λ (z : ℕ → List ℕ). Cut lot z m1 x y (blocks_for x.size) (blocks_for len)) e
-    (subst (λ k. Cut lot m0 m1 x y (blocks_for x.size) k) o (subst (λ k. Cut lot m0 m1 x y k rest) n was)) in
-    let stay' = subst (λ (z : ℕ → List ℕ). Stays lot z m1 []) e stay in
+    let was' = subst (λ k. Cut lot m m1 x y (blocks_for x.size) k) o (subst (λ k. Cut lot m m1 x y k rest) n was) in
     let fields' = fields ∙ ap (shortened x) o in
     let made' = made-file lot m m x f one number refl is r.kind made in
     file-cut lot m m1 m2 x y f one number len (sym is) r.kind r.reaches
-    (cut-moved lot m m1 x y (blocks_for x.size) (blocks_for len) made' order was' stay' fields')
-    (cut-contents lot m m1 x y (blocks_for x.size) (blocks_for len) made' order was' stay' fields') set only
+    (cut-moved lot m m1 x y (blocks_for x.size) (blocks_for len) made' order was' stay fields')
+    (cut-contents lot m m1 x y (blocks_for x.size) (blocks_for len) made' order was' stay fields') set only
 
--- what a cut loses, said of the inode of a number
-pub cut-loses : (m m0 : ℕ → List ℕ) (x : Inode) (number len count rest : ℕ) → m0 ≡ m → x ≡ inode_of m number → count ≡ blocks_for x.size → rest ≡ blocks_for len
-    → FreeOrTwice m0 (cut_off m0 x count rest) → FreeOrTwice m (cut_off m (inode_of m number) (blocks_for (inode_of m number).size) (blocks_for len))
-cut-loses m m0 x number len count rest e is n o f =
-    subst (λ (i : Inode). FreeOrTwice m (cut_off m i (blocks_for i.size) (blocks_for len))) is
-    (subst (λ k. FreeOrTwice m (cut_off m x (blocks_for x.size) k)) o
-    (subst (λ k. FreeOrTwice m (cut_off m x k rest)) n (subst (λ (z : ℕ → List ℕ). FreeOrTwice z (cut_off z x count rest)) e f)))
-
--- and how many blocks
-pub cut-most : (m m0 : ℕ → List ℕ) (x : Inode) (f : Form) (number len count rest : ℕ) → x ≡ inode_of m number → ReachesTo f len x
-    → count ≡ blocks_for x.size → rest ≡ blocks_for len
-    → uses_of (blocks_for (inode_of m number).size) ≡ uses_of (blocks_for len) + length (cut_off m0 x count rest)
-cut-most m m0 x f number len count rest is r n o =
+-- how many blocks a cut gives back
+pub cut-most : (m : ℕ → List ℕ) (x : Inode) (f : Form) (len count rest : ℕ) → ReachesTo f len x → count ≡ blocks_for x.size → rest ≡ blocks_for len
+    → uses_of (blocks_for x.size) ≡ uses_of (blocks_for len) + length (cut_off m x count rest)
+cut-most m x f len count rest r n o =
     let order = count-less len x.size r.reaches in
-    let l = length-cut_off m0 x count rest (omega arith) in
-    let s = ap (λ (i : Inode). uses_of (blocks_for i.size)) is in
+    let l = length-cut_off m x count rest (omega arith) in
     let t = ap uses_of n in
     let u = ap uses_of o in
     omega arith

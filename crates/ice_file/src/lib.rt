@@ -7,6 +7,6 @@ mod pieces;
 mod reads;
 mod writes;
 
-pub use cuts::cut_to;
+pub use cuts::{cut_in, cut_to};
 pub use reads::{read_at, read_in};
-pub use writes::write_at;
+pub use writes::{write_at, write_in};

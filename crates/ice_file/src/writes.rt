@@ -80,6 +80,58 @@ fn write_blocks<D: Disk, K: Keep<D>, P: Pool<D, K>, F: Form>(
     Ok(())
 }
 
+/// Puts the bytes into a file whose inode is in hand from `at` on: they replace those that stand there, and those past the end extend it.
+/// After a fault the blocks of the file may hold part of them. NoSpace: fewer blocks are free than the file needs.
+/// Damaged: what a growth or a look at the blocks says.
+#[tactic(auto, using(ice_map::proofs::SizeLaws::size_laws))]
+pub fn write_in<D: Disk, K: Keep<D>, P: Pool<D, K>, F: Form>(
+    keep: &mut K,
+    pool: &mut P,
+    disk: &mut D,
+    lot: &Lot,
+    number: u32,
+    inode: &Inode,
+    at: u32,
+    bytes: &[u8],
+) -> Result<(), OpFault>
+    // The lot lies on the disk, the keep has room, and the inode is a file of at least `at` bytes.
+    requires sited { is_sited lot.now (D.state disk.old).size ≡ true }
+    requires number { number < 64 * length lot.now.groups }
+    requires room { 48 ≤ K.room keep.old }
+    requires few { length bytes.now ≤ most_bytes }
+    requires short { at + length bytes.now ≤ (form_of F.VERSION).longest_file }
+    requires reaches { ReachesTo (form_of F.VERSION) at inode.now }
+    // What it makes of a well-made file, where the inode is that of the number.
+    ensures written { AsShown K.View lot.now keep.old disk.old keep.new disk.new (λ old new.
+        inode.now ≡ inode_of old number → WellMade lot.now (form_of F.VERSION) old number
+        → OnOk result (FileSet lot.now (form_of F.VERSION) old new number (overwritten (file_bytes (own (form_of F.VERSION) old number)) at bytes.now))) }
+    // Each refusal has its cause.
+    ensures none { IsErrOf result NoSpace → IfShown K.View lot.now keep.old disk.old (λ old.
+        FewFree lot.now old inode.now.size (at + length bytes.now)) }
+    ensures full { IsErrOf result (Damaged Counts) → IfShown K.View lot.now keep.old disk.old (λ old.
+        CountFull old inode.now.size (at + length bytes.now)) }
+    ensures unreserved { IsErrOf result (Damaged Bitmap)
+        → IfShown K.View lot.now keep.old disk.old (λ old. ¬ Reserved lot.now old) }
+    ensures misled { IsErrOf result (Damaged Pointer) → IfShown K.View lot.now keep.old disk.old (λ old.
+        Confuses lot.now old inode.now (blocks_for inode.now.size)) }
+    // What it spends of the keep, and what stays as it was.
+    ensures kept { (rule : Rule) → IsErrOf result (Damaged rule)
+        → AsShown K.View lot.now keep.old disk.old keep.new disk.new (λ old new.
+        inode_of new number ≡ inode_of old number) }
+    ensures sub { AsShown K.View lot.now keep.old disk.old keep.new disk.new (λ old new.
+        OnOk result (SameBeside (count_place false) 4 (old sub_address) (new sub_address))) }
+    ensures spent { Spent D.Disk K.View lot.now 48 keep.old disk.old keep.new disk.new }
+    // Which refusals there are, and when a fault comes.
+    ensures faults { IfErr result IsGrowFault }
+    ensures failed { Caused D.state FaultDisk result disk.old disk.new }
+{
+    let mut grown = *inode;
+    write_blocks::<D, K, P, F>(keep, pool, disk, lot, &mut grown, at, bytes)?;
+    grown.size = grown.size.max(at + bytes.len() as u32);
+    put_inode::<D, K, P, F>(keep, pool, disk, lot, number, &grown)?;
+    Ok(())
+}
+
 /// Puts the bytes into a file from `at` on: they replace those that stand there, and those past the end extend it.
 /// After a fault the blocks of the file may hold part of them. NoSpace: fewer blocks are free than the file needs.
 /// Damaged: the inode is no file of at least `at` bytes, or what a growth or a look at the blocks says.
@@ -126,9 +178,6 @@ pub fn write_at<D: Disk, K: Keep<D>, P: Pool<D, K>, F: Form>(
     ensures faults { IfErr result IsWriteFault }
     ensures failed { Caused D.state FaultDisk result disk.old disk.new }
 {
-    let mut inode = file_inode::<D, K, F>(keep, disk, lot, number, at)?;
-    write_blocks::<D, K, P, F>(keep, pool, disk, lot, &mut inode, at, bytes)?;
-    inode.size = inode.size.max(at + bytes.len() as u32);
-    put_inode::<D, K, P, F>(keep, pool, disk, lot, number, &inode)?;
-    Ok(())
+    let inode = file_inode::<D, K, F>(keep, disk, lot, number, at)?;
+    write_in::<D, K, P, F>(keep, pool, disk, lot, number, &inode, at, bytes)
 }

@@ -3,6 +3,7 @@ use Rattle.std.proofs.Common.{◌≡◌, ◌≤◌, ◌+◌, ◌-◌, ℕ, List,
 use Rattle.std.proofs.lemmas.List.{take_all, length-drop, nil_from_length}
 use Rattle.tree_spec.specs.Trees.{Tree, parent, last_name}
 use Rattle.tree_spec.specs.Costs.{Form}
+use Rattle.ice_map.specs.declared.codec.Inode.{Inode}
 use Rattle.ice_reads.specs.Tables.{Table}
 use Rattle.ice_look.specs.Ends.{IsEnds}
 use Rattle.ice_look.specs.Places.{place_at}
@@ -28,9 +29,9 @@ parent-more (d ∷ e ∷ names) c = ap (λ q. d ∷ q) (parent-more (e ∷ names
 
 module _ (f : Form) (o : Table) (t : Tree) where
   -- of the root both are the root
-  pub ends-root : (path : List (List ℕ)) (depth n : ℕ) (root : Place) → length path ≡ depth
-      → root ≡ place_at f o (take n (drop depth path)) t → IsEnds f o (drop depth path) t (record { parent = root; end = root })
-  ends-root path depth n root e is =
+  pub ends-root : (path : List (List ℕ)) (depth n : ℕ) (root : Place) (node : Inode) → length path ≡ depth
+      → root ≡ place_at f o (take n (drop depth path)) t → IsEnds f o (drop depth path) t (record { parent = root; end = root; above = node; node = node })
+  ends-root path depth n root node e is =
       let long = length-drop depth path in
       let none : drop depth path ≡ [] = nil_from_length (drop depth path) (omega arith) in
       let all : take n (drop depth path) ≡ drop depth path = take_all n (drop depth path) (omega arith) in
@@ -40,9 +41,9 @@ module _ (f : Form) (o : Table) (t : Tree) where
       }
 
   -- of any other path
-  pub ends-more : (names whole : List (List ℕ)) (c : List ℕ) (p e : Place) → whole ≡ names ++ c ∷ [] → p ≡ place_at f o names t
-      → e ≡ place_at f o (names ++ c ∷ []) t → IsEnds f o whole t (record { parent = p; end = e })
-  ends-more names whole c p e is at_p at_e = record {
+  pub ends-more : (names whole : List (List ℕ)) (c : List ℕ) (p e : Place) (above node : Inode) → whole ≡ names ++ c ∷ [] → p ≡ place_at f o names t
+      → e ≡ place_at f o (names ++ c ∷ []) t → IsEnds f o whole t (record { parent = p; end = e; above = above; node = node })
+  ends-more names whole c p e above node is at_p at_e = record {
     at_parent = at_p ∙ ap (λ ns. place_at f o ns t) (sym (ap parent is ∙ parent-more names c));
     at_end = at_e ∙ ap (λ ns. place_at f o ns t) (sym is);
   }

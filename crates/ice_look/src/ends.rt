@@ -14,16 +14,20 @@ ghost use Rattle.ice_look.specs.Places.{PlaceNamed, IsWalkFault};
 ghost use Rattle.ice_look.specs.Stages.{paths_refusal};
 ghost use Rattle.ice_look.specs.Calls.{IfRecovers, FailsByDiskAlone};
 
-use crate::blank::blank_inode;
 use crate::place::{Place, step, walk};
 use ice_base::{Disk, Form, Lot, OpFault, View};
+use ice_map::Inode;
 use tree_spec::{Name, Path};
 
-/// The places where the walks to a path's directory and to the path itself end. Those of the root are the root.
+/// The places where the walks to a path's directory and to the path itself end, with their inodes. Those of the root are the root.
 #[derive(Clone, Copy, Drop)]
 pub struct Ends {
     pub parent: Place,
     pub end: Place,
+    /// The inode of the first, where something stands there.
+    pub above: Inode,
+    /// That of the second.
+    pub node: Inode,
 }
 
 /// The last name of a path.
@@ -72,17 +76,25 @@ pub fn find_ends<D: Disk, V: View<D>, F: Form>(
     ensures faults { IfErr result IsWalkFault }
     ensures failed { Caused D.state FaultDisk result disk.old disk.new }
 {
-    let mut node = blank_inode();
+    let mut node = Inode::empty(0);
     if path.len() == depth {
         let root = walk::<D, V, F>(view, disk, lot, path, depth, depth, &mut node)?;
         return Ok(Ends {
             parent: root,
             end: root,
+            above: node,
+            node,
         });
     }
     let last = path.len() - 1;
     let parent = walk::<D, V, F>(view, disk, lot, path, depth, last, &mut node)?;
+    let above = node;
     let name = path.name(last);
     let end = step::<D, V, F>(view, disk, lot, parent, &name, &mut node)?;
-    Ok(Ends { parent, end })
+    Ok(Ends {
+        parent,
+        end,
+        above,
+        node,
+    })
 }

@@ -15,10 +15,11 @@ ghost use Rattle.ice_look.specs.Heights.{IsEntry, IsChild, IsHeightFault};
 ghost use Rattle.ice_look.specs.Places.{IsReached, PlaceFits, PlaceIs, PlaceReached, place_by};
 ghost use Rattle.ice_look.specs.Calls.{FailsByDisk, ReadsIn};
 
-use crate::blank::{blank_inode, blank_name};
+use crate::blank::blank_name;
 use crate::place::{Place, enter};
 use ice_base::{Disk, Form, Lot, OpFault, Rule, View};
 use ice_dir::entry;
+use ice_map::Inode;
 
 /// The place of the inode that entry `k` of a directory names.
 fn entry_place<D: Disk, V: View<D>, F: Form>(
@@ -56,7 +57,7 @@ fn entry_place<D: Disk, V: View<D>, F: Form>(
 {
     let mut name = blank_name();
     let inode = entry::<D, V, F>(view, disk, lot, number, k, &mut name)?;
-    let mut node = blank_inode();
+    let mut node = Inode::empty(0);
     enter::<D, V, F>(view, disk, lot, inode, &mut node)
 }
 

@@ -11,7 +11,6 @@ mod looks;
 mod paths;
 mod place;
 
-pub use blank::blank_inode;
 pub use ends::{Ends, find_ends, last_of};
 pub use fault::refusal_of;
 pub use heights::is_higher;

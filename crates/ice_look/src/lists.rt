@@ -22,7 +22,7 @@ ghost use Rattle.ice_look.specs.Outcomes.{IsOneOf, look_refusals, list_rules};
 ghost use Rattle.ice_look.specs.Places.{IsReached};
 ghost use Rattle.ice_look.specs.Calls.{AnswersAs, FailsByDisk, ReadsIn, RefusesPaths, Untouched, NamesBroken};
 
-use crate::blank::{blank_inode, blank_name};
+use crate::blank::blank_name;
 use crate::fault::refusal_of;
 use crate::looks::dir_at;
 use crate::paths::check_path;
@@ -73,7 +73,7 @@ fn add_entry<D: Disk, V: View<D>, F: Form>(
 {
     let mut name = blank_name();
     let next = entry_in::<D, V, F>(view, disk, lot, node, k, &mut name)?;
-    let mut child = blank_inode();
+    let mut child = Inode::empty(0);
     let place = enter_named::<D, V, F>(view, disk, lot, next, &mut child)?;
     let dir = matches!(place, Place::Dir { .. });
     room.add_entry(Entry { name, dir });
@@ -179,10 +179,9 @@ pub fn list<D: Disk, V: View<D>, F: Form>(
     if let Err(refusal) = check_path::<F>(path, depth) {
         return Err(refusal);
     }
-    let mut node = blank_inode();
-    match dir_at::<D, V, F>(view, disk, lot, path, depth, &mut node) {
+    match dir_at::<D, V, F>(view, disk, lot, path, depth) {
         Err(refusal) => Err(refusal),
-        Ok(dir) => match add_entries::<D, V, F>(view, disk, lot, &node, dir.entries, room) {
+        Ok(dir) => match add_entries::<D, V, F>(view, disk, lot, &dir.node, dir.entries, room) {
             Err(fault) => Err(refusal_of(fault)),
             Ok(()) => Ok(in_order(room)),
         },

@@ -20,7 +20,6 @@ ghost use Rattle.ice_look.specs.declared.place.Place.TheVariants.{File as AtFile
 ghost use Rattle.ice_look.specs.Ends.{IsDirAt, DirFits};
 ghost use Rattle.ice_look.specs.Calls.{IfRecovers, AnswersAs, inode_at, Finds, RefusesPaths, Untouched, NamesBroken};
 
-use crate::blank::blank_inode;
 use crate::fault::refusal_of;
 use crate::paths::check_path;
 use crate::place::{Place, walk};
@@ -29,21 +28,21 @@ use ice_file::read_in;
 use ice_map::Inode;
 use tree_spec::{Path, Refusal, Reply, Room, Value};
 
-/// The file at a path's end: the number of its inode, and its size in bytes.
+/// The file at a path's end: the number of its inode, its size in bytes, and the inode.
 #[derive(Clone, Copy, Drop)]
 pub struct FileAt {
     pub number: u32,
     pub size: u32,
+    pub node: Inode,
 }
 
-/// The file at a path's end, whose inode goes into `node`. NotFound and NotDir: the walk ends so. IsDir: a directory stands there.
+/// The file at a path's end. NotFound and NotDir: the walk ends so. IsDir: a directory stands there.
 pub fn file_at<D: Disk, V: View<D>, F: Form>(
     view: &mut V,
     disk: &mut D,
     lot: &Lot,
     path: &Path,
     depth: usize,
-    node: &mut Inode,
 ) -> Result<FileAt, Refusal>
     // The lot lies on the disk and has a group, and the path begins with the cube's names.
     requires sited { is_sited lot.now (D.state disk.old).size ≡ true }
@@ -57,9 +56,9 @@ pub fn file_at<D: Disk, V: View<D>, F: Form>(
     // What it answers of any lot, damaged or not.
     ensures fits { IfOk result (λ file. (file.number < 64 * length lot.now.groups)
         × (file.size ≤ form_one.longest_file)) }
-    ensures node { IfOk result (λ file. (node.new.kind ≡ 1) × (node.new.size ≡ file.size)) }
+    ensures node { IfOk result (λ file. (file.node.kind ≡ 1) × (file.node.size ≡ file.size)) }
     ensures node_is { IfShown V.View lot.now view.old disk.old (λ old.
-        IfOk result (λ file. node.new ≡ inode_of old file.number)) }
+        IfOk result (λ file. file.node ≡ inode_of old file.number)) }
     ensures is { IfShown V.View lot.now view.old disk.old (λ old.
         IfOk result (λ file. PlaceIs old (AtFile file.number file.size))) }
     ensures reached { IfShown V.View lot.now view.old disk.old (λ old.
@@ -72,8 +71,9 @@ pub fn file_at<D: Disk, V: View<D>, F: Form>(
     ensures set { IfErr result (IsOneOf read_refusals look_rules) }
     ensures failed { Caused D.state Fault result disk.old disk.new }
 {
-    match walk::<D, V, F>(view, disk, lot, path, depth, path.len(), node) {
-        Ok(Place::File { number, size }) => Ok(FileAt { number, size }),
+    let mut node = Inode::empty(0);
+    match walk::<D, V, F>(view, disk, lot, path, depth, path.len(), &mut node) {
+        Ok(Place::File { number, size }) => Ok(FileAt { number, size, node }),
         Ok(Place::Dir { .. }) => Err(Refusal::IsDir),
         Ok(Place::Missing) => Err(Refusal::NotFound),
         Ok(Place::Blocked) => Err(Refusal::NotDir),
@@ -81,21 +81,21 @@ pub fn file_at<D: Disk, V: View<D>, F: Form>(
     }
 }
 
-/// A directory at a path's end, or one in which an entry stands or is to stand: the number of its inode, and how many entries it has.
+/// A directory at a path's end, or one in which an entry stands or is to stand: the number of its inode, how many entries it has, and the inode.
 #[derive(Clone, Copy, Drop)]
 pub struct DirAt {
     pub number: u32,
     pub entries: u32,
+    pub node: Inode,
 }
 
-/// The directory at a path's end, whose inode goes into `node`. NotFound and NotDir: the walk ends so. NotDir: a file stands there.
+/// The directory at a path's end. NotFound and NotDir: the walk ends so. NotDir: a file stands there.
 pub(crate) fn dir_at<D: Disk, V: View<D>, F: Form>(
     view: &mut V,
     disk: &mut D,
     lot: &Lot,
     path: &Path,
     depth: usize,
-    node: &mut Inode,
 ) -> Result<DirAt, Refusal>
     // The lot lies on the disk and has a group, and the path begins with the cube's names.
     requires sited { is_sited lot.now (D.state disk.old).size ≡ true }
@@ -107,9 +107,8 @@ pub(crate) fn dir_at<D: Disk, V: View<D>, F: Form>(
         (drop depth path.now) t) (dir_refusal (walk (drop depth path.now) t)) result) }
     // What it answers of any lot, damaged or not.
     ensures fits { IfOk result (DirFits lot.now) }
-    ensures node { OnOk result (IsDirectory lot.now node.new) }
     ensures node_is { IfShown V.View lot.now view.old disk.old (λ old.
-        IfOk result (λ dir. node.new ≡ inode_of old dir.number)) }
+        IfOk result (λ dir. dir.node ≡ inode_of old dir.number)) }
     ensures is { IfShown V.View lot.now view.old disk.old (λ old.
         IfOk result (λ dir. PlaceIs old (AtDir dir.number dir.entries))) }
     ensures reached { IfShown V.View lot.now view.old disk.old (λ old.
@@ -122,10 +121,12 @@ pub(crate) fn dir_at<D: Disk, V: View<D>, F: Form>(
     ensures set { IfErr result (IsOneOf look_refusals look_rules) }
     ensures failed { Caused D.state Fault result disk.old disk.new }
 {
-    match walk::<D, V, F>(view, disk, lot, path, depth, path.len(), node) {
+    let mut node = Inode::empty(0);
+    match walk::<D, V, F>(view, disk, lot, path, depth, path.len(), &mut node) {
         Ok(Place::Dir { number, size }) => Ok(DirAt {
             number,
             entries: size,
+            node,
         }),
         Ok(Place::File { .. }) => Err(Refusal::NotDir),
         Ok(Place::Missing) => Err(Refusal::NotFound),
@@ -176,14 +177,13 @@ pub fn read<D: Disk, V: View<D>, F: Form>(
     if let Err(refusal) = check_path::<F>(path, depth) {
         return Err(refusal);
     }
-    let mut node = blank_inode();
-    match file_at::<D, V, F>(view, disk, lot, path, depth, &mut node) {
+    match file_at::<D, V, F>(view, disk, lot, path, depth) {
         Err(refusal) => Err(refusal),
         Ok(file) => {
             if at > file.size {
                 return Err(Refusal::BeyondEnd);
             }
-            match read_in::<D, V, F>(view, disk, lot, &node, at, len, room) {
+            match read_in::<D, V, F>(view, disk, lot, &file.node, at, len, room) {
                 Ok(()) => Ok(Value::Bytes),
                 Err(fault) => Err(refusal_of(fault)),
             }
@@ -223,7 +223,7 @@ pub fn stat<D: Disk, V: View<D>, F: Form>(
     if let Err(refusal) = check_path::<F>(path, depth) {
         return Err(refusal);
     }
-    let mut node = blank_inode();
+    let mut node = Inode::empty(0);
     match walk::<D, V, F>(view, disk, lot, path, depth, path.len(), &mut node) {
         Ok(Place::File { size, .. }) => Ok(Value::File(size)),
         Ok(Place::Dir { size, .. }) => Ok(Value::Dir(size)),

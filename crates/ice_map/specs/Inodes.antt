@@ -1,5 +1,5 @@
 -- Inodes as values.
-use Rattle.std.specs.Prelude.{◌≡◌, ◌≢◌, ◌≤◌, ◌<◌, ℕ, ◌+◌, ◌*◌, List, slice_index}
+use Rattle.std.specs.Prelude.{◌≡◌, ◌≢◌, ◌≤◌, ◌<◌, ℕ, ◌+◌, ◌*◌, List, slice_index, replicate}
 use Rattle.ice_base.specs.Fields.{SameBeside}
 use Rattle.ice_base.specs.Inodes.{inode_address, inode_index, kind_at, size_at, pointer, direct_of}
 use Rattle.ice_map.specs.declared.codec.Inode.{Inode}
@@ -13,6 +13,10 @@ inode_at block i = record {
   single = pointer block i 12;
   double = pointer block i 13;
 }
+
+-- an inode of a kind with nothing in it: no bytes, no entries, no blocks
+abbrev pub empty_inode : ℕ → Inode
+empty_inode kind = record { kind = kind; size = 0; direct = replicate 12 0; single = 0; double = 0 }
 
 -- the inode of a number, in a lot whose addresses hold this
 abbrev pub inode_of : (ℕ → List ℕ) → ℕ → Inode

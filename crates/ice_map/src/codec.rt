@@ -2,7 +2,7 @@
 ghost use Rattle.std.specs.Prelude.{◌≡◌, ◌≤◌, ◌<◌, ◌+◌, ◌*◌, ◌⊎◌, ℕ, length, slice_index};
 ghost use Rattle.ice_base.specs.Fields.{SameBeside};
 ghost use Rattle.ice_base.specs.Inodes.{pointer};
-ghost use Rattle.ice_map.specs.Inodes.{inode_at, Blank};
+ghost use Rattle.ice_map.specs.Inodes.{inode_at, empty_inode, Blank};
 
 use ice_base::{Block, read_u32, write_u32};
 
@@ -19,6 +19,21 @@ pub struct Inode {
     pub single: u32,
     /// 0 in version 1.
     pub double: u32,
+}
+
+impl Inode {
+    /// An inode of the kind with nothing in it.
+    pub fn empty(kind: u8) -> Inode
+        ensures { result ≡ empty_inode kind }
+    {
+        Inode {
+            kind,
+            size: 0,
+            direct: [0; 12],
+            single: 0,
+            double: 0,
+        }
+    }
 }
 
 fn read_direct(block: &Block, index: usize) -> [u32; 12]

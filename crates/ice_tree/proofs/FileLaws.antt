@@ -8,10 +8,13 @@ use Rattle.ice_base.specs.Lots.{LotView}
 use Rattle.ice_base.specs.Used.{counted, free_count, Reserved}
 use Rattle.ice_base.specs.declared.fault.OpFault.{OpFault}
 use Rattle.ice_base.specs.declared.fault.OpFault.TheVariants.{Disk, Damaged, NoSpace}
-use Rattle.ice_base.specs.declared.fault.Rule.TheVariants.{Counts, Kind, Pointer, Bitmap}
+use Rattle.ice_base.specs.declared.fault.Rule.TheVariants.{Counts, Pointer, Bitmap}
+use Rattle.ice_map.specs.Faults.{IsGrowFault, IsCutFault}
+use Rattle.ice_map.specs.declared.codec.Inode.{Inode}
 use Rattle.ice_map.specs.Inodes.{inode_of}
-use Rattle.ice_map.specs.Own.{own, file_bytes, blocks_for, WellMade}
-use Rattle.ice_file.specs.Files.{FileSet, ReachesTo, IsWriteFault, IsCutToFault, overwritten}
+use Rattle.ice_map.specs.Maps.{cut_off, FreeOrTwice, Misleads}
+use Rattle.ice_map.specs.Own.{own, file_bytes, blocks_for, WellMade, Confuses}
+use Rattle.ice_file.specs.Files.{FileSet, ReachesTo, overwritten}
 use Rattle.ice_map.specs.Moves.{uses_of}
 use Rattle.ice_file.specs.Writes.{blocks_with}
 use Rattle.tree_spec.specs.Why.{Why}
@@ -44,6 +47,7 @@ use Rattle.ice_tree.proofs.Chains.{refusal_write, refusal_trunc}
 use Rattle.ice_tree.proofs.SpotLaws.{chained}
 use Rattle.ice_look.proofs.LookLaws.{later_stage}
 use Rattle.ice_tree.proofs.StageLaws.{refused-now, refused-later}
+use Rattle.ice_tree.proofs.WellLaws.{file-confused, file-misled, file-free}
 
 abbrev Names : Type 0
 Names = List (List ℕ)
@@ -151,31 +155,29 @@ at-same (c ∷ p) g h (Dir es) s found same =
     ] refl found
 
 -- what was found before a look holds after it
-pub takes_at-after : (f : Form) (mode : ℕ) (lot : LotView) (m m' : Map) (t : Tree) (k : ℕ) (p : Names) (op : Operation) (number : ℕ)
-    → m' ≡ m → MapRecovers f mode lot m t k → number ≡ inode_on f (own f m) 0 p → refusal t k (length lot.groups) f op ≡ None
-    → TakesAt f mode lot m' t k p op number
-takes_at-after f mode lot m m' t k p op number same r is none =
-    subst (λ (x : Map). TakesAt f mode lot x t k p op number) (sym same) (record { recovers = r; number_is = is; accepted = none })
+pub takes_at-after : (f : Form) (mode : ℕ) (lot : LotView) (m m' : Map) (t : Tree) (k : ℕ) (p : Names) (op : Operation) (number : ℕ) (node : Inode)
+    → m' ≡ m → MapRecovers f mode lot m t k → number ≡ inode_on f (own f m) 0 p → node ≡ inode_of m number
+    → refusal t k (length lot.groups) f op ≡ None → TakesAt f mode lot m' t k p op number node
+takes_at-after f mode lot m m' t k p op number node same r is node_is none =
+    subst (λ (x : Map). TakesAt f mode lot x t k p op number node) (sym same) (record { recovers = r; number_is = is; node_is = node_is; accepted = none })
 
 -- ---- the calls below
 
-write-fails : (e : OpFault) → IsWriteFault e → (e ≡ NoSpace → ⊥) → (e ≡ Damaged Counts → ⊥) → (e ≡ Damaged Kind → ⊥)
+write-fails : (e : OpFault) → IsGrowFault e → (e ≡ NoSpace → ⊥) → (e ≡ Damaged Counts → ⊥)
     → (e ≡ Damaged Pointer → ⊥) → (e ≡ Damaged Bitmap → ⊥) → e ≡ Disk
-write-fails Disk h n c k p b = refl
-write-fails NoSpace h n c k p b = absurd (n refl)
-write-fails (Damaged Counts) h n c k p b = absurd (c refl)
-write-fails (Damaged Kind) h n c k p b = absurd (k refl)
-write-fails (Damaged Pointer) h n c k p b = absurd (p refl)
-write-fails (Damaged Bitmap) h n c k p b = absurd (b refl)
-write-fails _ h n c k p b = absurd h
+write-fails Disk h n c p b = refl
+write-fails NoSpace h n c p b = absurd (n refl)
+write-fails (Damaged Counts) h n c p b = absurd (c refl)
+write-fails (Damaged Pointer) h n c p b = absurd (p refl)
+write-fails (Damaged Bitmap) h n c p b = absurd (b refl)
+write-fails _ h n c p b = absurd h
 
-cut-fails : (e : OpFault) → IsCutToFault e → (e ≡ Damaged Counts → ⊥) → (e ≡ Damaged Kind → ⊥) → (e ≡ Damaged Pointer → ⊥) → (e ≡ Damaged Bitmap → ⊥) → e ≡ Disk
-cut-fails Disk h c k p b = refl
-cut-fails (Damaged Counts) h c k p b = absurd (c refl)
-cut-fails (Damaged Kind) h c k p b = absurd (k refl)
-cut-fails (Damaged Pointer) h c k p b = absurd (p refl)
-cut-fails (Damaged Bitmap) h c k p b = absurd (b refl)
-cut-fails _ h c k p b = absurd h
+cut-fails : (e : OpFault) → IsCutFault e → (e ≡ Damaged Counts → ⊥) → (e ≡ Damaged Pointer → ⊥) → (e ≡ Damaged Bitmap → ⊥) → e ≡ Disk
+cut-fails Disk h c p b = refl
+cut-fails (Damaged Counts) h c p b = absurd (c refl)
+cut-fails (Damaged Pointer) h c p b = absurd (p refl)
+cut-fails (Damaged Bitmap) h c p b = absurd (b refl)
+cut-fails _ h c p b = absurd h
 
 -- a file of the tree, at its inode
 module _ (mode : ℕ) (lot : LotView) (m : Map) (t : Tree) (k : ℕ) (p : Names) (number : ℕ) (few : length lot.groups ≤ 64)
@@ -208,11 +210,11 @@ module _ (mode : ℕ) (lot : LotView) (m : Map) (t : Tree) (k : ℕ) (p : Names)
       (file_set mode lot m m' t k p old (g old) r found now short)
 
 module _ (f : Form) (one : f ≡ form_one) (form : Form) (sized : form ≡ form_one) (mode : ℕ) (lot : LotView) (m : Map) (t : Tree) (k : ℕ)
-    (p : Names) (number : ℕ) (few : length lot.groups ≤ 64) where
+    (p : Names) (number : ℕ) (node : Inode) (few : length lot.groups ≤ 64) where
   -- bytes are written
-  module _ (off : ℕ) (bytes : List ℕ) (x : TakesAt f mode lot m t k p (Write p off bytes) number) where
-    write-takes : TakesAt form_one mode lot m t k p (Write p off bytes) number
-    write-takes = subst (λ g. TakesAt g mode lot m t k p (Write p off bytes) number) one x
+  module _ (off : ℕ) (bytes : List ℕ) (x : TakesAt f mode lot m t k p (Write p off bytes) number node) where
+    write-takes : TakesAt form_one mode lot m t k p (Write p off bytes) number node
+    write-takes = subst (λ g. TakesAt g mode lot m t k p (Write p off bytes) number node) one x
 
     writes : WritesFile t k (length lot.groups) form_one p off bytes
     writes = accepted-write t k (length lot.groups) form_one p off bytes write-takes.accepted
@@ -235,14 +237,11 @@ module _ (f : Form) (one : f ≡ form_one) (form : Form) (sized : form ≡ form_
         (put mode lot m t k p number few write-takes.recovers write-takes.number_is writes.old writes.found m' (λ u. written u off bytes) short
         (subst (λ s. FileSet lot s m m' number (overwritten (file_bytes (own s m number)) off bytes)) sized set))
 
-    pub write-sound : (e : OpFault) → IsWriteFault e
-        → (e ≡ NoSpace → free_count false lot m + uses_of (blocks_for (inode_of m number).size)
-        < uses_of (blocks_with (inode_of m number).size (off + length bytes)))
-        → (e ≡ Damaged Counts → 2 ^ 32 + uses_of (blocks_for (inode_of m number).size)
-        ≤ counted false m + uses_of (blocks_with (inode_of m number).size (off + length bytes)))
-        → (e ≡ Damaged Kind → ¬ ReachesTo form off (inode_of m number)) → (e ≡ Damaged Pointer → ¬ WellMade lot form m number)
-        → (e ≡ Damaged Bitmap → ¬ Reserved lot m) → e ≡ Disk
-    write-sound e h none full kind pointer unreserved =
+    pub write-sound : (e : OpFault) → IsGrowFault e
+        → (e ≡ NoSpace → free_count false lot m + uses_of (blocks_for node.size) < uses_of (blocks_with node.size (off + length bytes)))
+        → (e ≡ Damaged Counts → 2 ^ 32 + uses_of (blocks_for node.size) ≤ counted false m + uses_of (blocks_with node.size (off + length bytes)))
+        → (e ≡ Damaged Pointer → Confuses lot m node (blocks_for node.size)) → (e ≡ Damaged Bitmap → ¬ Reserved lot m) → e ≡ Disk
+    write-sound e h none full pointer unreserved =
         let b = whole mode lot m t k p number few write-takes.recovers write-takes.number_is writes.old writes.found in
         write-fails e h
         (λ q.
@@ -252,22 +251,22 @@ module _ (f : Form) (one : f ≡ form_one) (form : Form) (sized : form ≡ form_
         (let l = ap (blocks form_one)
         (at-same p (λ s. File (written writes.old off bytes)) (λ u. File (written (bytes_of u) off bytes)) t (File writes.old) writes.found refl) in
         let q = blocks-next t k (length lot.groups) form_one (Write p off bytes) write-takes.accepted refl in omega arith))
-        (none q))
+        (subst (λ (i : Inode). free_count false lot m + uses_of (blocks_for i.size) < uses_of (blocks_with i.size (off + length bytes))) x.node_is (none q)))
         (λ q.
         subst (λ i. ¬ (2 ^ 32 + uses_of (blocks_for (inode_of m i).size) ≤ counted false m
         + uses_of (blocks_with (inode_of m i).size (off + length bytes)))) (sym write-takes.number_is)
         (write_counts mode lot m t k few [] [] b p writes.old writes.found (off + length bytes) writes.small)
-        (full q))
-        (λ q. kind q
+        (subst (λ (i : Inode). 2 ^ 32 + uses_of (blocks_for i.size) ≤ counted false m + uses_of (blocks_with i.size (off + length bytes))) x.node_is (full q)))
+        (λ q. file-confused lot form sized m number off
         (subst (λ (s : Form). ReachesTo s off (inode_of m number)) (sym sized)
-        (reach mode lot m t k p number few write-takes.recovers write-takes.number_is writes.old writes.found off writes.within)))
-        (λ q. pointer q write-made)
+        (reach mode lot m t k p number few write-takes.recovers write-takes.number_is writes.old writes.found off writes.within))
+        (subst (λ (i : Inode). Confuses lot m i (blocks_for i.size)) x.node_is (pointer q)) write-made)
         (λ q. unreserved q write-takes.recovers.holds.reserved)
 
   -- the file is cut
-  module _ (len : ℕ) (x : TakesAt f mode lot m t k p (Trunc p len) number) where
-    cut-takes : TakesAt form_one mode lot m t k p (Trunc p len) number
-    cut-takes = subst (λ g. TakesAt g mode lot m t k p (Trunc p len) number) one x
+  module _ (len : ℕ) (x : TakesAt f mode lot m t k p (Trunc p len) number node) where
+    cut-takes : TakesAt form_one mode lot m t k p (Trunc p len) number node
+    cut-takes = subst (λ g. TakesAt g mode lot m t k p (Trunc p len) number node) one x
 
     cuts : CutsFile t k (length lot.groups) form_one p len
     cuts = accepted-trunc t k (length lot.groups) form_one p len cut-takes.accepted
@@ -283,13 +282,14 @@ module _ (f : Form) (one : f ≡ form_one) (form : Form) (sized : form ≡ form_
         let l = length-take len cuts.old in let a = d.size in let b = d.within in omega arith)
         (subst (λ s. FileSet lot s m m' number (take len (file_bytes (own s m number)))) sized set))
 
-    pub cut-sound : (e : OpFault) → IsCutToFault e → (e ≡ Damaged Counts → counted false m < uses_of (blocks_for (inode_of m number).size))
-        → (e ≡ Damaged Kind → ¬ ReachesTo form len (inode_of m number))
-        → (e ≡ Damaged Pointer → ¬ WellMade lot form m number) → (e ≡ Damaged Bitmap → ¬ WellMade lot form m number) → e ≡ Disk
-    cut-sound e h zero kind pointer unused = cut-fails e h
-        (λ q. let n = zero q in let u = counts mode lot m t k p number few cut-takes.recovers cut-takes.number_is cuts.old cuts.found in omega arith)
-        (λ q. kind q
-        (subst (λ (s : Form). ReachesTo s len (inode_of m number)) (sym sized)
-        (reach mode lot m t k p number few cut-takes.recovers cut-takes.number_is cuts.old cuts.found len cuts.within)))
-        (λ q. pointer q cut-made)
-        (λ q. unused q cut-made)
+    cut-reach : ReachesTo form len (inode_of m number)
+    cut-reach = subst (λ (s : Form). ReachesTo s len (inode_of m number)) (sym sized)
+        (reach mode lot m t k p number few cut-takes.recovers cut-takes.number_is cuts.old cuts.found len cuts.within)
+
+    pub cut-sound : (e : OpFault) → IsCutFault e → (e ≡ Damaged Counts → counted false m < uses_of (blocks_for node.size))
+        → (e ≡ Damaged Pointer → Misleads lot m node (blocks_for node.size))
+        → (e ≡ Damaged Bitmap → FreeOrTwice m (cut_off m node (blocks_for node.size) (blocks_for len))) → e ≡ Disk
+    cut-sound e h zero pointer unused = cut-fails e h
+        (λ q. let n = subst (λ (i : Inode). counted false m < uses_of (blocks_for i.size)) x.node_is (zero q) in let u = counts mode lot m t k p number few cut-takes.recovers cut-takes.number_is cuts.old cuts.found in omega arith)
+        (λ q. file-misled lot form sized m number len cut-reach (subst (λ (i : Inode). Misleads lot m i (blocks_for i.size)) x.node_is (pointer q)) cut-made)
+        (λ q. file-free lot form sized m number len cut-reach (subst (λ (i : Inode). FreeOrTwice m (cut_off m i (blocks_for i.size) (blocks_for len))) x.node_is (unused q)) cut-made)

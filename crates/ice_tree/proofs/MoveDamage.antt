@@ -22,7 +22,7 @@ use Rattle.tree_spec.specs.Costs.{form_one, Form}
 use Rattle.ice_tree.proofs.LooseDamage.{other-misled, shared}
 
 -- two numbers are one, or differ
-by-number : (P : Type 0) (a b : ℕ) → (a ≡ b → P) → (a ≢ b → P) → P
+pub by-number : (P : Type 0) (a b : ℕ) → (a ≡ b → P) → (a ≢ b → P) → P
 by-number P a b one two =
     elim (nat_eq a b) as (λ t. nat_eq a b ≡ t → P) [
       | true ↦ λ t. one (equal a b t)

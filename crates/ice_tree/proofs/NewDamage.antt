@@ -28,6 +28,14 @@ use Rattle.ice_look.proofs.MapDamage.{map-dir, bad-pointer}
 use Rattle.tree_spec.specs.Costs.{form_one, Form}
 use Rattle.ice_tree.proofs.MapDamage.{dir-few, misleads-same}
 
+-- where an inode was taken and put, every other one is as it was
+pub node-beside : (lot : LotView) (m0 m1 m2 : Map) (j : ℕ) (dir : Bool) (number : ℕ) → NodePut lot m0 m1 m2 j dir → j ≢ number
+    → inode_of m2 number ≡ inode_of m0 number
+node-beside lot m0 m1 m2 j dir number put apart =
+    put.put.others number (λ e. apart (sym e))
+    ∙ ap (λ (b : List ℕ). inode_at b (inode_index number))
+    (only-two sub_address (bitmap_of true j) m0 m1 put.taken (inode_address number) (inode_not_sub number) (inode_not_bitmap number _))
+
 module _ (form : Form) (e64 : form ≡ form_one) (lot : LotView) (few : length lot.groups ≤ 64) (m0 : Map) (spot : DirAt) (fits : NewFits form lot m0 spot) where
   -- no inode can be taken
   pub take-blamed : (e : OpFault) → IsTakeInodeFault e → (e ≡ NoNodes → AllUsed true lot m0)
@@ -44,10 +52,7 @@ module _ (form : Form) (e64 : form ≡ form_one) (lot : LotView) (few : length l
     away a p q r = only-one (inode_address j) m1 m2 put.there a r ∙ only-two sub_address (bitmap_of true j) m0 m1 put.taken a p q
 
     same-node : inode_of m2 spot.number ≡ inode_of m0 spot.number
-    same-node =
-        put.put.others spot.number (λ e. apart (sym e))
-        ∙ ap (λ (b : List ℕ). inode_at b (inode_index spot.number))
-        (only-two sub_address (bitmap_of true j) m0 m1 put.taken (inode_address spot.number) (inode_not_sub spot.number) (inode_not_bitmap spot.number _))
+    same-node = node-beside lot m0 m1 m2 j dir spot.number put apart
 
     same-blocks : (b : ℕ) → used_block m2 b ≡ used_block m0 b
     same-blocks b = used-same false m1 m2 b (λ o. only-one (inode_address j) m1 m2 put.there (256 * o) (λ e. inode_not_bitmap j o (sym e))) ∙ put.took.others b

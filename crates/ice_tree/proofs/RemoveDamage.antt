@@ -69,13 +69,3 @@ freed-counted m1 m2 number done set free =
       value = ap (λ (b : List ℕ). inode_at b (inode_index number)) same ∙ free.value;
       blank = subst (λ (b : List ℕ). Blank b (inode_index number)) (sym same) free.blank;
     }
-
--- a file that was there before its entry was taken is there after it
-pub file-stays : (form : Form) (lot : LotView) (m0 m1 : ℕ → List ℕ) (name : List ℕ) (gone : Removal) → RemovalIs form lot m0 name gone
-    → EntryGone lot form m0 m1 gone.spot.number → 0 < gone.bytes → ReachesTo form_one 0 (inode_of m1 gone.number)
-file-stays form lot m0 m1 name gone is took pos =
-    let file = is.file pos in
-    let dir = is.spot_is.dir in
-    let other : gone.number ≢ gone.spot.number = λ e. let k = ap (λ i. (inode_of m0 i).kind) e in let f = file.kind in let d = dir.kind in
-    absurd (omega arith) in
-    subst (ReachesTo form_one 0) (sym (took.others gone.number other)) file

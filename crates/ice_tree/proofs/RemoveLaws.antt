@@ -13,7 +13,9 @@ use Rattle.ice_base.specs.declared.fault.Rule.TheVariants.{Counts, Kind, Pointer
 use Rattle.ice_map.specs.declared.codec.Inode.{Inode}
 use Rattle.ice_map.specs.Inodes.{inode_of, InodeSet}
 use Rattle.ice_map.specs.Own.{own, blocks_for, WellMade, file_bytes}
-use Rattle.ice_file.specs.Files.{FileSet, ReachesTo, IsCutToFault}
+use Rattle.ice_map.specs.Faults.{IsCutFault}
+use Rattle.ice_map.specs.Maps.{cut_off, FreeOrTwice, Misleads}
+use Rattle.ice_file.specs.Files.{FileSet}
 use Rattle.ice_map.specs.Moves.{uses_of}
 use Rattle.ice_dir.specs.Changes.{DirSet, entry_blocks}
 use Rattle.ice_dir.specs.Faults.{IsRemovalFault}
@@ -45,6 +47,7 @@ use Rattle.ice_tree.specs.Removes.{removal_refusal, IsRemoval, Loses, StandsLoos
 use Rattle.ice_look.specs.Stages.{or_else, paths_refusal, walk_refusal}
 use Rattle.ice_tree.specs.Quotas.{quota_refusal}
 use Rattle.ice_tree.proofs.Chains.{refusal_remove}
+use Rattle.ice_tree.proofs.WellLaws.{file-misled, file-free}
 use Rattle.ice_look.proofs.PlaceLaws.{inode_on-more}
 
 abbrev Names : Type 0
@@ -57,13 +60,12 @@ err-is (Err e) F d h go = go e refl h
 
 -- ---- a loose tree is given back
 
-cut-fails : (e : OpFault) → IsCutToFault e → (e ≡ Damaged Counts → ⊥) → (e ≡ Damaged Kind → ⊥) → (e ≡ Damaged Pointer → ⊥) → (e ≡ Damaged Bitmap → ⊥) → e ≡ Disk
-cut-fails Disk h c k p b = refl
-cut-fails (Damaged Counts) h c k p b = absurd (c refl)
-cut-fails (Damaged Kind) h c k p b = absurd (k refl)
-cut-fails (Damaged Pointer) h c k p b = absurd (p refl)
-cut-fails (Damaged Bitmap) h c k p b = absurd (b refl)
-cut-fails _ h c k p b = absurd h
+cut-fails : (e : OpFault) → IsCutFault e → (e ≡ Damaged Counts → ⊥) → (e ≡ Damaged Pointer → ⊥) → (e ≡ Damaged Bitmap → ⊥) → e ≡ Disk
+cut-fails Disk h c p b = refl
+cut-fails (Damaged Counts) h c p b = absurd (c refl)
+cut-fails (Damaged Pointer) h c p b = absurd (p refl)
+cut-fails (Damaged Bitmap) h c p b = absurd (b refl)
+cut-fails _ h c p b = absurd h
 
 give-fails : (e : OpFault) → IsGiveFault e → (e ≡ Damaged Counts → ⊥) → (e ≡ Damaged Bitmap → ⊥) → e ≡ Disk
 give-fails Disk h c b = refl
@@ -95,18 +97,18 @@ module _ (mode : ℕ) (lot : LotView) (few : length lot.groups ≤ 64) (m : Map)
   can-cut : (h n : ℕ) (v : Tree)
       → Beside form_one mode lot m t k (used_blocks form_one (own form_one m) j v) (used_inodes form_one (own form_one m) j v)
       → Reads form_one lot (own form_one m) j h v → n ≡ length (bytes_of v) → n ≢ 0
-      → (e : OpFault) → IsCutToFault e → (e ≡ Damaged Kind → ¬ ReachesTo form_one 0 (inode_of m j))
-      → (e ≡ Damaged Counts → counted false m < uses_of (blocks_for (inode_of m j).size))
-      → (e ≡ Damaged Bitmap → ¬ WellMade lot form_one m j) → (e ≡ Damaged Pointer → ¬ WellMade lot form_one m j) → e ≡ Disk
-  can-cut h n (File bytes) b r len z e is kind zero unused pointer =
+      → (node : Inode) → node ≡ inode_of m j → (e : OpFault) → IsCutFault e → (e ≡ Damaged Counts → counted false m < uses_of (blocks_for node.size))
+      → (e ≡ Damaged Bitmap → FreeOrTwice m (cut_off m node (blocks_for node.size) (blocks_for 0)))
+      → (e ≡ Damaged Pointer → Misleads lot m node (blocks_for node.size)) → e ≡ Disk
+  can-cut h n (File bytes) b r len z node hand e is zero unused pointer =
       let f = file_at lot m j h bytes r in
       let made = loose_made mode lot m t k (j ∷ []) j h (File bytes) b r few in
+      let reach = reaches_to m j 0 bytes f (omega arith) in
       cut-fails e is
-      (λ q. loose_counts mode lot m t k few j h (File bytes) (j ∷ []) b r f.kind (zero q))
-      (λ q. kind q (reaches_to m j 0 bytes f (omega arith)))
-      (λ q. pointer q made)
-      (λ q. unused q made)
-  can-cut h n (Dir es) b r len z e is kind zero unused pointer = absurd (z len)
+      (λ q. loose_counts mode lot m t k few j h (File bytes) (j ∷ []) b r f.kind (subst (λ (i : Inode). counted false m < uses_of (blocks_for i.size)) hand (zero q)))
+      (λ q. file-misled lot form_one refl m j 0 reach (subst (λ (i : Inode). Misleads lot m i (blocks_for i.size)) hand (pointer q)) made)
+      (λ q. file-free lot form_one refl m j 0 reach (subst (λ (i : Inode). FreeOrTwice m (cut_off m i (blocks_for i.size) (blocks_for 0))) hand (unused q)) made)
+  can-cut h n (Dir es) b r len z node hand e is zero unused pointer = absurd (z len)
 
   -- its inode is freed and given back
   gave-back : (m1 m2 : Map) (inode : Inode) → Beside form_one mode lot m t k [] (j ∷ []) → InodeSet m m1 j inode
@@ -153,15 +155,12 @@ module _ (f : Form) (one : f ≡ form_one) (mode : ℕ) (lot : LotView) (few : l
       (some-blocks mode lot few m t k j m' s.level bytes s.tree at.0 at.1 s.bytes_are z (subst (λ w. FileSet lot w m m' j []) wide set))
 
   pub can-drop : StandsLoose f mode lot m t k j bytes → bytes ≢ 0
-      → (e : OpFault) → IsCutToFault e → (e ≡ Damaged Kind → ¬ ReachesTo form 0 (inode_of m j))
-      → (e ≡ Damaged Counts → counted false m < uses_of (blocks_for (inode_of m j).size))
-      → (e ≡ Damaged Bitmap → ¬ WellMade lot form m j) → (e ≡ Damaged Pointer → ¬ WellMade lot form m j) → e ≡ Disk
-  can-drop s z e is kind zero unused pointer =
+      → (node : Inode) → node ≡ inode_of m j → (e : OpFault) → IsCutFault e → (e ≡ Damaged Counts → counted false m < uses_of (blocks_for node.size))
+      → (e ≡ Damaged Bitmap → FreeOrTwice m (cut_off m node (blocks_for node.size) (blocks_for 0)))
+      → (e ≡ Damaged Pointer → Misleads lot m node (blocks_for node.size)) → e ≡ Disk
+  can-drop s z node hand e is zero unused pointer =
       let at = at-one (AtMap m s.tree s.level) (s.beside, s.reads) in
-      can-cut mode lot few m t k j s.level bytes s.tree at.0 at.1 s.bytes_are z e is
-      (subst (λ w. e ≡ Damaged Kind → ¬ ReachesTo w 0 (inode_of m j)) wide kind) zero
-      (subst (λ w. e ≡ Damaged Bitmap → ¬ WellMade lot w m j) wide unused)
-      (subst (λ w. e ≡ Damaged Pointer → ¬ WellMade lot w m j) wide pointer)
+      can-cut mode lot few m t k j s.level bytes s.tree at.0 at.1 s.bytes_are z node hand e is zero unused pointer
 
   pub inode-given : (m1 m2 : Map) (inode : Inode) → Beside f mode lot m t k [] (j ∷ []) → InodeSet m m1 j inode
       → OnlyAt (inode_address j ∷ []) m m1 → GaveInode m1 m2 j → OnlyAt (sub_address ∷ bitmap_of true j ∷ []) m1 m2 → MapRecovers f mode lot m2 t k
@@ -295,10 +294,11 @@ module _ (f : Form) (one : f ≡ form_one) (mode : ℕ) (lot : LotView) (few : l
 
 -- what was found before a look holds after it
 pub loses-after : (f : Form) (mode : ℕ) (lot : LotView) (m m' : Map) (t : Tree) (k : ℕ) (p : Names) (gone : Removal) (name : List ℕ)
-    → m' ≡ m → MapRecovers f mode lot m t k → IsRemoval f (own f m) p t gone → name ≡ last_name p
+    → m' ≡ m → MapRecovers f mode lot m t k → IsRemoval f (own f m) p t gone → gone.spot.node ≡ inode_of m gone.spot.number → gone.node ≡ inode_of m gone.number
+    → name ≡ last_name p
     → refusal t k (length lot.groups) f (Remove p) ≡ None → Loses f mode lot m' t k p gone name
-loses-after f mode lot m m' t k p gone name same r is last none =
-    subst (λ (x : Map). Loses f mode lot x t k p gone name) (sym same) (record { recovers = r; gone_is = is; name_is = last; accepted = none })
+loses-after f mode lot m m' t k p gone name same r is spot node last none =
+    subst (λ (x : Map). Loses f mode lot x t k p gone name) (sym same) (record { recovers = r; gone_is = is; spot_node = spot; node_is = node; name_is = last; accepted = none })
 
 -- ---- all that refuses a removal
 

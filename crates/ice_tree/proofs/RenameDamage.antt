@@ -1,5 +1,5 @@
 -- Which rules a lot breaks where a rename ends in damage.
-use Rattle.std.proofs.Common.{◌≡◌, ◌≢◌, ◌≤◌, ◌<◌, ◌+◌, ◌-◌, ◌*◌, ℕ, true, false, List, length, Some, sym, refl, subst, arith, inl, inr, ◌⊎◌}
+use Rattle.std.proofs.Common.{◌≡◌, ◌≢◌, ◌≤◌, ◌<◌, ◌+◌, ◌-◌, ◌*◌, ℕ, true, false, List, length, Some, sym, refl, ◌∙◌, subst, arith, inl, inr, ◌⊎◌}
 use Rattle.ice_base.specs.Lots.{LotView}
 use Rattle.ice_base.specs.declared.fault.OpFault.{OpFault}
 use Rattle.ice_base.specs.declared.fault.OpFault.TheVariants.{Damaged}
@@ -11,7 +11,8 @@ use Rattle.ice_look.specs.Broken.{IsBrokenBy, Overfull, count_within_place}
 use Rattle.ice_look.specs.Ends.{EndsFit, EndsAre, DirIs}
 use Rattle.ice_tree.specs.Renames.{MoveIs, RowFits, is_place, is_dir_place}
 use Rattle.ice_tree.specs.Quotas.{HasFree}
-use Rattle.ice_look.specs.Places.{PlaceFits, PlaceIs, PlaceReached, PlaceNamed}
+use Rattle.ice_map.specs.declared.codec.Inode.{Inode}
+use Rattle.ice_look.specs.Places.{PlaceFits, PlaceIs, PlaceReached, PlaceNamed, NodeIs}
 use Rattle.ice_look.specs.declared.ends.Ends.{Ends}
 use Rattle.ice_look.specs.declared.looks.DirAt.{DirAt}
 use Rattle.ice_look.specs.declared.place.Place.{Place}
@@ -41,11 +42,17 @@ none h = cc
 
 module _ (form : Form) (lot : LotView) (m : ℕ → List ℕ) where
   -- a directory at a place
-  place-spot : (p : Place) (spot : DirAt) → p ≡ Dir spot.number spot.entries → PlaceFits lot p → PlaceIs m p → PlaceReached form lot m p → DirIs form lot m spot
-  place-spot p spot at fits is reached =
+  place-spot : (p : Place) (node : Inode) (spot : DirAt) → p ≡ Dir spot.number spot.entries → spot.node ≡ node → PlaceFits lot p → PlaceIs m p
+      → PlaceReached form lot m p → NodeIs m p node → DirIs form lot m spot
+  place-spot p node spot at same fits is reached hand =
       let f = subst (PlaceFits lot) at fits in
       let i = subst (PlaceIs m) at is in
-      record { reached = subst (PlaceReached form lot m) at reached; dir = record { kind = i.0; few = omega (arith, i.1, f.1) }; entries = i.1 }
+      record {
+        reached = subst (PlaceReached form lot m) at reached;
+        dir = record { kind = i.0; few = omega (arith, i.1, f.1) };
+        entries = i.1;
+        node_is = same ∙ subst (λ (x : Place). NodeIs m x node) at hand;
+      }
 
   -- the inode of what a directory names so
   named-inode : (dir entries : ℕ) (name : List ℕ) (p : Place) → PlaceNamed form m (Dir dir entries) name p → is_place p ≡ true → PlaceFits lot p
@@ -58,13 +65,14 @@ module _ (form : Form) (lot : LotView) (m : ℕ → List ℕ) where
   -- what is renamed
   pub move-is : (name : List ℕ) (from into : Ends) (step : Move) → EndsAre form lot m from → EndsAre form lot m into → EndsFit lot from
       → EndsFit lot into → PlaceNamed form m from.parent name from.end → is_place from.end ≡ true
-      → from.parent ≡ Dir step.from.number step.from.entries → into.parent ≡ Dir step.to.number step.to.entries → MoveIs form lot m name step
-  move-is name from into step a b f g named is source target =
+      → from.parent ≡ Dir step.from.number step.from.entries → into.parent ≡ Dir step.to.number step.to.entries
+      → step.from.node ≡ from.above → step.to.node ≡ into.above → MoveIs form lot m name step
+  move-is name from into step a b f g named is source target source_node target_node =
       let x = named-inode step.from.number step.from.entries name from.end
       (subst (λ (p : Place). PlaceNamed form m p name from.end) source named) is f.at_end in
       record {
-        from_is = place-spot from.parent step.from source f.at_parent a.parent a.parent_reached;
-        to_is = place-spot into.parent step.to target g.at_parent b.parent b.parent_reached;
+        from_is = place-spot from.parent from.above step.from source source_node f.at_parent a.parent a.parent_reached a.above_is;
+        to_is = place-spot into.parent into.above step.to target target_node g.at_parent b.parent b.parent_reached b.above_is;
         number = x.0;
         below = x.1;
         named = x.2;

@@ -12,6 +12,7 @@ use Rattle.tree_spec.specs.Operations.{Rename, Operation}
 use Rattle.tree_spec.specs.Answers.{refusal, answer, answer_by, next_tree, deepest, is_found, is_not_found, is_not_dir, is_root, is_taken, tree_found, moves_into_itself}
 use Rattle.tree_spec.proofs.Sums.{total-at}
 use Rattle.ice_reads.specs.Tables.{Map, Table}
+use Rattle.ice_map.specs.Inodes.{inode_of}
 use Rattle.ice_map.specs.Own.{own}
 use Rattle.ice_reads.specs.Reads.{Reads, inode_on}
 use Rattle.ice_reads.specs.Recovers.{MapRecovers}
@@ -223,11 +224,14 @@ last-is path depth name below is =
 pub renames-are : (f : Form) (mode : ℕ) (lot : LotView) (m later : Map) (t : Tree) (k : ℕ) (path to : Names) (depth : ℕ) (step : Move) (name new : List ℕ)
     → later ≡ m → MapRecovers f mode lot m t k → depth < length path → depth < length to
     → name ≡ get_or path (length path - 1) [] → new ≡ get_or to (length to - 1) []
+    → step.from.node ≡ inode_of m step.from.number → step.to.node ≡ inode_of m step.to.number
     → (refusal t k (length lot.groups) f (Rename (drop depth path) (drop depth to)) ≡ None) × IsMove f (own f m) (drop depth path) (drop depth to) t step
     → Renames f mode lot later t k (drop depth path) (drop depth to) step name new
-renames-are f mode lot m later t k path to depth step name new same r below below_to is_name is_new x = record {
+renames-are f mode lot m later t k path to depth step name new same r below below_to is_name is_new from into x = record {
   recovers = subst (λ (x : Map). MapRecovers f mode lot x t k) (sym same) r;
   move_is = subst (λ (x : Map). IsMove f (own f x) (drop depth path) (drop depth to) t step) (sym same) x.1;
+  from_node = subst (λ (x : Map). step.from.node ≡ inode_of x step.from.number) (sym same) from;
+  to_node = subst (λ (x : Map). step.to.node ≡ inode_of x step.to.number) (sym same) into;
   name_is = last-is path depth name below is_name;
   new_is = last-is to depth new below_to is_new;
   accepted = x.0;

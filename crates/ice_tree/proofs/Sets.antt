@@ -7,7 +7,7 @@ use Rattle.ice_base.specs.declared.fault.OpFault.{OpFault}
 use Rattle.ice_base.specs.declared.fault.OpFault.TheVariants.{Disk, Damaged, NoSpace, NoNodes}
 use Rattle.ice_base.specs.declared.fault.Rule.TheVariants as rule
 use Rattle.ice_dir.specs.Faults.{IsAddFault, IsRemovalFault}
-use Rattle.ice_file.specs.Files.{IsWriteFault, IsCutToFault}
+use Rattle.ice_map.specs.Faults.{IsGrowFault, IsCutFault}
 use Rattle.tree_spec.specs.Replies.{refusal_number}
 use Rattle.tree_spec.specs.declared.reply.Refusal.{Refusal}
 use Rattle.tree_spec.specs.declared.reply.Refusal.TheVariants as code
@@ -97,19 +97,17 @@ take-in (Damaged rule.Pointer) h = refl
 take-in (Damaged rule.Bitmap) h = refl
 take-in _ h = absurd h
 
-pub cut-in : (e : OpFault) → IsCutToFault e → IsNamedIn change_rules e
+pub cut-in : (e : OpFault) → IsCutFault e → IsNamedIn change_rules e
 cut-in Disk h = tt
 cut-in (Damaged rule.Counts) h = refl
-cut-in (Damaged rule.Kind) h = refl
 cut-in (Damaged rule.Pointer) h = refl
 cut-in (Damaged rule.Bitmap) h = refl
 cut-in _ h = absurd h
 
-pub write-in : (e : OpFault) → IsWriteFault e → IsNamedIn change_rules e
-write-in Disk h = tt
-write-in (Damaged rule.Counts) h = refl
-write-in (Damaged rule.Kind) h = refl
-write-in (Damaged rule.Pointer) h = refl
-write-in (Damaged rule.Bitmap) h = refl
-write-in NoSpace h = refl
-write-in _ h = absurd h
+pub grow-in : (e : OpFault) → IsGrowFault e → IsNamedIn change_rules e
+grow-in Disk h = tt
+grow-in (Damaged rule.Counts) h = refl
+grow-in (Damaged rule.Pointer) h = refl
+grow-in (Damaged rule.Bitmap) h = refl
+grow-in NoSpace h = refl
+grow-in _ h = absurd h

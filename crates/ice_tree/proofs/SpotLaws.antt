@@ -14,6 +14,7 @@ use Rattle.tree_spec.specs.Answers.{is_root, is_found, refusal, next_tree}
 use Rattle.tree_spec.proofs.Accepted.{has_place, walk-last}
 use Rattle.tree_spec.proofs.Changes.{total-placed}
 use Rattle.ice_reads.specs.Tables.{Map, Table}
+use Rattle.ice_map.specs.Inodes.{inode_of}
 use Rattle.ice_map.specs.Own.{own}
 use Rattle.ice_reads.specs.Reads.{inode_on}
 use Rattle.ice_reads.specs.Recovers.{MapRecovers}
@@ -66,7 +67,7 @@ module _ (f : Form) (o : Table) (p : Names) (t : Tree) (ends : Ends) (is : IsEnd
       below : is_root p ≡ false → new_refusal p t ≡ (if is_found (walk p t) then Some why.Exists else None)
       below h = after ∙ ap (λ b. or_else (if b then Some why.IsRoot else None) (if is_found (walk p t) then Some why.Exists else None)) h
 
-      pub spot_found : is_root p ≡ false → ends.end ≡ Missing → (new_refusal p t ≡ None) × IsDirAt f o (parent p) t (record { number = number; entries = size })
+      pub spot_found : is_root p ≡ false → ends.end ≡ Missing → (new_refusal p t ≡ None) × IsDirAt f o (parent p) t (record { number = number; entries = size; node = ends.above })
       spot_found h free = (
         below h ∙ ap (λ w. if is_found w then Some why.Exists else None) (ends_missing (inode_on f o 0 p) (walk p t) (sym free ∙ is.at_end)),
         record { inside = dir.0; there = dir.1; number = dir.2; count = dir.3 },
@@ -141,11 +142,11 @@ new-needs f one o p t spot dir is none b c more less =
 
 -- what was found before a look holds after it
 pub takes-after : (f : Form) (mode : ℕ) (lot : LotView) (m m' : Map) (t : Tree) (k : ℕ) (p : Names) (dir : Bool) (spot : DirAt) (name : List ℕ)
-    → m' ≡ m → MapRecovers f mode lot m t k → IsDirAt f (own f m) (parent p) t spot
+    → m' ≡ m → MapRecovers f mode lot m t k → IsDirAt f (own f m) (parent p) t spot → spot.node ≡ inode_of m spot.number
     → name ≡ last_name p → is_name name ≡ true → refusal t k (length lot.groups) f (new_operation dir p) ≡ None → Takes f mode lot m' t k p dir spot name
-takes-after f mode lot m m' t k p dir spot name same r is last proper none =
+takes-after f mode lot m m' t k p dir spot name same r is node last proper none =
     subst (λ (x : Map). Takes f mode lot x t k p dir spot name) (sym same)
-    (record { recovers = r; spot_is = is; name_is = last; proper = proper; accepted = none })
+    (record { recovers = r; spot_is = is; node_is = node; name_is = last; proper = proper; accepted = none })
 
 -- a path with no name from the depth on is the root
 pub root-is : (path : List (List ℕ)) (depth n : ℕ) → depth ≤ length path → n ≡ length path → nat_eq n depth ≡ is_root (drop depth path)

@@ -1,5 +1,5 @@
 -- New files and directories.
-use Rattle.std.specs.Prelude.{◌≡◌, ◌≤◌, ◌<◌, ◌+◌, ◌*◌, ℕ, Bool, true, false, List, length, replicate, Option, Some, None, if◌then◌else◌}
+use Rattle.std.specs.Prelude.{◌≡◌, ◌≤◌, ◌<◌, ◌+◌, ◌*◌, ℕ, Bool, true, false, List, length, Option, Some, None, if◌then◌else◌}
 use Rattle.ice_base.specs.Lots.{LotView}
 use Rattle.tree_spec.specs.Why.{Why}
 use Rattle.tree_spec.specs.Why as why
@@ -9,6 +9,7 @@ use Rattle.tree_spec.specs.Names.{is_name}
 use Rattle.tree_spec.specs.Operations.{Operation, Mkdir, Make}
 use Rattle.tree_spec.specs.Answers.{is_root, is_found, refusal}
 use Rattle.ice_map.specs.declared.codec.Inode.{Inode}
+use Rattle.ice_map.specs.Inodes.{empty_inode, inode_of}
 use Rattle.ice_reads.specs.Tables.{Map}
 use Rattle.ice_map.specs.Own.{own}
 use Rattle.ice_reads.specs.Recovers.{MapRecovers}
@@ -27,18 +28,19 @@ new_operation false p = Make p
 
 -- the inode of an empty directory, or of an empty file
 abbrev pub new_inode : Bool → Inode
-new_inode dir = record { kind = if dir then 2 else 1; size = 0; direct = replicate 12 0; single = 0; double = 0 }
+new_inode dir = empty_inode (if dir then 2 else 1)
 
 -- the refusal of the place where something is made
 abbrev pub new_refusal : List (List ℕ) → Tree → Option Why
 new_refusal p t =
     or_else (walk_refusal (parent_walk p t)) (or_else (if is_root p then Some why.IsRoot else None) (if is_found (walk p t) then Some why.Exists else None))
 
--- the map recovers a tree that takes the new directory or file, the spot is the directory of its path, and the name is the path's last one
+-- the map recovers a tree that takes the new directory or file, the spot is the directory of its path with its inode, and the name is the path's last one
 pub record Takes (f : Form) (mode : ℕ) (lot : LotView) (m : Map) (t : Tree) (k : ℕ) (p : List (List ℕ)) (dir : Bool) (spot : DirAt)
     (name : List ℕ) : Type 0 where
   pub recovers : MapRecovers f mode lot m t k
   pub spot_is : IsDirAt f (own f m) (parent p) t spot
+  pub node_is : spot.node ≡ inode_of m spot.number
   pub name_is : name ≡ last_name p
   pub proper : is_name name ≡ true
   pub accepted : refusal t k (length lot.groups) f (new_operation dir p) ≡ None

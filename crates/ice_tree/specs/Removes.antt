@@ -1,10 +1,10 @@
 -- Files and empty directories that are taken away.
-use Rattle.std.specs.Prelude.{◌≡◌, ◌≤◌, ◌<◌, ℕ, ◌*◌, false, List, length, replicate, Option, Some, None, if◌then◌else◌, ◌⊎◌, true}
+use Rattle.std.specs.Prelude.{◌≡◌, ◌≤◌, ◌<◌, ℕ, ◌*◌, false, List, length, Option, Some, None, if◌then◌else◌, ◌⊎◌, true}
 use Rattle.ice_base.specs.Lots.{LotView}
 use Rattle.ice_base.specs.declared.fault.Rule.TheVariants.{Pointer}
 use Rattle.ice_base.specs.Inodes.{inode_address, inode_index}
 use Rattle.ice_map.specs.declared.codec.Inode.{Inode}
-use Rattle.ice_map.specs.Inodes.{inode_of, Blank}
+use Rattle.ice_map.specs.Inodes.{inode_of, empty_inode, Blank}
 use Rattle.ice_file.specs.Files.{ReachesTo}
 use Rattle.tree_spec.specs.Why.{Why}
 use Rattle.tree_spec.specs.Why as why
@@ -35,7 +35,7 @@ removal_refusal p t =
 
 -- the inode of nothing
 abbrev pub free_inode : Inode
-free_inode = record { kind = 0; size = 0; direct = replicate 12 0; single = 0; double = 0 }
+free_inode = empty_inode 0
 
 -- all 128 bytes of an inode are 0, those of its fields and those in which no field stands
 pub record Freed (m : Map) (number : ℕ) : Type 0 where
@@ -48,16 +48,19 @@ pub record IsRemoval (f : Form) (o : Table) (p : List (List ℕ)) (t : Tree) (go
   pub number_is : gone.number ≡ inode_on f o 0 p
   pub bytes_are : gone.bytes ≡ length (bytes_found (walk p t))
 
--- its numbers fit the lot
+-- its numbers fit the lot, and the inode of a file agrees with them
 pub record RemovalFits (lot : LotView) (gone : Removal) : Type 0 where
   pub spot : DirFits lot gone.spot
   pub number : gone.number < 64 * length lot.groups
   pub bytes : gone.bytes ≤ form_one.longest_file
+  pub file : 0 < gone.bytes → ReachesTo form_one 0 gone.node
 
--- the map recovers a tree that loses what stands at the path, and the name is the path's last one
+-- the map recovers a tree that loses what stands at the path, the inodes are those of the map, and the name is the path's last one
 pub record Loses (f : Form) (mode : ℕ) (lot : LotView) (m : Map) (t : Tree) (k : ℕ) (p : List (List ℕ)) (gone : Removal) (name : List ℕ) : Type 0 where
   pub recovers : MapRecovers f mode lot m t k
   pub gone_is : IsRemoval f (own f m) p t gone
+  pub spot_node : gone.spot.node ≡ inode_of m gone.spot.number
+  pub node_is : gone.node ≡ inode_of m gone.number
   pub name_is : name ≡ last_name p
   pub accepted : refusal t k (length lot.groups) f (Remove p) ≡ None
 
@@ -70,11 +73,12 @@ pub record StandsLoose (f : Form) (mode : ℕ) (lot : LotView) (m : Map) (t : Tr
   pub empty : is_full_found (Found tree) ≡ false
   pub bytes_are : bytes ≡ length (bytes_of tree)
 
--- what is removed: a directory names it so, and a file has its bytes
+-- what is removed: a directory names it so, this is its inode, and a file has its bytes
 pub record RemovalIs (form : Form) (lot : LotView) (m : ℕ → List ℕ) (name : List ℕ) (gone : Removal) : Type 0 where
   pub spot_is : DirIs form lot m gone.spot
   pub named : look_up name (dir_rows_of form m gone.spot.number) ≡ Some gone.number
   pub reached : IsReached form lot m gone.number
+  pub node_is : gone.node ≡ inode_of m gone.number
   pub file : 0 < gone.bytes → ReachesTo form_one 0 (inode_of m gone.number)
 
 -- what is damaged of a file or an empty directory at an inode, whether or not a directory names it, by the rule on counts, pointers or bitmaps

@@ -5,6 +5,7 @@ use Rattle.ice_dir.specs.Rows.{dir_rows_of, look_up}
 use Rattle.tree_spec.specs.Trees.{Tree, walk, parent, last_name, parent_walk}
 use Rattle.tree_spec.specs.Costs.{Form}
 use Rattle.ice_reads.specs.Tables.{Table, Map}
+use Rattle.ice_map.specs.Inodes.{inode_of}
 use Rattle.ice_map.specs.Own.{own}
 use Rattle.ice_look.specs.declared.place.Place.{Place}
 use Rattle.ice_look.specs.declared.place.Place.TheVariants.{File, Dir}
@@ -60,10 +61,12 @@ pub record MoveFits (lot : LotView) (step : Move) : Type 0 where
   pub from : DirFits lot step.from
   pub to : DirFits lot step.to
 
--- the map recovers a tree that takes the rename, and the names are the last ones of the paths
+-- the map recovers a tree that takes the rename, the inodes are those of the map, and the names are the last ones of the paths
 pub record Renames (f : Form) (mode : ℕ) (lot : LotView) (m : Map) (t : Tree) (k : ℕ) (p q : List (List ℕ)) (step : Move) (name new : List ℕ) : Type 0 where
   pub recovers : MapRecovers f mode lot m t k
   pub move_is : IsMove f (own f m) p q t step
+  pub from_node : step.from.node ≡ inode_of m step.from.number
+  pub to_node : step.to.node ≡ inode_of m step.to.number
   pub name_is : name ≡ last_name p
   pub new_is : new ≡ last_name q
   pub accepted : refusal t k (length lot.groups) f (Rename p q) ≡ None

@@ -54,6 +54,7 @@ fn new_spot(ends: &Ends, root: bool) -> Result<DirAt, Refusal>
                 Place::Missing => Ok(DirAt {
                     number,
                     entries: size,
+                    node: ends.above,
                 }),
                 _ => Err(Refusal::Exists),
             }
@@ -86,6 +87,7 @@ fn check_new<D: Disk, K: Keep<D>, P: Pool<D, K>, F: Form>(
         (new_operation dir (drop depth path.now))) result) }
     // What it answers of any lot, damaged or not.
     ensures fits { IfOk result (DirFits lot.now) }
+    ensures more { IfOk result (λ spot. spot.entries + 1 < 64 * length lot.now.groups) }
     ensures below { OnOk result (depth < length path.now) }
     ensures ready { IfShown K.View lot.now keep.old disk.old (λ old.
         IfOk result (NewFits (form_of F.VERSION) lot.now old)) }
@@ -131,13 +133,7 @@ fn check_new<D: Disk, K: Keep<D>, P: Pool<D, K>, F: Form>(
 fn new_node(dir: bool) -> Inode
     ensures { result ≡ new_inode dir }
 {
-    Inode {
-        kind: if dir { 2 } else { 1 },
-        size: 0,
-        direct: [0; 12],
-        single: 0,
-        double: 0,
-    }
+    Inode::empty(if dir { 2 } else { 1 })
 }
 
 /// Takes an inode for an empty directory or file, and adds its row to the directory.
@@ -154,7 +150,8 @@ fn put_node<D: Disk, K: Keep<D>, P: Pool<D, K>, F: Form>(
 ) -> Result<(), OpFault>
     // The lot lies on the disk and the keep has room.
     requires sited { is_sited lot.now (D.state disk.old).size ≡ true }
-    requires number { spot.now.number < 64 * length lot.now.groups }
+    requires spot { DirFits lot.now spot.now }
+    requires more { spot.now.entries + 1 < 64 * length lot.now.groups }
     requires fits { length name.now ≤ F.NAME }
     requires room { 11 ≤ K.room keep.old }
     // Where it takes the operation, the lot recovers the changed tree; the disk alone may fail.
@@ -182,7 +179,7 @@ fn put_node<D: Disk, K: Keep<D>, P: Pool<D, K>, F: Form>(
         return Err(OpFault::Damaged(Rule::Bitmap));
     }
     put_inode::<D, K, P, F>(keep, pool, disk, lot, number, &new_node(dir))?;
-    add::<D, K, P, F>(keep, pool, disk, lot, spot.number, name, number)?;
+    add_in::<D, K, P, F>(keep, pool, disk, lot, spot.number, &spot.node, name, number)?;
     Ok(())
 }
 
@@ -198,7 +195,8 @@ fn put_new<D: Disk, K: Keep<D>, P: Pool<D, K>, F: Form>(
 ) -> Result<(), OpFault>
     // The lot lies on the disk and the keep has room.
     requires sited { is_sited lot.now (D.state disk.old).size ≡ true }
-    requires number { spot.now.number < 64 * length lot.now.groups }
+    requires spot { DirFits lot.now spot.now }
+    requires more { spot.now.entries + 1 < 64 * length lot.now.groups }
     requires fits { length name.now ≤ F.NAME }
     requires room { 12 ≤ K.room keep.old }
     // Where it takes the operation, the lot recovers the changed tree; the disk alone may fail.

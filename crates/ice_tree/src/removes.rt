@@ -31,34 +31,38 @@ ghost use Rattle.ice_tree.specs.Calls.{ChangesAs, UntouchedAll, LooksIfRefused, 
 use crate::counts::count_up;
 use crate::quota::{Need, check_quota, dir_cost, file_cost};
 use ice_base::{Disk, Form, Keep, Lot, OpFault, Pool, Rule, View};
-use ice_dir::take;
-use ice_file::cut_to;
+use ice_dir::take_in;
+use ice_file::cut_in;
 use ice_look::{DirAt, Ends, Place, check_path, find_ends, last_of, refusal_of};
 use ice_map::{Inode, put_inode};
 use tree_spec::{Name, Path, Refusal};
 
-/// What is to be removed: the directory that has it as an entry, the number of its inode, and the bytes of a file.
+/// What is to be removed: the directory that has it as an entry, the number of its inode, the bytes of a file, and the inode.
 #[derive(Clone, Copy, Drop)]
 pub struct Removal {
     pub spot: DirAt,
     pub number: u32,
     pub bytes: u32,
+    pub node: Inode,
 }
 
 /// What an inode stands for, in the directory at a place. NotDir: no directory is there.
-fn removal_in(parent: Place, number: u32, bytes: u32) -> Result<Removal, Refusal>
-    ensures { MatchResult result (λ gone. (parent ≡ Dir gone.spot.number gone.spot.entries)
+fn removal_in(ends: &Ends, number: u32, bytes: u32) -> Result<Removal, Refusal>
+    ensures gone { MatchResult result (λ gone. (ends.now.parent ≡ Dir gone.spot.number gone.spot.entries)
         × (gone.number ≡ number) × (gone.bytes ≡ bytes)) (λ r. (r ≡ NotDir)
-        × ((dir entries : ℕ) → parent ≢ Dir dir entries)) }
+        × ((dir entries : ℕ) → ends.now.parent ≢ Dir dir entries)) }
+    ensures nodes { IfOk result (λ gone. (gone.spot.node ≡ ends.now.above) × (gone.node ≡ ends.now.node)) }
 {
-    match parent {
+    match ends.parent {
         Place::Dir { number: dir, size } => Ok(Removal {
             spot: DirAt {
                 number: dir,
                 entries: size,
+                node: ends.above,
             },
             number,
             bytes,
+            node: ends.node,
         }),
         Place::File { .. } => Err(Refusal::NotDir),
         Place::Missing => Err(Refusal::NotDir),
@@ -86,12 +90,12 @@ fn removal_of(ends: &Ends) -> Result<Removal, Refusal>
     match ends.end {
         Place::Missing => Err(Refusal::NotFound),
         Place::Blocked => Err(Refusal::NotDir),
-        Place::File { number, size } => removal_in(ends.parent, number, size),
+        Place::File { number, size } => removal_in(ends, number, size),
         Place::Dir { number, size } => {
             if size > 0 {
                 return Err(Refusal::NotEmpty);
             }
-            removal_in(ends.parent, number, 0)
+            removal_in(ends, number, 0)
         }
     }
 }
@@ -216,7 +220,7 @@ fn may_remove<D: Disk, K: Keep<D>, P: Pool<D, K>, F: Form>(
     }
 }
 
-/// Gives back the blocks of a file of so many bytes.
+/// Gives back the blocks of a file of so many bytes, whose inode is in hand.
 #[tactic(auto, using(ice_map::proofs::SizeLaws::size_laws))]
 fn drop_bytes<D: Disk, K: Keep<D>, P: Pool<D, K>, F: Form>(
     keep: &mut K,
@@ -224,22 +228,26 @@ fn drop_bytes<D: Disk, K: Keep<D>, P: Pool<D, K>, F: Form>(
     disk: &mut D,
     lot: &Lot,
     number: u32,
+    node: &Inode,
     bytes: u32,
 ) -> Result<(), OpFault>
-    // The lot lies on the disk and the keep has room.
+    // The lot lies on the disk, the keep has room, and bytes are those of a file.
     requires sited { is_sited lot.now (D.state disk.old).size ≡ true }
     requires number { number < 64 * length lot.now.groups }
+    requires file { 0 < bytes → ReachesTo form_one 0 node.now }
     requires room { 72 ≤ K.room keep.old }
     // Where it takes the operation, the lot recovers the changed tree; the disk alone may fail.
     ensures dropped { (mode k : ℕ) (t : Tree)
         → AsShown K.View lot.now keep.old disk.old keep.new disk.new (λ old new.
-        StandsLoose (form_of F.VERSION) mode lot.now old t k number bytes
+        (0 < bytes → node.now ≡ inode_of old number)
+        → StandsLoose (form_of F.VERSION) mode lot.now old t k number bytes
         → OnOk result (Beside (form_of F.VERSION) mode lot.now new t k [] (number ∷ []))) }
     ensures sound { (mode k : ℕ) (t : Tree) → IfShown K.View lot.now keep.old disk.old (λ old.
-        StandsLoose (form_of F.VERSION) mode lot.now old t k number bytes → FailsByDisk result) }
+        (0 < bytes → node.now ≡ inode_of old number)
+        → StandsLoose (form_of F.VERSION) mode lot.now old t k number bytes → FailsByDisk result) }
     // Damage that it names is there.
     ensures broken { IfShown K.View lot.now keep.old disk.old (λ old.
-        (0 < bytes → ReachesTo form_one 0 (inode_of old number))
+        (0 < bytes → node.now ≡ inode_of old number)
         → IfErr result (IsFaultBy (LooseBroken lot.now old number))) }
     // What it spends of the keep, and what stays as it was.
     ensures spent { Spent D.Disk K.View lot.now 72 keep.old disk.old keep.new disk.new }
@@ -255,23 +263,10 @@ fn drop_bytes<D: Disk, K: Keep<D>, P: Pool<D, K>, F: Form>(
     if bytes == 0 {
         return Ok(());
     }
-    cut_to::<D, K, P, F>(keep, pool, disk, lot, number, 0)
+    cut_in::<D, K, P, F>(keep, pool, disk, lot, number, node, 0)
 }
 
-/// The inode of nothing.
-fn free_node() -> Inode
-    ensures { result ≡ free_inode }
-{
-    Inode {
-        kind: 0,
-        size: 0,
-        direct: [0; 12],
-        single: 0,
-        double: 0,
-    }
-}
-
-/// Gives back a file of so many bytes, or an empty directory, that no directory names: its blocks and its inode.
+/// Gives back a file of so many bytes, whose inode is in hand, or an empty directory, that no directory names: its blocks and its inode.
 #[tactic(auto, using(ice_base::proofs::SpareLaws::room_laws))]
 fn clear<D: Disk, K: Keep<D>, P: Pool<D, K>, F: Form>(
     keep: &mut K,
@@ -279,25 +274,29 @@ fn clear<D: Disk, K: Keep<D>, P: Pool<D, K>, F: Form>(
     disk: &mut D,
     lot: &Lot,
     number: u32,
+    node: &Inode,
     bytes: u32,
 ) -> Result<(), OpFault>
-    // The lot lies on the disk and the keep has room.
+    // The lot lies on the disk, the keep has room, and bytes are those of a file.
     requires sited { is_sited lot.now (D.state disk.old).size ≡ true }
     requires number { number < 64 * length lot.now.groups }
+    requires file { 0 < bytes → ReachesTo form_one 0 node.now }
     requires room { 75 ≤ K.room keep.old }
     // Where it takes the operation, the lot recovers the changed tree; the disk alone may fail.
     ensures cleared { (mode k : ℕ) (t : Tree)
         → AsShown K.View lot.now keep.old disk.old keep.new disk.new (λ old new.
-        StandsLoose (form_of F.VERSION) mode lot.now old t k number bytes
+        (0 < bytes → node.now ≡ inode_of old number)
+        → StandsLoose (form_of F.VERSION) mode lot.now old t k number bytes
         → OnOk result (MapRecovers (form_of F.VERSION) mode lot.now new t k)) }
     ensures sound { (mode k : ℕ) (t : Tree) → IfShown K.View lot.now keep.old disk.old (λ old.
-        StandsLoose (form_of F.VERSION) mode lot.now old t k number bytes → FailsByDisk result) }
+        (0 < bytes → node.now ≡ inode_of old number)
+        → StandsLoose (form_of F.VERSION) mode lot.now old t k number bytes → FailsByDisk result) }
     // What it answers of any lot, damaged or not.
     ensures freed { AsShown K.View lot.now keep.old disk.old keep.new disk.new (λ old new.
         OnOk result (Freed new number)) }
     // Damage that it names is there.
     ensures broken { IfShown K.View lot.now keep.old disk.old (λ old.
-        (0 < bytes → ReachesTo form_one 0 (inode_of old number))
+        (0 < bytes → node.now ≡ inode_of old number)
         → IfErr result (IsFaultBy (LooseBroken lot.now old number))) }
     // What it spends of the keep, and what stays as it was.
     ensures spent { Spent D.Disk K.View lot.now 75 keep.old disk.old keep.new disk.new }
@@ -306,8 +305,8 @@ fn clear<D: Disk, K: Keep<D>, P: Pool<D, K>, F: Form>(
     ensures faults { IfErr result (IsNamedIn change_rules) }
     ensures failed { Caused D.state FaultDisk result disk.old disk.new }
 {
-    drop_bytes::<D, K, P, F>(keep, pool, disk, lot, number, bytes)?;
-    put_inode::<D, K, P, F>(keep, pool, disk, lot, number, &free_node())?;
+    drop_bytes::<D, K, P, F>(keep, pool, disk, lot, number, node, bytes)?;
+    put_inode::<D, K, P, F>(keep, pool, disk, lot, number, &Inode::empty(0))?;
     pool.give_inode(keep, disk, lot, number)
 }
 
@@ -346,9 +345,12 @@ fn take_away<D: Disk, K: Keep<D>, P: Pool<D, K>, F: Form>(
     ensures faults { IfErr result (IsNamedIn change_rules) }
     ensures failed { Caused D.state FaultDisk result disk.old disk.new }
 {
-    match take::<D, K, P, F>(keep, pool, disk, lot, gone.spot.number, name)? {
+    let mut dir = gone.spot.node;
+    match take_in::<D, K, P, F>(keep, pool, disk, lot, gone.spot.number, &mut dir, name)? {
         None => Err(OpFault::Damaged(Rule::Kind)),
-        Some(_) => clear::<D, K, P, F>(keep, pool, disk, lot, gone.number, gone.bytes),
+        Some(_) => {
+            clear::<D, K, P, F>(keep, pool, disk, lot, gone.number, &gone.node, gone.bytes)
+        }
     }
 }
 

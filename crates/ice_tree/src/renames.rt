@@ -1,5 +1,5 @@
 //! Files and directories that move.
-ghost use Rattle.std.specs.Prelude.{◌≡◌, ◌≢◌, ◌≤◌, ◌<◌, ◌+◌, ◌-◌, ◌*◌, ◌||◌, ℕ, List, true, false, [], ◌∷◌, Some, None, OnOk, IfOk, IfErr, IsErrOf, MatchResult, MatchOption, length, drop, get_or};
+ghost use Rattle.std.specs.Prelude.{◌≡◌, ◌≢◌, ◌≤◌, ◌<◌, ◌+◌, ◌-◌, ◌*◌, ◌||◌, ℕ, List, true, false, [], ◌∷◌, Some, None, OnOk, IfOk, IfErr, IsErrOf, IfSome, MatchResult, MatchOption, length, drop, get_or};
 ghost use Rattle.ice_base.specs.Disk.{Caused};
 ghost use Rattle.ice_base.specs.Lots.{LotView, is_sited, sub_address};
 ghost use Rattle.ice_base.specs.Views.{Looked, Spent, AsShown, IfShown};
@@ -30,8 +30,9 @@ ghost use Rattle.ice_tree.specs.Calls.{ChangesAs, UntouchedAll, LooksIfRefused, 
 use crate::counts::count_up;
 use crate::quota::{Need, check_quota, dir_cost};
 use ice_base::{Disk, Form, Keep, Lot, OpFault, Pool, Rule, View};
-use ice_dir::{add, take};
+use ice_dir::{add_in, take_in};
 use ice_look::{DEEPEST, DirAt, Ends, Place, check_paths, find_ends, is_higher, refusal_of};
+use ice_map::Inode;
 use ice_path::begins;
 use tree_spec::{Name, Path, Refusal};
 
@@ -191,15 +192,17 @@ fn check_ends(from: &Ends, into: &Ends, root: bool, begins: bool, same: bool) ->
     Ok(())
 }
 
-/// The directory at a place.
-fn spot_at(place: Place) -> Option<DirAt>
-    ensures { MatchOption result ((number size : ℕ)
-        → place ≢ Dir number size) (λ spot. place ≡ Dir spot.number spot.entries) }
+/// The directory in which a path's last name stands or is to stand.
+fn spot_of(ends: &Ends) -> Option<DirAt>
+    ensures is { MatchOption result ((number size : ℕ)
+        → ends.now.parent ≢ Dir number size) (λ spot. ends.now.parent ≡ Dir spot.number spot.entries) }
+    ensures node { IfSome result (λ spot. spot.node ≡ ends.now.above) }
 {
-    match place {
+    match ends.parent {
         Place::Dir { number, size } => Some(DirAt {
             number,
             entries: size,
+            node: ends.above,
         }),
         Place::File { .. } => None,
         Place::Missing => None,
@@ -225,9 +228,9 @@ fn move_of(from: &Ends, into: &Ends, same: bool) -> Result<Move, Refusal>
     ensures set { IfErr result (IsOneOf rename_refusals look_rules) }
     ensures faultless { IsErrOf result Fault → ⊥ }
 {
-    match spot_at(from.parent) {
+    match spot_of(from) {
         None => Err(Refusal::Damaged(Rule::Kind as u8)),
-        Some(source) => match spot_at(into.parent) {
+        Some(source) => match spot_of(into) {
             None => Err(Refusal::Damaged(Rule::Kind as u8)),
             Some(target) => Ok(Move {
                 from: source,
@@ -381,6 +384,8 @@ fn may_move<D: Disk, K: Keep<D>, P: Pool<D, K>, F: Form>(
     ensures below { OnOk result ((depth < length path.now) × (depth < length to.now)) }
     ensures is { IfShown K.View lot.now keep.old disk.old (λ old.
         IfOk result (MoveIs (form_of F.VERSION) lot.now old (last_name (drop depth path.now)))) }
+    ensures more { IfOk result (λ step. step.from.number ≢ step.to.number
+        → step.from.entries + step.to.entries < 64 * length lot.now.groups) }
     ensures room { IfShown K.View lot.now keep.old disk.old (λ old.
         IfOk result (RowFits (form_of F.VERSION) lot.now old)) }
     // Damage that it names is there.
@@ -406,6 +411,17 @@ fn may_move<D: Disk, K: Keep<D>, P: Pool<D, K>, F: Form>(
     }
 }
 
+/// The inode of the directory that gains the entry, where `from` is that of the one that has lost it.
+fn gainer(step: &Move, from: &Inode) -> Inode
+    ensures same { step.now.from.number ≡ step.now.to.number → result ≡ from.now }
+    ensures other { step.now.from.number ≢ step.now.to.number → result ≡ step.now.to.node }
+{
+    if step.from.number == step.to.number {
+        return *from;
+    }
+    step.to.node
+}
+
 /// Takes an entry from its directory, and adds it to the other under the new name. Damaged, with the rule on kinds: the directory has no such
 /// entry; with the rule on inodes: the entry names none of the lot.
 fn move_row<D: Disk, K: Keep<D>, P: Pool<D, K>, F: Form>(
@@ -420,6 +436,8 @@ fn move_row<D: Disk, K: Keep<D>, P: Pool<D, K>, F: Form>(
     // The lot lies on the disk and the keep has room.
     requires sited { is_sited lot.now (D.state disk.old).size ≡ true }
     requires fits { MoveFits lot.now step.now }
+    requires more { step.now.from.number ≢ step.now.to.number
+        → step.now.from.entries + step.now.to.entries < 64 * length lot.now.groups }
     requires short { length new.now ≤ F.NAME }
     requires room { 16 ≤ K.room keep.old }
     // Where it takes the operation, the lot recovers the changed tree; the disk alone may fail.
@@ -445,13 +463,15 @@ fn move_row<D: Disk, K: Keep<D>, P: Pool<D, K>, F: Form>(
     ensures failed { Caused D.state FaultDisk result disk.old disk.new }
 {
     let _bytes = new.bytes();
-    match take::<D, K, P, F>(keep, pool, disk, lot, step.from.number, name)? {
+    let mut from = step.from.node;
+    match take_in::<D, K, P, F>(keep, pool, disk, lot, step.from.number, &mut from, name)? {
         None => Err(OpFault::Damaged(Rule::Kind)),
         Some(number) => {
             if number >= 64 * lot.len() as u32 {
                 return Err(OpFault::Damaged(Rule::InodeTwice));
             }
-            add::<D, K, P, F>(keep, pool, disk, lot, step.to.number, new, number)?;
+            let into = gainer(step, &from);
+            add_in::<D, K, P, F>(keep, pool, disk, lot, step.to.number, &into, new, number)?;
             Ok(())
         }
     }
@@ -470,6 +490,8 @@ fn put_moved<D: Disk, K: Keep<D>, P: Pool<D, K>, F: Form>(
     // The lot lies on the disk and the keep has room.
     requires sited { is_sited lot.now (D.state disk.old).size ≡ true }
     requires fits { MoveFits lot.now step.now }
+    requires more { step.now.from.number ≢ step.now.to.number
+        → step.now.from.entries + step.now.to.entries < 64 * length lot.now.groups }
     requires short { length new.now ≤ F.NAME }
     requires room { 17 ≤ K.room keep.old }
     // Where it takes the operation, the lot recovers the changed tree; the disk alone may fail.

@@ -25,8 +25,8 @@ ghost use Rattle.ice_tree.specs.Calls.{ChangesAs, UntouchedAll, LooksIfRefused};
 use crate::counts::count_up;
 use crate::quota::{Need, check_quota, file_cost};
 use ice_base::{Disk, Form, Keep, Lot, OpFault, Pool, View};
-use ice_file::{cut_to, write_at};
-use ice_look::{FileAt, blank_inode, check_path, file_at, refusal_of};
+use ice_file::{cut_in, write_in};
+use ice_look::{FileAt, check_path, file_at, refusal_of};
 use ice_map::longest_file;
 use tree_spec::{Path, Refusal};
 
@@ -73,7 +73,7 @@ fn reach_file<D: Disk, V: View<D>, F: Form>(
         (drop depth path.now ∷ []) ≡ None) }
     ensures fits { IfOk result (FileFits lot.now at) }
     ensures is { IfShown V.View lot.now view.old disk.old (λ old.
-        IfOk result (λ file. FileIs (form_of F.VERSION) lot.now old at file.number)) }
+        IfOk result (λ file. FileIs (form_of F.VERSION) lot.now old at file.number file.node)) }
     ensures size { IfShown V.View lot.now view.old disk.old (λ old.
         IfOk result (λ file. (inode_of old file.number).size ≡ file.size)) }
     // Damage that it names is there.
@@ -91,8 +91,7 @@ fn reach_file<D: Disk, V: View<D>, F: Form>(
     if let Err(refusal) = check_path::<F>(path, depth) {
         return Err(refusal);
     }
-    let mut node = blank_inode();
-    match file_at::<D, V, F>(view, disk, lot, path, depth, &mut node) {
+    match file_at::<D, V, F>(view, disk, lot, path, depth) {
         Err(refusal) => Err(refusal),
         Ok(file) => {
             if at > file.size {
@@ -114,7 +113,7 @@ fn check_write<D: Disk, K: Keep<D>, P: Pool<D, K>, F: Form>(
     depth: usize,
     at: u32,
     bytes: &[u8],
-) -> Result<u32, Refusal>
+) -> Result<FileAt, Refusal>
     // The lot lies on the disk and has a group, and the path begins with the cube's names.
     requires sited { is_sited lot.now (D.state disk.old).size ≡ true }
     requires some { 1 ≤ length lot.now.groups }
@@ -122,14 +121,15 @@ fn check_write<D: Disk, K: Keep<D>, P: Pool<D, K>, F: Form>(
     requires few { length bytes.now ≤ most_bytes }
     // Over a lot that recovers a tree, it finds what the tree has.
     ensures file { IfRecovers K.View F.VERSION lot.now keep.old disk.old (λ old t k.
-        Accepts (λ number. number ≡ inode_at F.VERSION old (drop depth path.now))
+        Accepts (λ file. file.number ≡ inode_at F.VERSION old (drop depth path.now))
         (refusal t k (length lot.now.groups) (form_of F.VERSION)
         (Write (drop depth path.now) at bytes.now)) result) }
     // What it answers of any lot, damaged or not.
-    ensures fits { IfOk result (λ number. number < 64 * length lot.now.groups) }
+    ensures fits { IfOk result (FileFits lot.now at) }
     ensures short { OnOk result (at + length bytes.now ≤ (form_of F.VERSION).longest_file) }
     ensures ready { IfShown K.View lot.now keep.old disk.old (λ old.
-        IfOk result (BytesFit (form_of F.VERSION) lot.now old at (at + length bytes.now))) }
+        IfOk result (λ file. BytesFit (form_of F.VERSION) lot.now old at (at + length bytes.now)
+        file.number file.node)) }
     // Damage that it names is there.
     ensures damaged { NamesBroken K.View (form_of F.VERSION) lot.now keep.old disk.old result }
     // Names alone refuse a path before any call of the disk.
@@ -153,7 +153,7 @@ fn check_write<D: Disk, K: Keep<D>, P: Pool<D, K>, F: Form>(
     }
     let need = size_need(file.size, file.size.max(end));
     match check_quota::<D, K, P, F>(keep, pool, disk, lot, &need) {
-        Ok(()) => Ok(file.number),
+        Ok(()) => Ok(file),
         Err(refusal) => Err(refusal),
     }
 }
@@ -168,20 +168,20 @@ fn check_trunc<D: Disk, K: Keep<D>, P: Pool<D, K>, F: Form>(
     path: &Path,
     depth: usize,
     len: u32,
-) -> Result<u32, Refusal>
+) -> Result<FileAt, Refusal>
     // The lot lies on the disk and has a group, and the path begins with the cube's names.
     requires sited { is_sited lot.now (D.state disk.old).size ≡ true }
     requires some { 1 ≤ length lot.now.groups }
     requires depth { depth ≤ length path.now }
     // Over a lot that recovers a tree, it finds what the tree has.
     ensures file { IfRecovers K.View F.VERSION lot.now keep.old disk.old (λ old t k.
-        Accepts (λ number. number ≡ inode_at F.VERSION old (drop depth path.now))
+        Accepts (λ file. file.number ≡ inode_at F.VERSION old (drop depth path.now))
         (refusal t k (length lot.now.groups) (form_of F.VERSION) (Trunc (drop depth path.now) len))
         result) }
     // What it answers of any lot, damaged or not.
-    ensures fits { IfOk result (λ number. number < 64 * length lot.now.groups) }
+    ensures fits { IfOk result (FileFits lot.now len) }
     ensures ready { IfShown K.View lot.now keep.old disk.old (λ old.
-        IfOk result (FileIs (form_of F.VERSION) lot.now old len)) }
+        IfOk result (λ file. FileIs (form_of F.VERSION) lot.now old len file.number file.node)) }
     ensures room { IfShown K.View lot.now keep.old disk.old (λ old. OnOk result (CanCount old)) }
     // Damage that it names is there.
     ensures damaged { NamesBroken K.View (form_of F.VERSION) lot.now keep.old disk.old result }
@@ -201,7 +201,7 @@ fn check_trunc<D: Disk, K: Keep<D>, P: Pool<D, K>, F: Form>(
     };
     let need = size_need(file.size, len);
     match check_quota::<D, K, P, F>(keep, pool, disk, lot, &need) {
-        Ok(()) => Ok(file.number),
+        Ok(()) => Ok(file),
         Err(refusal) => Err(refusal),
     }
 }
@@ -213,29 +213,29 @@ fn put_bytes<D: Disk, K: Keep<D>, P: Pool<D, K>, F: Form>(
     pool: &mut P,
     disk: &mut D,
     lot: &Lot,
-    number: u32,
+    file: &FileAt,
     at: u32,
     bytes: &[u8],
 ) -> Result<(), OpFault>
     // The lot lies on the disk and the keep has room.
     requires sited { is_sited lot.now (D.state disk.old).size ≡ true }
-    requires number { number < 64 * length lot.now.groups }
+    requires fits { FileFits lot.now at file.now }
     requires room { 49 ≤ K.room keep.old }
     requires few { length bytes.now ≤ most_bytes }
     requires short { at + length bytes.now ≤ (form_of F.VERSION).longest_file }
     // Where it takes the operation, the lot recovers the changed tree; the disk alone may fail.
     ensures set { (mode k : ℕ) (t : Tree) (p : List (List ℕ))
         → AsShown K.View lot.now keep.old disk.old keep.new disk.new (λ old new.
-        TakesAt (form_of F.VERSION) mode lot.now old t k p (Write p at bytes.now) number
+        TakesAt (form_of F.VERSION) mode lot.now old t k p (Write p at bytes.now) file.now.number file.now.node
         → OnOk result (MapRecovers (form_of F.VERSION) mode lot.now new
         (next_tree (Write p at bytes.now) t) (k + 1))) }
     ensures sound { (mode k : ℕ) (t : Tree) (p : List (List ℕ))
         → IfShown K.View lot.now keep.old disk.old (λ old.
-        TakesAt (form_of F.VERSION) mode lot.now old t k p (Write p at bytes.now) number
+        TakesAt (form_of F.VERSION) mode lot.now old t k p (Write p at bytes.now) file.now.number file.now.node
         → FailsByDisk result) }
     // Damage that it names is there.
     ensures broken { IfShown K.View lot.now keep.old disk.old (λ old.
-        BytesFit (form_of F.VERSION) lot.now old at (at + length bytes.now) number
+        BytesFit (form_of F.VERSION) lot.now old at (at + length bytes.now) file.now.number file.now.node
         → IfErr result (IsBrokenBy (form_of F.VERSION) lot.now old)) }
     // What it spends of the keep, and what stays as it was.
     ensures counted { OnOk result (K.held keep.new sub_address ≡ true) }
@@ -244,37 +244,38 @@ fn put_bytes<D: Disk, K: Keep<D>, P: Pool<D, K>, F: Form>(
     ensures faults { IfErr result (IsNamedIn change_rules) }
     ensures failed { Caused D.state FaultDisk result disk.old disk.new }
 {
-    write_at::<D, K, P, F>(keep, pool, disk, lot, number, at, bytes)?;
+    write_in::<D, K, P, F>(keep, pool, disk, lot, file.number, &file.node, at, bytes)?;
     count_up(keep, disk, lot)?;
     Ok(())
 }
 
 /// Cuts a file, as one more accepted operation.
+#[tactic(auto, using(ice_map::proofs::SizeLaws::size_laws))]
 fn put_cut<D: Disk, K: Keep<D>, P: Pool<D, K>, F: Form>(
     keep: &mut K,
     pool: &mut P,
     disk: &mut D,
     lot: &Lot,
-    number: u32,
+    file: &FileAt,
     len: u32,
 ) -> Result<(), OpFault>
     // The lot lies on the disk and the keep has room.
     requires sited { is_sited lot.now (D.state disk.old).size ≡ true }
-    requires number { number < 64 * length lot.now.groups }
+    requires fits { FileFits lot.now len file.now }
     requires room { 73 ≤ K.room keep.old }
     // Where it takes the operation, the lot recovers the changed tree; the disk alone may fail.
     ensures set { (mode k : ℕ) (t : Tree) (p : List (List ℕ))
         → AsShown K.View lot.now keep.old disk.old keep.new disk.new (λ old new.
-        TakesAt (form_of F.VERSION) mode lot.now old t k p (Trunc p len) number
+        TakesAt (form_of F.VERSION) mode lot.now old t k p (Trunc p len) file.now.number file.now.node
         → OnOk result (MapRecovers (form_of F.VERSION) mode lot.now new (next_tree (Trunc p len) t)
         (k + 1))) }
     ensures sound { (mode k : ℕ) (t : Tree) (p : List (List ℕ))
         → IfShown K.View lot.now keep.old disk.old (λ old.
-        TakesAt (form_of F.VERSION) mode lot.now old t k p (Trunc p len) number
+        TakesAt (form_of F.VERSION) mode lot.now old t k p (Trunc p len) file.now.number file.now.node
         → FailsByDisk result) }
     // Damage that it names is there.
     ensures broken { IfShown K.View lot.now keep.old disk.old (λ old.
-        FileIs (form_of F.VERSION) lot.now old len number → CanCount old
+        FileIs (form_of F.VERSION) lot.now old len file.now.number file.now.node → CanCount old
         → IfErr result (IsBrokenBy (form_of F.VERSION) lot.now old)) }
     // What it spends of the keep, and what stays as it was.
     ensures counted { OnOk result (K.held keep.new sub_address ≡ true) }
@@ -283,7 +284,7 @@ fn put_cut<D: Disk, K: Keep<D>, P: Pool<D, K>, F: Form>(
     ensures faults { IfErr result (IsNamedIn change_rules) }
     ensures failed { Caused D.state FaultDisk result disk.old disk.new }
 {
-    cut_to::<D, K, P, F>(keep, pool, disk, lot, number, len)?;
+    cut_in::<D, K, P, F>(keep, pool, disk, lot, file.number, &file.node, len)?;
     count_up(keep, disk, lot)?;
     Ok(())
 }
@@ -325,11 +326,11 @@ pub fn write<D: Disk, K: Keep<D>, P: Pool<D, K>, F: Form>(
     ensures set { IfErr result (IsOneOf write_refusals change_rules) }
     ensures failed { Caused D.state Fault result disk.old disk.new }
 {
-    let number = match check_write::<D, K, P, F>(keep, pool, disk, lot, path, depth, at, bytes) {
-        Ok(number) => number,
+    let file = match check_write::<D, K, P, F>(keep, pool, disk, lot, path, depth, at, bytes) {
+        Ok(file) => file,
         Err(refusal) => return Err(refusal),
     };
-    match put_bytes::<D, K, P, F>(keep, pool, disk, lot, number, at, bytes) {
+    match put_bytes::<D, K, P, F>(keep, pool, disk, lot, &file, at, bytes) {
         Ok(()) => Ok(()),
         Err(fault) => Err(refusal_of(fault)),
     }
@@ -369,11 +370,11 @@ pub fn trunc<D: Disk, K: Keep<D>, P: Pool<D, K>, F: Form>(
     ensures set { IfErr result (IsOneOf trunc_refusals change_rules) }
     ensures failed { Caused D.state Fault result disk.old disk.new }
 {
-    let number = match check_trunc::<D, K, P, F>(keep, pool, disk, lot, path, depth, len) {
-        Ok(number) => number,
+    let file = match check_trunc::<D, K, P, F>(keep, pool, disk, lot, path, depth, len) {
+        Ok(file) => file,
         Err(refusal) => return Err(refusal),
     };
-    match put_cut::<D, K, P, F>(keep, pool, disk, lot, number, len) {
+    match put_cut::<D, K, P, F>(keep, pool, disk, lot, &file, len) {
         Ok(()) => Ok(()),
         Err(fault) => Err(refusal_of(fault)),
     }

@@ -16,7 +16,7 @@ use Rattle.ice_look.proofs.ends.find_ends.Goals as goal
 pub returns-then-len-depth-clause-found : goal.returns-then-len-depth-clause-found
 returns-then-len-depth-clause-found g c = λ mode k t s r.
     let f = form_of g.F.Form.VERSION in
-    ends-root f (own f (g.V.View.map c.args.view.now c.args.disk.now c.args.lot.now)) t c.args.path.now c.args.depth (c.args.depth - c.args.depth) c.in_ok-root.root (sym c.len.ensures ∙ c.if-len-depth.true) (c.in_ok-root.ensures.place mode k t s r)
+    ends-root f (own f (g.V.View.map c.args.view.now c.args.disk.now c.args.lot.now)) t c.args.path.now c.args.depth (c.args.depth - c.args.depth) c.in_ok-root.root c.walk.new.node (sym c.len.ensures ∙ c.if-len-depth.true) (c.in_ok-root.ensures.place mode k t s r)
 
 pub returns-in_err-parent-clause-sound : goal.returns-in_err-parent-clause-sound
 returns-in_err-parent-clause-sound g c = λ mode k t s r.
@@ -47,7 +47,7 @@ returns-clause-found g c = λ mode k t s r.
     let last = c.len-last.result - 1 in
     let names = take (last - c.args.depth) (drop c.args.depth c.args.path.now) in
     let at = c.in_ok-parent.ensures.place mode k t s r in
-    ends-more f o t names (drop c.args.depth c.args.path.now) c.name-name.result c.in_ok-parent.parent c.in_ok-end.end
+    ends-more f o t names (drop c.args.depth c.args.path.now) c.name-name.result c.in_ok-parent.parent c.in_ok-end.end c.walk-2.new.node c.step.new.node
     (names-last c.args.path.now c.args.depth last c.name-name.result (omega arith) (omega arith) (c.name-name.ensures []))
     at
     (next-place f c.args.lot.now o names c.name-name.result t c.in_ok-parent.parent c.in_ok-end.end r.holds.reads at
@@ -82,6 +82,8 @@ returns-clause-are g c = λ s.
       parent_reached = c.in_ok-parent.ensures.reached s;
       end_reached = subst (λ (m : Map). PlaceReached (form_of g.F.Form.VERSION) c.args.lot.now m c.in_ok-end.end) looked.map
           (e.reached (looked.shows s) (subst (λ (m : Map). NodeIs m c.in_ok-parent.parent c.walk-2.new.node) (sym looked.map) (c.in_ok-parent.ensures.node_is s)) (subst (λ (m : Map). PlaceReached (form_of g.F.Form.VERSION) c.args.lot.now m c.in_ok-parent.parent) (sym looked.map) (c.in_ok-parent.ensures.reached s)));
+      above_is = c.in_ok-parent.ensures.node_is s;
+      node_is = subst (λ (m : Map). NodeIs m c.in_ok-end.end c.step.new.node) looked.map (e.node_is (looked.shows s));
     }
 
 pub returns-clause-named : goal.returns-clause-named

@@ -39,7 +39,7 @@ returns-in-Err-add_entries-clause-answers g c = λ mode k t s recovers.
     let r : Reads f c.args.lot.now (own f m) c.in-Ok.dir.number (0 + length names) (Dir x.inside) =
     subst (λ j. Reads f c.args.lot.now (own f m) j (0 + length names) (Dir x.inside)) (sym x.number) (Reads-part f c.args.lot.now (own f m) names 0 0 t (Dir x.inside) x.there recovers.holds.reads) in
     fault_model _ c.in-Err-add_entries.fault _ c.refusal_of.ensures
-    (c.in-Err-add_entries.ensures.sound c.in-Ok.dir.number (0 + length names) x.inside (looked.shows s) (subst (λ (m : ℕ → List ℕ). c.dir_at.new.node ≡ inode_of m c.in-Ok.dir.number) (sym looked.map) (c.in-Ok.ensures.node_is s)) (subst (λ (m : ℕ → List ℕ). Reads f c.args.lot.now (own f m) c.in-Ok.dir.number (0 + length names) (Dir x.inside)) (sym looked.map) r) x.count
+    (c.in-Err-add_entries.ensures.sound c.in-Ok.dir.number (0 + length names) x.inside (looked.shows s) (subst (λ (m : ℕ → List ℕ). c.in-Ok.dir.node ≡ inode_of m c.in-Ok.dir.number) (sym looked.map) (c.in-Ok.ensures.node_is s)) (subst (λ (m : ℕ → List ℕ). Reads f c.args.lot.now (own f m) c.in-Ok.dir.number (0 + length names) (Dir x.inside)) (sym looked.map) r) x.count
     (subst (λ (m : ℕ → List ℕ). IsReached (form_of g.F.Form.VERSION) c.args.lot.now m c.in-Ok.dir.number) (sym looked.map) (c.in-Ok.ensures.reached s))
     (λ b. no-bad-entry f (ap form_of g.F.Form.is_one.0) (form_of g.F.Form.VERSION) (ap form_of g.F.Form.is_one.0) mode c.args.lot.now m t k recovers (subst (BadEntry (form_of g.F.Form.VERSION) c.args.lot.now) looked.map b)))
 
@@ -52,7 +52,7 @@ returns-in-Ok-add_entries-clause-answers g c = λ mode k t s recovers.
     let looked = c.dir_at.ensures.looked in
     let r : Reads f c.args.lot.now (own f m) c.in-Ok.dir.number (0 + length names) (Dir x.inside) =
     subst (λ j. Reads f c.args.lot.now (own f m) j (0 + length names) (Dir x.inside)) (sym x.number) (Reads-part f c.args.lot.now (own f m) names 0 0 t (Dir x.inside) x.there recovers.holds.reads) in
-    let there = c.in-Ok-add_entries.ensures.listed c.in-Ok.dir.number (0 + length names) x.inside (looked.shows s) (subst (λ (m : ℕ → List ℕ). c.dir_at.new.node ≡ inode_of m c.in-Ok.dir.number) (sym looked.map) (c.in-Ok.ensures.node_is s)) (subst (λ (m : ℕ → List ℕ). Reads f c.args.lot.now (own f m) c.in-Ok.dir.number (0 + length names) (Dir x.inside)) (sym looked.map) r) x.count
+    let there = c.in-Ok-add_entries.ensures.listed c.in-Ok.dir.number (0 + length names) x.inside (looked.shows s) (subst (λ (m : ℕ → List ℕ). c.in-Ok.dir.node ≡ inode_of m c.in-Ok.dir.number) (sym looked.map) (c.in-Ok.ensures.node_is s)) (subst (λ (m : ℕ → List ℕ). Reads f c.args.lot.now (own f m) c.in-Ok.dir.number (0 + length names) (Dir x.inside)) (sym looked.map) r) x.count
     (subst (λ (m : ℕ → List ℕ). IsReached (form_of g.F.Form.VERSION) c.args.lot.now m c.in-Ok.dir.number) (sym looked.map) (c.in-Ok.ensures.reached s))
     (λ b. no-bad-entry f (ap form_of g.F.Form.is_one.0) (form_of g.F.Form.VERSION) (ap form_of g.F.Form.is_one.0) mode c.args.lot.now m t k recovers (subst (BadEntry (form_of g.F.Form.VERSION) c.args.lot.now) looked.map b)) in
     let here : c.add_entries.new.room.entries ≡ map (listed_as x.inside) (rows_in f (own f m c.in-Ok.dir.number)) = there ∙ ap (λ (m : ℕ → List ℕ). map (listed_as x.inside) (rows_in f (own f m c.in-Ok.dir.number))) looked.map in
@@ -74,7 +74,7 @@ returns-in-Err-add_entries-clause-damaged g c = λ n named s.
     let is = c.in-Ok.ensures.is s in
     let size = ap (λ (i : Inode). i.size) (c.in-Ok.ensures.node_is s) in
     let broken = c.in-Err-add_entries.ensures.broken number (looked.shows s)
-    (subst (λ (m : ℕ → List ℕ). c.dir_at.new.node ≡ inode_of m number) (sym looked.map) (c.in-Ok.ensures.node_is s))
+    (subst (λ (m : ℕ → List ℕ). c.in-Ok.dir.node ≡ inode_of m number) (sym looked.map) (c.in-Ok.ensures.node_is s))
     (subst (λ (m : ℕ → List ℕ). IsReached f c.args.lot.now m number) (sym looked.map) (c.in-Ok.ensures.reached s)) (omega (arith, size, is.1)) in
     fault-names (IsBroken f c.args.lot.now m) c.in-Err-add_entries.fault _ c.refusal_of.ensures
     (subst (λ (m : ℕ → List ℕ). IsBrokenBy f c.args.lot.now m c.in-Err-add_entries.fault) looked.map broken) n named

@@ -39,7 +39,7 @@ returns-in-Ok-read_in-clause-answers g c = λ mode k t s recovers.
     subst (λ j. Reads f c.args.lot.now (own f m) j (0 + length names) (File x.0)) (sym x.2) (Reads-part f c.args.lot.now (own f m) names 0 0 t (File x.0) x.1 recovers.holds.reads) in
     read-value t k (length c.args.lot.now.groups) f names c.args.at c.args.len c.in_default.ensures.refusal x.0 x.1 (omega (arith, x.3)) c.read_in.new.room.bytes
     (c.in-Ok-read_in.ensures.bytes (looked.shows s)
-    ∙ ap (λ (m : ℕ → List ℕ). take c.args.len (drop c.args.at (file_bytes (own_at f m c.file_at.new.node)))) looked.map
+    ∙ ap (λ (m : ℕ → List ℕ). take c.args.len (drop c.args.at (file_bytes (own_at f m c.in-Ok.file.node)))) looked.map
     ∙ ap (λ (i : Inode). take c.args.len (drop c.args.at (file_bytes (own_at f m i)))) (c.in-Ok.ensures.node_is s)
     ∙ ap (λ bytes. take c.args.len (drop c.args.at bytes)) (file-bytes f (ap form_of g.F.Form.is_one.0) c.args.lot.now m c.in-Ok.file.number (0 + length names) x.0 r (form_of g.F.Form.VERSION) (ap form_of g.F.Form.is_one.0)))
 
@@ -57,7 +57,7 @@ returns-in-Err-read_in-clause-answers g c = λ mode k t s recovers.
     fault_model _ c.in-Err-read_in.fault _ c.refusal_of.ensures
     (read-fails f (ap form_of g.F.Form.is_one.0) c.args.lot.now (g.V.View.map c.file_at.new.view c.file_at.new.disk c.args.lot.now) c.in-Ok.file.number (0 + length names) x.0 (r _ looked.map)
     c.args.at (omega (arith, x.3)) c.in-Err-read_in.fault (read-fault _ e.faults) (λ q r. not-kind _ e.faults q) (λ q. subst (λ (i : Inode). (k : ℕ) × (1024 * k < i.size) × (leads c.args.lot.now (g.V.View.map c.file_at.new.view c.file_at.new.disk c.args.lot.now) i k ≡ false))
-    (subst (λ (m : ℕ → List ℕ). c.file_at.new.node ≡ inode_of m c.in-Ok.file.number) (sym looked.map) (c.in-Ok.ensures.node_is s)) (e.pointer (ap (λ y. Err y) q) (looked.shows s))))
+    (subst (λ (m : ℕ → List ℕ). c.in-Ok.file.node ≡ inode_of m c.in-Ok.file.number) (sym looked.map) (c.in-Ok.ensures.node_is s)) (e.pointer (ap (λ y. Err y) q) (looked.shows s))))
 
 pub returns-in-Err-read_in-clause-damaged : goal.returns-in-Err-read_in-clause-damaged
 returns-in-Err-read_in-clause-damaged g c = λ n named s.
@@ -73,5 +73,5 @@ returns-in-Err-read_in-clause-damaged g c = λ n named s.
     let broken = read-blamed form (ap form_of g.F.Form.is_one.0) lot m1 c.args.at number (subst (λ (m : ℕ → List ℕ). IsReached form lot m number) (sym looked.map) (c.in-Ok.ensures.reached s))
     (subst (λ (m : ℕ → List ℕ). ReachesTo form c.args.at (inode_of m number)) (sym looked.map) reaches)
     c.in-Err-read_in.fault (read-fault _ e.faults) (λ q r. not-kind _ e.faults q) (λ q. subst (λ (i : Inode). (k : ℕ) × (1024 * k < i.size) × (leads c.args.lot.now (g.V.View.map c.file_at.new.view c.file_at.new.disk c.args.lot.now) i k ≡ false))
-    (subst (λ (m : ℕ → List ℕ). c.file_at.new.node ≡ inode_of m c.in-Ok.file.number) (sym looked.map) (c.in-Ok.ensures.node_is s)) (e.pointer (ap (λ y. Err y) q) (looked.shows s))) in
+    (subst (λ (m : ℕ → List ℕ). c.in-Ok.file.node ≡ inode_of m c.in-Ok.file.number) (sym looked.map) (c.in-Ok.ensures.node_is s)) (e.pointer (ap (λ y. Err y) q) (looked.shows s))) in
     fault-names (IsBroken form lot m0) c.in-Err-read_in.fault c.refusal_of.result c.refusal_of.ensures (subst (λ (m : ℕ → List ℕ). IsBrokenBy form lot m c.in-Err-read_in.fault) looked.map broken) n named

@@ -30,7 +30,7 @@ returns-in-Ok-put_new-clause-changed g c = λ mode k t s r.
     let lot = c.args.lot.now in
     let spot = c.in-Ok.ensures.spot c.args.dir mode k t s r in
     let looked = c.check_new.ensures.looked in
-    let takes = takes-after f mode lot (g.K.View.map c.args.keep.now c.args.disk.now lot) (g.K.View.map c.check_new.new.keep c.check_new.new.disk lot) t k p c.args.dir c.in-Ok.spot c.last_of-name.result looked.map r spot.1 c.last_of-name.ensures.last c.last_of-name.ensures.name spot.0 in
+    let takes = takes-after f mode lot (g.K.View.map c.args.keep.now c.args.disk.now lot) (g.K.View.map c.check_new.new.keep c.check_new.new.disk lot) t k p c.args.dir c.in-Ok.spot c.last_of-name.result looked.map r spot.1 (c.in-Ok.ensures.ready s).spot_is.node_is c.last_of-name.ensures.last c.last_of-name.ensures.name spot.0 in
     accepted-recovers t k (length lot.groups) f (new_operation c.args.dir p) (new-changes c.args.dir p) spot.0 mode lot (g.K.View.map c.put_new.new.keep c.put_new.new.disk lot) (c.in-Ok-put_new.ensures.made mode k t p (looked.shows s) takes)
 
 pub returns-in-Err-put_new-clause-answers : goal.returns-in-Err-put_new-clause-answers
@@ -40,7 +40,7 @@ returns-in-Err-put_new-clause-answers g c = λ mode k t s r.
     let lot = c.args.lot.now in
     let spot = c.in-Ok.ensures.spot c.args.dir mode k t s r in
     let looked = c.check_new.ensures.looked in
-    let takes = takes-after f mode lot (g.K.View.map c.args.keep.now c.args.disk.now lot) (g.K.View.map c.check_new.new.keep c.check_new.new.disk lot) t k p c.args.dir c.in-Ok.spot c.last_of-name.result looked.map r spot.1 c.last_of-name.ensures.last c.last_of-name.ensures.name spot.0 in
+    let takes = takes-after f mode lot (g.K.View.map c.args.keep.now c.args.disk.now lot) (g.K.View.map c.check_new.new.keep c.check_new.new.disk lot) t k p c.args.dir c.in-Ok.spot c.last_of-name.result looked.map r spot.1 (c.in-Ok.ensures.ready s).spot_is.node_is c.last_of-name.ensures.last c.last_of-name.ensures.name spot.0 in
     fault_model c.refusal_of.result c.in-Err-put_new.fault (answer t k (length lot.groups) f (new_operation c.args.dir p)).0 c.refusal_of.ensures (c.in-Err-put_new.ensures.sound mode k t p (looked.shows s) takes)
 
 pub returns-in-Err-put_new-clause-set : goal.returns-in-Err-put_new-clause-set

@@ -46,7 +46,7 @@ returns-in-Err-put_away-clause-answers g c = λ mode k t s r.
     let found = c.in-Ok.ensures.found mode k t s r in
     let none = remove-stages t k n f p ∙ none-both (paths_refusal f (p ∷ [])) (later_refusal n f k p t) c.in_default.ensures.refusal found.0 in
     let looked = c.may_remove.ensures.looked in
-    let loses = loses-after f mode lot (g.K.View.map c.args.keep.now c.args.disk.now lot) (g.K.View.map c.may_remove.new.keep c.may_remove.new.disk lot) t k p c.in-Ok.gone c.last_of-name.result looked.map r found.1 c.last_of-name.ensures.last none in
+    let loses = loses-after f mode lot (g.K.View.map c.args.keep.now c.args.disk.now lot) (g.K.View.map c.may_remove.new.keep c.may_remove.new.disk lot) t k p c.in-Ok.gone c.last_of-name.result looked.map r found.1 (c.in-Ok.ensures.is s).spot_is.node_is (c.in-Ok.ensures.is s).node_is c.last_of-name.ensures.last none in
     fault_model c.refusal_of.result c.in-Err-put_away.fault (answer t k n f (Remove p)).0 c.refusal_of.ensures (c.in-Err-put_away.ensures.sound mode k t p (looked.shows s) loses)
 
 pub returns-in-Err-put_away-clause-set : goal.returns-in-Err-put_away-clause-set
@@ -71,7 +71,7 @@ returns-in-Ok-put_away-clause-changed g c = λ mode k t s r.
     let found = c.in-Ok.ensures.found mode k t s r in
     let none = remove-stages t k n f p ∙ none-both (paths_refusal f (p ∷ [])) (later_refusal n f k p t) c.in_default.ensures.refusal found.0 in
     let looked = c.may_remove.ensures.looked in
-    let loses = loses-after f mode lot (g.K.View.map c.args.keep.now c.args.disk.now lot) (g.K.View.map c.may_remove.new.keep c.may_remove.new.disk lot) t k p c.in-Ok.gone c.last_of-name.result looked.map r found.1 c.last_of-name.ensures.last none in
+    let loses = loses-after f mode lot (g.K.View.map c.args.keep.now c.args.disk.now lot) (g.K.View.map c.may_remove.new.keep c.may_remove.new.disk lot) t k p c.in-Ok.gone c.last_of-name.result looked.map r found.1 (c.in-Ok.ensures.is s).spot_is.node_is (c.in-Ok.ensures.is s).node_is c.last_of-name.ensures.last none in
     accepted-recovers t k n f (Remove p) refl none mode lot (g.K.View.map c.put_away.new.keep c.put_away.new.disk lot) (c.in-Ok-put_away.ensures.taken mode k t p (looked.shows s) loses)
 
 pub returns-in-Err-put_away-clause-damaged : goal.returns-in-Err-put_away-clause-damaged

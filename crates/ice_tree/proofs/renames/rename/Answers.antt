@@ -61,7 +61,7 @@ returns-in-Err-put_moved-clause-answers g c = λ mode k t s r.
     let below = c.in-Ok.ensures.below in
     let x = c.in-Ok.ensures.found mode k t s r in
     let is = renames-are f mode c.args.lot.now m later t k c.args.path.now c.args.to.now c.args.depth c.in-Ok.step c.name-name.result c.name-new.result c.may_move.ensures.looked.map r below.0 below.1
-    (c.name-name.ensures [] ∙ ap (λ n. get_or c.args.path.now (n - 1) []) c.len.ensures) (c.name-new.ensures [] ∙ ap (λ n. get_or c.args.to.now (n - 1) []) c.len-in-Ok.ensures) x in
+    (c.name-name.ensures [] ∙ ap (λ n. get_or c.args.path.now (n - 1) []) c.len.ensures) (c.name-new.ensures [] ∙ ap (λ n. get_or c.args.to.now (n - 1) []) c.len-in-Ok.ensures) (c.in-Ok.ensures.is s).from_is.node_is (c.in-Ok.ensures.is s).to_is.node_is x in
     fault_model _ c.in-Err-put_moved.fault _ c.refusal_of.ensures
     (c.in-Err-put_moved.ensures.sound mode k t (drop c.args.depth c.args.path.now) (drop c.args.depth c.args.to.now) (c.may_move.ensures.looked.shows s) is)
 
@@ -77,7 +77,7 @@ returns-in-Ok-put_moved-clause-changed g c = λ mode k t s r.
     let below = c.in-Ok.ensures.below in
     let x = c.in-Ok.ensures.found mode k t s r in
     let is = renames-are f mode c.args.lot.now m later t k c.args.path.now c.args.to.now c.args.depth c.in-Ok.step c.name-name.result c.name-new.result c.may_move.ensures.looked.map r below.0 below.1
-    (c.name-name.ensures [] ∙ ap (λ n. get_or c.args.path.now (n - 1) []) c.len.ensures) (c.name-new.ensures [] ∙ ap (λ n. get_or c.args.to.now (n - 1) []) c.len-in-Ok.ensures) x in
+    (c.name-name.ensures [] ∙ ap (λ n. get_or c.args.path.now (n - 1) []) c.len.ensures) (c.name-new.ensures [] ∙ ap (λ n. get_or c.args.to.now (n - 1) []) c.len-in-Ok.ensures) (c.in-Ok.ensures.is s).from_is.node_is (c.in-Ok.ensures.is s).to_is.node_is x in
     let p = drop c.args.depth c.args.path.now in
     let q = drop c.args.depth c.args.to.now in
     subst (λ (u : Tree). MapRecovers f mode c.args.lot.now (g.K.View.map c.put_moved.new.keep c.put_moved.new.disk c.args.lot.now) u (k + 1)) (answer-next t k (length c.args.lot.now.groups) f (Rename p q) x.0)

@@ -8,19 +8,18 @@ use Rattle.ice_base.specs.Fields.{long_at}
 use Rattle.ice_base.specs.Lots.{sub_address}
 use Rattle.ice_tree.proofs.FaultLaws.{count-broken, done-beside}
 use Rattle.ice_tree.proofs.FileDamage.{write-blamed}
-use Rattle.ice_tree.proofs.WellLaws.{file-confused}
-use Rattle.ice_tree.proofs.Sets.{write-in, count-in}
+use Rattle.ice_tree.proofs.Sets.{grow-in, count-in}
 use Rattle.ice_tree.proofs.CountLaws.{counts_up, count_room}
 use Rattle.ice_tree.proofs.FileLaws.{write-made, write-recovers, write-sound}
 use Rattle.ice_tree.proofs.writes.put_bytes.Goals as goal
 
-pub returns-in_err-write_at-clause-sound : goal.returns-in_err-write_at-clause-sound
-returns-in_err-write_at-clause-sound g c = λ mode k t p s takes.
+pub returns-in_err-write_in-clause-sound : goal.returns-in_err-write_in-clause-sound
+returns-in_err-write_in-clause-sound g c = λ mode k t p s takes.
     let x = err_from_is_err_and c.from_residual.result c.from_residual.ensures.1 in
-    let e = c.in_err-write_at.ensures in
+    let e = c.in_err-write_in.ensures in
     rw (x.1, x.2)
-    (write-sound (form_of g.F.Form.VERSION) (ap form_of g.F.Form.is_one.0) (form_of g.F.Form.VERSION) (ap form_of g.F.Form.is_one.0) mode c.args.lot.now (g.K.View.map c.args.keep.now c.args.disk.now c.args.lot.now) t k p c.args.number (sited-few c.args.lot.now _ c.requires.sited)
-    c.args.at c.args.bytes.now takes _ e.faults (λ q. e.none (ap (λ y. Err y) q) s) (λ q. e.full (ap (λ y. Err y) q) s) (λ q. e.kind (ap (λ y. Err y) q) s) (λ q. file-confused c.args.lot.now (form_of g.F.Form.VERSION) (ap form_of g.F.Form.is_one.0) (g.K.View.map c.args.keep.now c.args.disk.now c.args.lot.now) c.args.number c.args.at (e.file (ap (λ y. Err y) q) s) (e.misled (ap (λ y. Err y) q) s)) (λ q. e.unreserved (ap (λ y. Err y) q) s))
+    (write-sound (form_of g.F.Form.VERSION) (ap form_of g.F.Form.is_one.0) (form_of g.F.Form.VERSION) (ap form_of g.F.Form.is_one.0) mode c.args.lot.now (g.K.View.map c.args.keep.now c.args.disk.now c.args.lot.now) t k p c.args.file.now.number c.args.file.now.node (sited-few c.args.lot.now _ c.requires.sited)
+    c.args.at c.args.bytes.now takes _ e.faults (λ q. e.none (ap (λ y. Err y) q) s) (λ q. e.full (ap (λ y. Err y) q) s) (λ q. e.misled (ap (λ y. Err y) q) s) (λ q. e.unreserved (ap (λ y. Err y) q) s))
 
 pub returns-in_err-count_up-clause-sound : goal.returns-in_err-count_up-clause-sound
 returns-in_err-count_up-clause-sound g c = λ mode k t p s takes.
@@ -31,12 +30,12 @@ returns-in_err-count_up-clause-sound g c = λ mode k t p s takes.
     let lot = c.args.lot.now in
     let few = sited-few lot _ c.requires.sited in
     let m = g.K.View.map c.args.keep.now c.args.disk.now lot in
-    let m' = g.K.View.map c.write_at.new.keep c.write_at.new.disk lot in
-    let well = write-made f one (form_of g.F.Form.VERSION) (ap form_of g.F.Form.is_one.0) mode lot m t k p c.args.number few c.args.at c.args.bytes.now takes in
+    let m' = g.K.View.map c.write_in.new.keep c.write_in.new.disk lot in
+    let well = write-made f one (form_of g.F.Form.VERSION) (ap form_of g.F.Form.is_one.0) mode lot m t k p c.args.file.now.number c.args.file.now.node few c.args.at c.args.bytes.now takes in
     rw (x.1, x.2)
     (count_room f one mode lot m' (next_tree (Write p c.args.at c.args.bytes.now) t) k
-    (write-recovers f one (form_of g.F.Form.VERSION) (ap form_of g.F.Form.is_one.0) mode lot m t k p c.args.number few c.args.at c.args.bytes.now takes m' (c.in_ok-write_at.ensures.written s well))
-    t (length lot.groups) f (Write p c.args.at c.args.bytes.now) refl takes.accepted _ e.faults (λ q. e.full (ap (λ y. Err y) q) (c.write_at.ensures.spent.shows s)))
+    (write-recovers f one (form_of g.F.Form.VERSION) (ap form_of g.F.Form.is_one.0) mode lot m t k p c.args.file.now.number c.args.file.now.node few c.args.at c.args.bytes.now takes m' (c.in_ok-write_in.ensures.written s takes.node_is well))
+    t (length lot.groups) f (Write p c.args.at c.args.bytes.now) refl takes.accepted _ e.faults (λ q. e.full (ap (λ y. Err y) q) (c.write_in.ensures.spent.shows s)))
 
 pub returns-clause-set : goal.returns-clause-set
 returns-clause-set g c = λ mode k t p s takes.
@@ -45,34 +44,34 @@ returns-clause-set g c = λ mode k t p s takes.
     let lot = c.args.lot.now in
     let few = sited-few lot _ c.requires.sited in
     let m = g.K.View.map c.args.keep.now c.args.disk.now lot in
-    let m' = g.K.View.map c.write_at.new.keep c.write_at.new.disk lot in
-    let well = write-made f one (form_of g.F.Form.VERSION) (ap form_of g.F.Form.is_one.0) mode lot m t k p c.args.number few c.args.at c.args.bytes.now takes in
+    let m' = g.K.View.map c.write_in.new.keep c.write_in.new.disk lot in
+    let well = write-made f one (form_of g.F.Form.VERSION) (ap form_of g.F.Form.is_one.0) mode lot m t k p c.args.file.now.number c.args.file.now.node few c.args.at c.args.bytes.now takes in
     counts_up f one mode lot m' (next_tree (Write p c.args.at c.args.bytes.now) t) k
-    (write-recovers f one (form_of g.F.Form.VERSION) (ap form_of g.F.Form.is_one.0) mode lot m t k p c.args.number few c.args.at c.args.bytes.now takes m' (c.in_ok-write_at.ensures.written s well))
-    few (g.K.View.map c.count_up.new.keep c.count_up.new.disk lot) (c.in_ok-count_up.ensures.counted (c.write_at.ensures.spent.shows s))
+    (write-recovers f one (form_of g.F.Form.VERSION) (ap form_of g.F.Form.is_one.0) mode lot m t k p c.args.file.now.number c.args.file.now.node few c.args.at c.args.bytes.now takes m' (c.in_ok-write_in.ensures.written s takes.node_is well))
+    few (g.K.View.map c.count_up.new.keep c.count_up.new.disk lot) (c.in_ok-count_up.ensures.counted (c.write_in.ensures.spent.shows s))
 
-pub returns-in_err-write_at-clause-broken : goal.returns-in_err-write_at-clause-broken
-returns-in_err-write_at-clause-broken g c = λ s fits.
+pub returns-in_err-write_in-clause-broken : goal.returns-in_err-write_in-clause-broken
+returns-in_err-write_in-clause-broken g c = λ s fits.
     let x = err_from_is_err_and c.from_residual.result c.from_residual.ensures.1 in
-    let e = c.in_err-write_at.ensures in
+    let e = c.in_err-write_in.ensures in
     let m0 = g.K.View.map c.args.keep.now c.args.disk.now c.args.lot.now in
     rw (x.1, x.2)
-    (write-blamed (form_of g.F.Form.VERSION) (ap form_of g.F.Form.is_one.0) c.args.lot.now m0 c.args.at (c.args.at + length c.args.bytes.now) c.args.number (sited-few c.args.lot.now _ c.requires.sited) c.requires.short fits _ e.faults
-    (λ q. e.none (ap (λ y. Err y) q) s) (λ q. e.full (ap (λ y. Err y) q) s) (λ q. e.kind (ap (λ y. Err y) q) s) (λ q. e.unreserved (ap (λ y. Err y) q) s) (λ q. e.misled (ap (λ y. Err y) q) s))
+    (write-blamed (form_of g.F.Form.VERSION) (ap form_of g.F.Form.is_one.0) c.args.lot.now m0 c.args.at (c.args.at + length c.args.bytes.now) c.args.file.now.number c.args.file.now.node (sited-few c.args.lot.now _ c.requires.sited) c.requires.short fits _ e.faults
+    (λ q. e.none (ap (λ y. Err y) q) s) (λ q. e.full (ap (λ y. Err y) q) s) (λ q. e.unreserved (ap (λ y. Err y) q) s) (λ q. e.misled (ap (λ y. Err y) q) s))
 
 pub returns-in_err-count_up-clause-broken : goal.returns-in_err-count_up-clause-broken
 returns-in_err-count_up-clause-broken g c = λ s fits.
     let x = err_from_is_err_and c.from_residual-in_err-count_up.result c.from_residual-in_err-count_up.ensures.1 in
     let e = c.in_err-count_up.ensures in
     let m0 = g.K.View.map c.args.keep.now c.args.disk.now c.args.lot.now in
-    let m1 = g.K.View.map c.write_at.new.keep c.write_at.new.disk c.args.lot.now in
-    let stays = done-beside (m0 sub_address) (m1 sub_address) (c.in_ok-write_at.ensures.sub s) in
-    rw (x.1, x.2) (count-broken _ (long_at (m1 sub_address) 16) _ e.faults (λ q. e.full (ap (λ y. Err y) q) (c.write_at.ensures.spent.shows s)) (omega (arith, stays, fits.done)))
+    let m1 = g.K.View.map c.write_in.new.keep c.write_in.new.disk c.args.lot.now in
+    let stays = done-beside (m0 sub_address) (m1 sub_address) (c.in_ok-write_in.ensures.sub s) in
+    rw (x.1, x.2) (count-broken _ (long_at (m1 sub_address) 16) _ e.faults (λ q. e.full (ap (λ y. Err y) q) (c.write_in.ensures.spent.shows s)) (omega (arith, stays, fits.done)))
 
-pub returns-in_err-write_at-clause-faults : goal.returns-in_err-write_at-clause-faults
-returns-in_err-write_at-clause-faults g c =
+pub returns-in_err-write_in-clause-faults : goal.returns-in_err-write_in-clause-faults
+returns-in_err-write_in-clause-faults g c =
     let x = err_from_is_err_and c.from_residual.result c.from_residual.ensures.1 in
-    rw (x.1, x.2) (write-in _ c.in_err-write_at.ensures.faults)
+    rw (x.1, x.2) (grow-in _ c.in_err-write_in.ensures.faults)
 
 pub returns-in_err-count_up-clause-faults : goal.returns-in_err-count_up-clause-faults
 returns-in_err-count_up-clause-faults g c =

@@ -31,7 +31,7 @@ returns-in-Ok-put_cut-clause-changed g c = λ mode k t s r.
     let lot = c.args.lot.now in
     let file = c.in-Ok.ensures.file mode k t s r in
     let looked = c.check_trunc.ensures.looked in
-    let takes = takes_at-after f mode lot (g.K.View.map c.args.keep.now c.args.disk.now lot) (g.K.View.map c.check_trunc.new.keep c.check_trunc.new.disk lot) t k p (Trunc p c.args.len) c.in-Ok.number looked.map r file.1 file.0 in
+    let takes = takes_at-after f mode lot (g.K.View.map c.args.keep.now c.args.disk.now lot) (g.K.View.map c.check_trunc.new.keep c.check_trunc.new.disk lot) t k p (Trunc p c.args.len) c.in-Ok.file.number c.in-Ok.file.node looked.map r file.1 (c.in-Ok.ensures.ready s).node_is file.0 in
     accepted-recovers t k (length lot.groups) f (Trunc p c.args.len) refl file.0 mode lot (g.K.View.map c.put_cut.new.keep c.put_cut.new.disk lot) (c.in-Ok-put_cut.ensures.set mode k t p (looked.shows s) takes)
 
 pub returns-in-Err-put_cut-clause-answers : goal.returns-in-Err-put_cut-clause-answers
@@ -41,7 +41,7 @@ returns-in-Err-put_cut-clause-answers g c = λ mode k t s r.
     let lot = c.args.lot.now in
     let file = c.in-Ok.ensures.file mode k t s r in
     let looked = c.check_trunc.ensures.looked in
-    let takes = takes_at-after f mode lot (g.K.View.map c.args.keep.now c.args.disk.now lot) (g.K.View.map c.check_trunc.new.keep c.check_trunc.new.disk lot) t k p (Trunc p c.args.len) c.in-Ok.number looked.map r file.1 file.0 in
+    let takes = takes_at-after f mode lot (g.K.View.map c.args.keep.now c.args.disk.now lot) (g.K.View.map c.check_trunc.new.keep c.check_trunc.new.disk lot) t k p (Trunc p c.args.len) c.in-Ok.file.number c.in-Ok.file.node looked.map r file.1 (c.in-Ok.ensures.ready s).node_is file.0 in
     fault_model c.refusal_of.result c.in-Err-put_cut.fault (answer t k (length lot.groups) f (Trunc p c.args.len)).0 c.refusal_of.ensures (c.in-Err-put_cut.ensures.sound mode k t p (looked.shows s) takes)
 
 pub returns-in-Err-put_cut-clause-set : goal.returns-in-Err-put_cut-clause-set
@@ -55,6 +55,6 @@ returns-in-Err-put_cut-clause-damaged g c = λ n named s.
     let lot = c.args.lot.now in
     let m0 = g.K.View.map c.args.keep.now c.args.disk.now lot in
     let looked = c.check_trunc.ensures.looked in
-    let broken = c.in-Err-put_cut.ensures.broken (looked.shows s) (subst (λ (m : Map). FileIs (form_of g.F.Form.VERSION) lot m c.args.len c.in-Ok.number) (sym looked.map) (c.in-Ok.ensures.ready s)) (subst (λ (m : Map). CanCount m) (sym looked.map) (c.in-Ok.ensures.room s)) in
+    let broken = c.in-Err-put_cut.ensures.broken (looked.shows s) (subst (λ (m : Map). FileIs (form_of g.F.Form.VERSION) lot m c.args.len c.in-Ok.file.number c.in-Ok.file.node) (sym looked.map) (c.in-Ok.ensures.ready s)) (subst (λ (m : Map). CanCount m) (sym looked.map) (c.in-Ok.ensures.room s)) in
     fault-names (IsBroken (form_of g.F.Form.VERSION) lot m0) c.in-Err-put_cut.fault c.refusal_of.result c.refusal_of.ensures
     (subst (λ (m : Map). IsBrokenBy (form_of g.F.Form.VERSION) lot m c.in-Err-put_cut.fault) looked.map broken) n named

@@ -30,7 +30,7 @@ returns-in-Ok-put_bytes-clause-changed g c = λ mode k t s r.
     let lot = c.args.lot.now in
     let file = c.in-Ok.ensures.file mode k t s r in
     let looked = c.check_write.ensures.looked in
-    let takes = takes_at-after f mode lot (g.K.View.map c.args.keep.now c.args.disk.now lot) (g.K.View.map c.check_write.new.keep c.check_write.new.disk lot) t k p (Write p c.args.at c.args.bytes.now) c.in-Ok.number looked.map r file.1 file.0 in
+    let takes = takes_at-after f mode lot (g.K.View.map c.args.keep.now c.args.disk.now lot) (g.K.View.map c.check_write.new.keep c.check_write.new.disk lot) t k p (Write p c.args.at c.args.bytes.now) c.in-Ok.file.number c.in-Ok.file.node looked.map r file.1 (c.in-Ok.ensures.ready s).file_is.node_is file.0 in
     accepted-recovers t k (length lot.groups) f (Write p c.args.at c.args.bytes.now) refl file.0 mode lot (g.K.View.map c.put_bytes.new.keep c.put_bytes.new.disk lot) (c.in-Ok-put_bytes.ensures.set mode k t p (looked.shows s) takes)
 
 pub returns-in-Err-put_bytes-clause-answers : goal.returns-in-Err-put_bytes-clause-answers
@@ -40,7 +40,7 @@ returns-in-Err-put_bytes-clause-answers g c = λ mode k t s r.
     let lot = c.args.lot.now in
     let file = c.in-Ok.ensures.file mode k t s r in
     let looked = c.check_write.ensures.looked in
-    let takes = takes_at-after f mode lot (g.K.View.map c.args.keep.now c.args.disk.now lot) (g.K.View.map c.check_write.new.keep c.check_write.new.disk lot) t k p (Write p c.args.at c.args.bytes.now) c.in-Ok.number looked.map r file.1 file.0 in
+    let takes = takes_at-after f mode lot (g.K.View.map c.args.keep.now c.args.disk.now lot) (g.K.View.map c.check_write.new.keep c.check_write.new.disk lot) t k p (Write p c.args.at c.args.bytes.now) c.in-Ok.file.number c.in-Ok.file.node looked.map r file.1 (c.in-Ok.ensures.ready s).file_is.node_is file.0 in
     fault_model c.refusal_of.result c.in-Err-put_bytes.fault (answer t k (length lot.groups) f (Write p c.args.at c.args.bytes.now)).0 c.refusal_of.ensures (c.in-Err-put_bytes.ensures.sound mode k t p (looked.shows s) takes)
 
 pub returns-in-Err-put_bytes-clause-set : goal.returns-in-Err-put_bytes-clause-set
@@ -54,6 +54,6 @@ returns-in-Err-put_bytes-clause-damaged g c = λ n named s.
     let lot = c.args.lot.now in
     let m0 = g.K.View.map c.args.keep.now c.args.disk.now lot in
     let looked = c.check_write.ensures.looked in
-    let broken = c.in-Err-put_bytes.ensures.broken (looked.shows s) (subst (λ (m : Map). BytesFit (form_of g.F.Form.VERSION) lot m c.args.at (c.args.at + length c.args.bytes.now) c.in-Ok.number) (sym looked.map) (c.in-Ok.ensures.ready s)) in
+    let broken = c.in-Err-put_bytes.ensures.broken (looked.shows s) (subst (λ (m : Map). BytesFit (form_of g.F.Form.VERSION) lot m c.args.at (c.args.at + length c.args.bytes.now) c.in-Ok.file.number c.in-Ok.file.node) (sym looked.map) (c.in-Ok.ensures.ready s)) in
     fault-names (IsBroken (form_of g.F.Form.VERSION) lot m0) c.in-Err-put_bytes.fault c.refusal_of.result c.refusal_of.ensures
     (subst (λ (m : Map). IsBrokenBy (form_of g.F.Form.VERSION) lot m c.in-Err-put_bytes.fault) looked.map broken) n named
