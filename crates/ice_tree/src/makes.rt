@@ -23,7 +23,7 @@ ghost use Rattle.ice_tree.specs.Calls.{ChangesAs, UntouchedAll, LooksIfRefused, 
 use crate::counts::count_up;
 use crate::quota::{Need, check_quota, dir_cost};
 use ice_base::{Disk, Form, Keep, Lot, OpFault, Pool, Rule};
-use ice_dir::add;
+use ice_dir::add_in;
 use ice_look::{DirAt, Ends, Place, check_path, find_ends, last_of, refusal_of};
 use ice_map::{Inode, put_inode};
 use tree_spec::{Name, Path, Refusal};
