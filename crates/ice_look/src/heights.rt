@@ -12,42 +12,48 @@ ghost use Rattle.tree_spec.specs.Trees.{Tree, Entries, Dir, Found, rows, height}
 ghost use Rattle.ice_map.specs.Own.{own};
 ghost use Rattle.ice_look.specs.Broken.{IsBrokenBy, count_within, count_within_place};
 ghost use Rattle.ice_look.specs.Heights.{IsEntry, IsChild, IsHeightFault};
-ghost use Rattle.ice_look.specs.Places.{IsReached, PlaceFits, PlaceIs, PlaceReached, place_by};
+ghost use Rattle.ice_look.specs.Places.{IsReached, PlaceFits, PlaceIs, PlaceReached, place_by, NodeFits, NodeIs};
 ghost use Rattle.ice_look.specs.Calls.{FailsByDisk, ReadsIn};
 
 use crate::blank::blank_name;
 use crate::place::{Place, enter};
 use ice_base::{Disk, Form, Lot, OpFault, Rule, View};
-use ice_dir::entry;
+use ice_dir::entry_in;
 use ice_map::Inode;
 
-/// The place of the inode that entry `k` of a directory names.
+/// The place of the inode that entry `k` of a directory names; the inode goes into `child`.
 fn entry_place<D: Disk, V: View<D>, F: Form>(
     view: &mut V,
     disk: &mut D,
     lot: &Lot,
-    number: u32,
+    node: &Inode,
     k: u32,
+    child: &mut Inode,
 ) -> Result<Place, OpFault>
-    // The lot lies on the disk.
+    // The lot lies on the disk, and the inode in hand is a directory's.
     requires sited { is_sited lot.now (D.state disk.old).size ≡ true }
-    requires number { number < 64 * length lot.now.groups }
+    requires is { IsDirectory lot.now node.now }
     // Where the inode stands for a tree, it finds what the tree has; the disk alone may fail.
-    ensures place { (h : ℕ) (es : Entries) → IfShown V.View lot.now view.old disk.old (λ old.
-        ReadsIn F.VERSION lot.now old number h (Dir es) → k < length (rows es)
+    ensures place { (number h : ℕ) (es : Entries) → IfShown V.View lot.now view.old disk.old (λ old.
+        node.now ≡ inode_of old number → ReadsIn F.VERSION lot.now old number h (Dir es) → k < length (rows es)
         → IfOk result (IsChild (form_of F.VERSION) lot.now
         (own (form_of F.VERSION) old) number h k es)) }
-    ensures sound { (h : ℕ) (es : Entries) → IfShown V.View lot.now view.old disk.old (λ old.
-        ReadsIn F.VERSION lot.now old number h (Dir es) → k < length (rows es)
+    ensures sound { (number h : ℕ) (es : Entries) → IfShown V.View lot.now view.old disk.old (λ old.
+        node.now ≡ inode_of old number → ReadsIn F.VERSION lot.now old number h (Dir es) → k < length (rows es)
         → FailsByDisk result) }
     // What it answers of any lot, damaged or not.
     ensures fits { IfOk result (PlaceFits lot.now) }
-    ensures child { IfShown V.View lot.now view.old disk.old (λ old.
-        IsReached (form_of F.VERSION) lot.now old number → HasEntry lot.now k (inode_of old number)
+    ensures node { IfOk result (λ p. NodeFits lot.now p child.new) }
+    ensures node_is { IfShown V.View lot.now view.old disk.old (λ old.
+        IfOk result (λ p. NodeIs old p child.new)) }
+    ensures child { (number : ℕ) → IfShown V.View lot.now view.old disk.old (λ old.
+        node.now ≡ inode_of old number → IsReached (form_of F.VERSION) lot.now old number
+        → HasEntry lot.now k node.now
         → IfOk result (IsEntry (form_of F.VERSION) lot.now old number k)) }
     // Damage that it names is there.
-    ensures broken { IfShown V.View lot.now view.old disk.old (λ old.
-        IsReached (form_of F.VERSION) lot.now old number → HasEntry lot.now k (inode_of old number)
+    ensures broken { (number : ℕ) → IfShown V.View lot.now view.old disk.old (λ old.
+        node.now ≡ inode_of old number → IsReached (form_of F.VERSION) lot.now old number
+        → HasEntry lot.now k node.now
         → IfErr result (IsBrokenBy (form_of F.VERSION) lot.now old)) }
     // What stays as it was.
     ensures looked { Looked D.Disk V.View lot.now view.old disk.old view.new disk.new }
@@ -56,46 +62,45 @@ fn entry_place<D: Disk, V: View<D>, F: Form>(
     ensures failed { Caused D.state FaultDisk result disk.old disk.new }
 {
     let mut name = blank_name();
-    let inode = entry::<D, V, F>(view, disk, lot, number, k, &mut name)?;
-    let mut node = Inode::empty(0);
-    enter::<D, V, F>(view, disk, lot, inode, &mut node)
+    let next = entry_in::<D, V, F>(view, disk, lot, node, k, &mut name)?;
+    enter::<D, V, F>(view, disk, lot, next, child)
 }
 
-/// Whether one of the `size` entries of a directory is higher than `levels`.
+/// Whether one of the entries of a directory is higher than `levels`.
 #[cycle(heights)]
 fn has_higher<D: Disk, V: View<D>, F: Form>(
     view: &mut V,
     disk: &mut D,
     lot: &Lot,
-    number: u32,
-    size: u32,
+    node: &Inode,
     levels: u32,
     budget: &mut u32,
 ) -> Result<bool, OpFault>
-    // The lot lies on the disk.
+    // The lot lies on the disk, and the inode in hand is a directory's.
     requires sited { is_sited lot.now (D.state disk.old).size ≡ true }
-    requires number { number < 64 * length lot.now.groups }
+    requires is { IsDirectory lot.now node.now }
     requires levels { levels < 24 }
     // Where the inode stands for a tree, it finds what the tree has; the disk alone may fail.
-    ensures higher { (h : ℕ) (es : Entries) → IfShown V.View lot.now view.old disk.old (λ old.
-        ReadsIn F.VERSION lot.now old number h (Dir es) → size ≡ length (rows es)
+    ensures higher { (number h : ℕ) (es : Entries) → IfShown V.View lot.now view.old disk.old (λ old.
+        node.now ≡ inode_of old number → ReadsIn F.VERSION lot.now old number h (Dir es)
+        → node.now.size ≡ length (rows es)
         → nodes (Dir es) ≤ budget.old + 1
         → IfOk result (λ b. b ≡ nat_lt (levels + 1) (height (Dir es)))) }
-    ensures sound { (h : ℕ) (es : Entries) → IfShown V.View lot.now view.old disk.old (λ old.
-        ReadsIn F.VERSION lot.now old number h (Dir es) → size ≡ length (rows es)
+    ensures sound { (number h : ℕ) (es : Entries) → IfShown V.View lot.now view.old disk.old (λ old.
+        node.now ≡ inode_of old number → ReadsIn F.VERSION lot.now old number h (Dir es)
+        → node.now.size ≡ length (rows es)
         → nodes (Dir es) ≤ budget.old + 1 → FailsByDisk result) }
-    ensures budget { (h : ℕ) (es : Entries) → IfShown V.View lot.now view.old disk.old (λ old.
-        ReadsIn F.VERSION lot.now old number h (Dir es) → size ≡ length (rows es)
+    ensures budget { (number h : ℕ) (es : Entries) → IfShown V.View lot.now view.old disk.old (λ old.
+        node.now ≡ inode_of old number → ReadsIn F.VERSION lot.now old number h (Dir es)
+        → node.now.size ≡ length (rows es)
         → nodes (Dir es) ≤ budget.old + 1 → budget.old + 1 ≤ budget.new + nodes (Dir es)) }
     // Damage that it names is there.
-    ensures pays { IfShown V.View lot.now view.old disk.old (λ old.
-        IsReached (form_of F.VERSION) lot.now old number → IsDirectory lot.now (inode_of old number)
-        → (inode_of old number).size ≡ size
+    ensures pays { (number : ℕ) → IfShown V.View lot.now view.old disk.old (λ old.
+        node.now ≡ inode_of old number → IsReached (form_of F.VERSION) lot.now old number
         → IfOk result (λ b. b ≡ false
         → budget.old + 1 ≤ budget.new + count_within (form_of F.VERSION) old (levels + 1) number)) }
-    ensures broken { IfShown V.View lot.now view.old disk.old (λ old.
-        IsReached (form_of F.VERSION) lot.now old number → IsDirectory lot.now (inode_of old number)
-        → (inode_of old number).size ≡ size
+    ensures broken { (number : ℕ) → IfShown V.View lot.now view.old disk.old (λ old.
+        node.now ≡ inode_of old number → IsReached (form_of F.VERSION) lot.now old number
         → IfErr result (λ e. IsBrokenBy (form_of F.VERSION) lot.now old e
         ⊎ ((e ≡ Damaged InodeTwice) × (budget.old + 1 < count_within (form_of F.VERSION) old (levels + 1) number)))) }
     // What stays as it was.
@@ -105,9 +110,10 @@ fn has_higher<D: Disk, V: View<D>, F: Form>(
     ensures faults { IfErr result IsHeightFault }
     ensures failed { Caused D.state FaultDisk result disk.old disk.new }
 {
-    for k in 0..size {
-        let place = entry_place::<D, V, F>(view, disk, lot, number, k)?;
-        let higher = is_higher::<D, V, F>(view, disk, lot, place, levels, budget)?;
+    for k in 0..node.size {
+        let mut child = Inode::empty(0);
+        let place = entry_place::<D, V, F>(view, disk, lot, node, k, &mut child)?;
+        let higher = is_higher::<D, V, F>(view, disk, lot, place, &child, levels, budget)?;
         if higher {
             return Ok(true);
         }
@@ -124,30 +130,32 @@ pub fn is_higher<D: Disk, V: View<D>, F: Form>(
     disk: &mut D,
     lot: &Lot,
     place: Place,
+    node: &Inode,
     levels: u32,
     budget: &mut u32,
 ) -> Result<bool, OpFault>
-    // The lot lies on the disk.
+    // The lot lies on the disk, and the inode in hand agrees with the place.
     requires sited { is_sited lot.now (D.state disk.old).size ≡ true }
     requires fits { PlaceFits lot.now place }
+    requires in_hand { NodeFits lot.now place node.now }
     requires levels { levels ≤ 24 }
     // Where the inode stands for a tree, it finds what the tree has; the disk alone may fail.
     ensures higher { (i h : ℕ) (s : Tree) → IfShown V.View lot.now view.old disk.old (λ old.
-        ReadsIn F.VERSION lot.now old i h s → place ≡ place_by i (Found s) → nodes s ≤ budget.old
+        NodeIs old place node.now → ReadsIn F.VERSION lot.now old i h s → place ≡ place_by i (Found s) → nodes s ≤ budget.old
         → IfOk result (λ b. b ≡ nat_lt levels (height s))) }
     ensures sound { (i h : ℕ) (s : Tree) → IfShown V.View lot.now view.old disk.old (λ old.
-        ReadsIn F.VERSION lot.now old i h s → place ≡ place_by i (Found s) → nodes s ≤ budget.old
+        NodeIs old place node.now → ReadsIn F.VERSION lot.now old i h s → place ≡ place_by i (Found s) → nodes s ≤ budget.old
         → FailsByDisk result) }
     ensures budget { (i h : ℕ) (s : Tree) → IfShown V.View lot.now view.old disk.old (λ old.
-        ReadsIn F.VERSION lot.now old i h s → place ≡ place_by i (Found s) → nodes s ≤ budget.old
+        NodeIs old place node.now → ReadsIn F.VERSION lot.now old i h s → place ≡ place_by i (Found s) → nodes s ≤ budget.old
         → budget.old ≤ budget.new + nodes s) }
     // Damage that it names is there.
     ensures pays { IfShown V.View lot.now view.old disk.old (λ old.
-        PlaceIs old place → PlaceReached (form_of F.VERSION) lot.now old place
+        NodeIs old place node.now → PlaceIs old place → PlaceReached (form_of F.VERSION) lot.now old place
         → IfOk result (λ b. b ≡ false
         → budget.old ≤ budget.new + count_within_place (form_of F.VERSION) old levels place)) }
     ensures broken { IfShown V.View lot.now view.old disk.old (λ old.
-        PlaceIs old place → PlaceReached (form_of F.VERSION) lot.now old place
+        NodeIs old place node.now → PlaceIs old place → PlaceReached (form_of F.VERSION) lot.now old place
         → IfErr result (λ e. IsBrokenBy (form_of F.VERSION) lot.now old e
         ⊎ ((e ≡ Damaged InodeTwice) × (budget.old < count_within_place (form_of F.VERSION) old levels place)))) }
     // What stays as it was.
@@ -162,14 +170,14 @@ pub fn is_higher<D: Disk, V: View<D>, F: Form>(
     }
     *budget -= 1;
     match place {
-        Place::Dir { number, size } => {
+        Place::Dir { size, .. } => {
             if size == 0 {
                 return Ok(false);
             }
             if levels == 0 {
                 return Ok(true);
             }
-            has_higher::<D, V, F>(view, disk, lot, number, size, levels - 1, budget)
+            has_higher::<D, V, F>(view, disk, lot, node, levels - 1, budget)
         }
         Place::File { .. } => Ok(false),
         Place::Missing => Ok(false),

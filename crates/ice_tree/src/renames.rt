@@ -21,7 +21,7 @@ ghost use Rattle.ice_tree.specs.Quotas.{Needs};
 ghost use Rattle.ice_tree.specs.Renames.{MoveIs, RowFits, is_place, is_dir_place, height_refusal, ends_refusal, move_refusal, IsMove, MoveFits, Renames};
 ghost use Rattle.ice_look.specs.Outcomes.{meant_plain, IsOneOf, look_rules, list_rules};
 ghost use Rattle.ice_tree.specs.Outcomes.{IsNamedIn, rename_refusals, change_rules, rename_rules};
-ghost use Rattle.ice_look.specs.Places.{PlaceFits, PlaceIs, PlaceReached, PlaceNamed, place_at, place_by};
+ghost use Rattle.ice_look.specs.Places.{PlaceFits, PlaceIs, PlaceReached, PlaceNamed, place_at, place_by, NodeFits, NodeIs};
 ghost use Rattle.ice_look.specs.Stages.{paths_refusal};
 ghost use Rattle.ice_look.specs.declared.place.Place.TheVariants.{File, Dir, Missing, Blocked};
 ghost use Rattle.ice_look.specs.Calls.{IfRecovers, AnswersAs, FailsByDisk, RefusedBy, Accepts, RefusesPaths, NamesBroken};
@@ -112,23 +112,26 @@ fn check_height<D: Disk, V: View<D>, F: Form>(
     disk: &mut D,
     lot: &Lot,
     place: Place,
+    node: &Inode,
     here: usize,
     there: usize,
 ) -> Result<(), Refusal>
-    // The lot lies on the disk.
+    // The lot lies on the disk, and the inode in hand agrees with the place.
     requires sited { is_sited lot.now (D.state disk.old).size ≡ true }
     requires fits { PlaceFits lot.now place }
+    requires in_hand { NodeFits lot.now place node.now }
     requires shallow { there ≤ deepest }
     // Over a lot that recovers a tree, it finds what the tree has.
     ensures height { (mode k : ℕ) (t : Tree) (p q : List (List ℕ))
         → IfShown V.View lot.now view.old disk.old (λ old.
-        MapRecovers (form_of F.VERSION) mode lot.now old t k
+        NodeIs old place node.now → MapRecovers (form_of F.VERSION) mode lot.now old t k
         → place ≡ place_at (form_of F.VERSION) (own (form_of F.VERSION) old) p t
         → length p ≡ here → length q ≡ there → RefusedBy (height_refusal p q t) result) }
     // Damage that it names is there.
     ensures damaged { (n : ℕ) → IsErrOf result (Damaged n)
         → IfShown V.View lot.now view.old disk.old (λ old.
-        PlaceIs old place → PlaceReached (form_of F.VERSION) lot.now old place → (r : Rule)
+        NodeIs old place node.now → PlaceIs old place
+        → PlaceReached (form_of F.VERSION) lot.now old place → (r : Rule)
         × (n ≡ rule_number r) × IsBroken (form_of F.VERSION) lot.now old r) }
     // What stays as it was.
     ensures looked { Looked D.Disk V.View lot.now view.old disk.old view.new disk.new }
@@ -147,7 +150,7 @@ fn check_height<D: Disk, V: View<D>, F: Form>(
     }
     let mut budget = 64 * lot.len() as u32;
     let levels = (DEEPEST - there) as u32;
-    match is_higher::<D, V, F>(view, disk, lot, place, levels, &mut budget) {
+    match is_higher::<D, V, F>(view, disk, lot, place, node, levels, &mut budget) {
         Err(fault) => Err(refusal_of(fault)),
         Ok(true) => Err(Refusal::TooDeep),
         Ok(false) => Ok(()),
@@ -283,7 +286,7 @@ fn find_move<D: Disk, V: View<D>, F: Form>(
     };
     let here = path.len() - depth;
     let there = to.len() - depth;
-    if let Err(refusal) = check_height::<D, V, F>(view, disk, lot, from.end, here, there) {
+    if let Err(refusal) = check_height::<D, V, F>(view, disk, lot, from.end, &from.node, here, there) {
         return Err(refusal);
     }
     let inside = begins(path, to, depth);

@@ -12,7 +12,7 @@ use Rattle.ice_look.specs.Broken.{IsBroken}
 use Rattle.ice_look.specs.Ends.{IsEnds, EndsAre}
 use Rattle.ice_tree.specs.Renames.{MoveIs, height_refusal, ends_refusal, IsMove}
 use Rattle.ice_rules.specs.Rules.{rule_number}
-use Rattle.ice_look.specs.Places.{place_at, PlaceIs, PlaceReached}
+use Rattle.ice_look.specs.Places.{place_at, PlaceIs, PlaceReached, NodeIs}
 use Rattle.ice_look.proofs.LookLaws.{fault_as}
 use Rattle.ice_tree.proofs.StageLaws.{refused-now, refused-later, none-both, recovers-same}
 use Rattle.ice_tree.proofs.RenameLaws.{found-move}
@@ -38,7 +38,7 @@ returns-in-Err-check_height-clause-found g c = λ mode k t s r.
     let here = length-drop c.args.depth c.args.path.now in
     let there = length-drop c.args.depth c.args.to.now in
     refused-now (refused_of c.in-Err-check_height.refusal) (height_refusal p q t) (ends_refusal p q t)
-    (c.in-Err-check_height.ensures.height mode k t p q (two.shows (one.shows s)) (recovers-same f mode c.args.lot.now _ _ t k (two.map ∙ one.map) r)
+    (c.in-Err-check_height.ensures.height mode k t p q (two.shows (one.shows s)) (subst (λ (m : Map). NodeIs m c.in-Ok.ends.end c.in-Ok.ends.node) (sym (two.map ∙ one.map)) (c.in-Ok.ensures.are s).node_is) (recovers-same f mode c.args.lot.now _ _ t k (two.map ∙ one.map) r)
     (subst (λ (m : Map). c.in-Ok.ends.end ≡ place_at f (own f m) p t) (sym (two.map ∙ one.map)) (c.in-Ok.ensures.found mode k t s r).at_end)
     (omega (arith, c.len.ensures)) (omega (arith, c.len-2.ensures)))
 
@@ -55,7 +55,7 @@ returns-in-Err-check_ends-clause-found g c = λ mode k t s r.
     let from = c.in-Ok.ensures.found mode k t s r in
     let into = c.in-Ok-find_ends.ensures.found mode k t (one.shows s) (recovers-same f mode c.args.lot.now _ _ t k one.map r) in
     refused-later (refused_of c.in-Err-check_ends.refusal) (height_refusal p q t) (ends_refusal p q t)
-    (c.in_default.ensures.height mode k t p q (two.shows (one.shows s)) (recovers-same f mode c.args.lot.now _ _ t k (two.map ∙ one.map) r)
+    (c.in_default.ensures.height mode k t p q (two.shows (one.shows s)) (subst (λ (m : Map). NodeIs m c.in-Ok.ends.end c.in-Ok.ends.node) (sym (two.map ∙ one.map)) (c.in-Ok.ensures.are s).node_is) (recovers-same f mode c.args.lot.now _ _ t k (two.map ∙ one.map) r)
     (subst (λ (m : Map). c.in-Ok.ends.end ≡ place_at f (own f m) p t) (sym (two.map ∙ one.map)) from.at_end)
     (omega (arith, c.len.ensures)) (omega (arith, c.len-2.ensures)))
     (c.in-Err-check_ends.ensures.ends f (own f m) p q t from (subst (λ (m : Map). IsEnds f (own f m) q t c.in-Ok-find_ends.ends) one.map into)
@@ -73,7 +73,7 @@ returns-clause-found g c = λ mode k t s r.
     let there = length-drop c.args.depth c.args.to.now in
     let from = c.in-Ok.ensures.found mode k t s r in
     let into = subst (λ (m : Map). IsEnds f (own f m) q t c.in-Ok-find_ends.ends) one.map (c.in-Ok-find_ends.ensures.found mode k t (one.shows s) (recovers-same f mode c.args.lot.now _ _ t k one.map r)) in
-    let high = c.in_default.ensures.height mode k t p q (two.shows (one.shows s)) (recovers-same f mode c.args.lot.now _ _ t k (two.map ∙ one.map) r)
+    let high = c.in_default.ensures.height mode k t p q (two.shows (one.shows s)) (subst (λ (m : Map). NodeIs m c.in-Ok.ends.end c.in-Ok.ends.node) (sym (two.map ∙ one.map)) (c.in-Ok.ensures.are s).node_is) (recovers-same f mode c.args.lot.now _ _ t k (two.map ∙ one.map) r)
     (subst (λ (m : Map). c.in-Ok.ends.end ≡ place_at f (own f m) p t) (sym (two.map ∙ one.map)) from.at_end)
     (omega (arith, c.len.ensures)) (omega (arith, c.len-2.ensures)) in
     let ends = c.in_default-check_ends.ensures.ends f (own f m) p q t from into
@@ -89,7 +89,7 @@ returns-in-Err-check_height-clause-damaged g c = λ n e s.
     let from = c.in-Ok.ensures.are s in
     let same : c.in-Err-check_height.refusal ≡ Damaged n = cc in
     subst (λ (m : Map). (r : Rule) × (n ≡ rule_number r) × IsBroken form lot m r) (two.map ∙ one.map)
-    (c.in-Err-check_height.ensures.damaged n (ap (λ x. Err x) same) (two.shows (one.shows s)) (subst (λ (m : Map). PlaceIs m c.in-Ok.ends.end) (sym (two.map ∙ one.map)) from.end)
+    (c.in-Err-check_height.ensures.damaged n (ap (λ x. Err x) same) (two.shows (one.shows s)) (subst (λ (m : Map). NodeIs m c.in-Ok.ends.end c.in-Ok.ends.node) (sym (two.map ∙ one.map)) (c.in-Ok.ensures.are s).node_is) (subst (λ (m : Map). PlaceIs m c.in-Ok.ends.end) (sym (two.map ∙ one.map)) from.end)
     (subst (λ (m : Map). PlaceReached form lot m c.in-Ok.ends.end) (sym (two.map ∙ one.map)) from.end_reached))
 
 pub returns-clause-damaged : goal.returns-clause-damaged
