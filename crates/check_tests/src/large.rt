@@ -126,7 +126,7 @@ fn the_largest_lot_is_read_in_a_few_looks_at_each_block(rt: HostRuntime) -> Resu
         done: 0,
     };
     assert_eq!(rt; got, Ok(want));
-    assert_eq!(rt; host.reads(), 32_701);
+    assert_eq!(rt; host.reads(), 24_511);
     assert!(rt; host.reads() <= 8 * (257 + 4096 + 64));
     Ok(())
 }

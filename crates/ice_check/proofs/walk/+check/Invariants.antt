@@ -2,6 +2,7 @@ use Rattle.std.proofs.Common.{◌≡◌, ℕ, ◌+◌, ◌-◌, ◌*◌, List, [
 use Rattle.ice_base.specs.Views.{Looked}
 use Rattle.tree_spec.specs.Costs.{form_one}
 use Rattle.ice_reads.specs.Tables.{Map, rows_in}
+use Rattle.ice_map.specs.Inodes.{inode_of}
 use Rattle.ice_map.specs.Own.{own}
 use Rattle.ice_rules.specs.Walks.{IsOpen}
 use Rattle.ice_check.specs.Marks.{CheckedRows, IsAt, SeenBefore}
@@ -20,8 +21,8 @@ invariant-check_rows-loop-k g l = record {
   long : length l.inodes ≡ length l.fn.inodes;
   wide : length l.blocks ≡ length l.fn.blocks;
   room : length l.names ≡ length l.fn.names;
-  checked : (m : Map) → Shows g.V.View l.lot l.fn.view l.fn.disk m → IsOpen form_one l.lot m l.number → l.count ≡ length (rows_in form_one (own form_one m l.number))
-      → CheckedRows form_one l.lot m (rows_in form_one (own form_one m l.number)) (l.depth + 1) l.k l.fn.inodes l.inodes l.fn.blocks l.blocks;
-  seen : (m : Map) (w : List ℕ) → Shows g.V.View l.lot l.fn.view l.fn.disk m → IsOpen form_one l.lot m l.number → l.count ≡ length (rows_in form_one (own form_one m l.number))
-      → IsAt form_one l.lot m w l.number l.depth → SeenBefore form_one l.lot m (w ++ 0 ∷ []) l.fn.inodes l.fn.blocks → SeenBefore form_one l.lot m (w ++ l.k ∷ []) l.inodes l.blocks;
+  checked : (m : Map) (number : ℕ) → Shows g.V.View l.lot l.fn.view l.fn.disk m → l.node ≡ inode_of m number → IsOpen form_one l.lot m number → l.node.size ≡ length (rows_in form_one (own form_one m number))
+      → CheckedRows form_one l.lot m (rows_in form_one (own form_one m number)) (l.depth + 1) l.k l.fn.inodes l.inodes l.fn.blocks l.blocks;
+  seen : (m : Map) (w : List ℕ) (number : ℕ) → Shows g.V.View l.lot l.fn.view l.fn.disk m → l.node ≡ inode_of m number → IsOpen form_one l.lot m number → l.node.size ≡ length (rows_in form_one (own form_one m number))
+      → IsAt form_one l.lot m w number l.depth → SeenBefore form_one l.lot m (w ++ 0 ∷ []) l.fn.inodes l.fn.blocks → SeenBefore form_one l.lot m (w ++ l.k ∷ []) l.inodes l.blocks;
 }

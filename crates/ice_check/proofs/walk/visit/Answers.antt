@@ -49,8 +49,10 @@ returns-then-inode-eq1-clause-file g c = λ m s.
     file_here c.args.lot.now m c.args.number c.in_ok-inode.inode (c.in_ok-inode.ensures.value m s) c.in_ok-inode.ensures.kind c.look.new.pointers c.map_blocks-count.result c.map_blocks-count.ensures
     (c.in_ok-inode.ensures.content m s) c.in_ok-inode.ensures.fits c.if-inode-eq1.true
 
-pub returns-clause-few : goal.returns-clause-few
-returns-clause-few g c = (dir_kind c.args.lot.now c.args.number c.in_ok-inode.inode c.in_ok-inode.ensures.kind c.if-inode-eq1.false).1
+pub returns-clause-is : goal.returns-clause-is
+returns-clause-is g c =
+    let dir = dir_kind c.args.lot.now c.args.number c.in_ok-inode.inode c.in_ok-inode.ensures.kind c.if-inode-eq1.false in
+    record { kind = dir.0; few = dir.1 }
 
 pub returns-clause-dir : goal.returns-clause-dir
 returns-clause-dir g c = λ m s.

@@ -1,6 +1,5 @@
-use Rattle.std.proofs.Common.{rules, ◌≤◌, ◌*◌, ℕ, List, true, false, ap, refl, sym, ◌∙◌, arith}
+use Rattle.std.proofs.Common.{rules, ◌≤◌, ◌*◌, ℕ, List, true, ap, refl, sym, ◌∙◌, arith}
 use Rattle.tree_spec.specs.Costs.{form_of}
-use Rattle.ice_base.specs.Used.{used_inode}
 use Rattle.ice_map.proofs.GrowLaws.{inode_not_bitmap}
 use Rattle.ice_map.proofs.MarkLaws.{used-same}
 use Rattle.std.proofs.lemmas.Bool.Decides.{nat_tests}

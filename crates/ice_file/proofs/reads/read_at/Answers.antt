@@ -1,4 +1,4 @@
-use Rattle.std.proofs.Common.{ap, rules, ◌≤◌, List, ℕ, ◌∙◌, refl, arith}
+use Rattle.std.proofs.Common.{ap, arith}
 use Rattle.tree_spec.specs.Costs.{form_of}
 use Rattle.ice_file.proofs.FileLaws.{unmade}
 use Rattle.ice_file.proofs.reads.read_at.Goals as goal
