@@ -1,7 +1,7 @@
 -- The bytes of an entry in a cube of the form.
-use Rattle.std.proofs.Common.{◌≡◌, ℕ, refl, sym, ap, ◌∙◌}
+use Rattle.std.proofs.Common.{◌≡◌, ℕ, refl, sym, ◌∙◌}
 use Rattle.ice_map.specs.Own.{entry_size}
-use Rattle.tree_spec.specs.Costs.{Form, form_one, form_of}
+use Rattle.tree_spec.specs.Costs.{form_of}
 
 -- those of version 1
 pub entry-one : (version : ℕ) → version ≡ 1 → entry_size (form_of version) ≡ 64

@@ -60,9 +60,13 @@ cut-loose form one lot m len number node is file (Damaged Counts) f zero unused 
     inl (file.kind, omega (arith, file.small, ap (λ (g : Form). g.longest_file) one), omega (arith, low))
 cut-loose form one lot m len number node is file (Damaged Bitmap) f zero unused placed misled =
     let x = inode_of m number in
-    inl (file.kind, omega (arith, file.small, ap (λ (g : Form). g.longest_file) one), subst (λ (i : Inode). 12 < blocks_for i.size → is_data lot i.single ≡ true) is (placed refl),
-    free-or m x (blocks_for x.size) (off-free m x (blocks_for x.size) (blocks_for len) (count-less len x.size file.reaches)
-    (subst (λ (i : Inode). FreeOrTwice m (cut_off m i (blocks_for i.size) (blocks_for len))) is (unused refl))))
+    inl (
+      file.kind,
+      omega (arith, file.small, ap (λ (g : Form). g.longest_file) one),
+      subst (λ (i : Inode). 12 < blocks_for i.size → is_data lot i.single ≡ true) is (placed refl),
+      free-or m x (blocks_for x.size) (off-free m x (blocks_for x.size) (blocks_for len) (count-less len x.size file.reaches)
+          (subst (λ (i : Inode). FreeOrTwice m (cut_off m i (blocks_for i.size) (blocks_for len))) is (unused refl))),
+    )
 cut-loose form one lot m len number node is file (Damaged Pointer) f zero unused placed misled =
     (file.kind, omega (arith, file.small, ap (λ (g : Form). g.longest_file) one), subst (λ (i : Inode). Misleads lot m i (blocks_for i.size)) is (misled refl))
 cut-loose form one lot m len number node is file _ f zero unused placed misled = absurd f

@@ -1,11 +1,11 @@
 -- What a removal that fails says of the lot.
-use Rattle.std.proofs.Common.{false, ◌≡◌, ◌<◌, ℕ, List, ◌≢◌, sym, ap, ◌∙◌, subst, arith, inl, true, [], ◌∷◌, refl, inr, ◌*◌}
+use Rattle.std.proofs.Common.{false, ◌≡◌, ℕ, List, ◌≢◌, sym, ap, ◌∙◌, subst, arith, inl, true, [], ◌∷◌, refl, inr, ◌*◌}
 use Rattle.ice_base.specs.Fields.{long_at, word_at}
 use Rattle.ice_base.specs.Inodes.{inode_address, inode_index}
 use Rattle.ice_base.specs.Lots.{LotView, sub_address}
 use Rattle.ice_base.specs.Pools.{GaveInode}
 use Rattle.ice_base.proofs.FieldLaws.{long-beside}
-use Rattle.ice_map.specs.Inodes.{inode_of, inode_at, InodeSet, Blank}
+use Rattle.ice_map.specs.Inodes.{inode_at, InodeSet, Blank}
 use Rattle.ice_base.specs.Used.{used, used_inode, bitmap_of, count_place, counted}
 use Rattle.ice_base.specs.Faults.{IsGiveFault}
 use Rattle.ice_base.specs.declared.fault.OpFault.{OpFault}
@@ -18,9 +18,7 @@ use Rattle.ice_steps.specs.Beside.{OnlyAt, DoneSet}
 use Rattle.ice_steps.proofs.Keeps.{only-one, only-two}
 use Rattle.ice_look.specs.Broken.{IsFaultBy}
 use Rattle.ice_tree.specs.Removes.{free_inode, Freed, RemovalIs, LooseBroken}
-use Rattle.ice_file.specs.Files.{ReachesTo}
-use Rattle.ice_dir.specs.Changes.{EntryGone}
-use Rattle.tree_spec.specs.Costs.{Form, form_one}
+use Rattle.tree_spec.specs.Costs.{Form}
 use Rattle.ice_tree.specs.declared.removes.Removal.{Removal}
 
 -- what was found holds after a look too

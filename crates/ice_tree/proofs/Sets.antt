@@ -6,7 +6,6 @@ use Rattle.ice_base.specs.Faults.{IsDiskFault, IsTakeInodeFault, IsGiveFault}
 use Rattle.ice_base.specs.declared.fault.OpFault.{OpFault}
 use Rattle.ice_base.specs.declared.fault.OpFault.TheVariants.{Disk, Damaged, NoSpace, NoNodes}
 use Rattle.ice_base.specs.declared.fault.Rule.TheVariants as rule
-use Rattle.ice_dir.specs.Faults.{IsAddFault, IsRemovalFault}
 use Rattle.ice_map.specs.Faults.{IsGrowFault, IsCutFault}
 use Rattle.tree_spec.specs.Replies.{refusal_number}
 use Rattle.tree_spec.specs.declared.reply.Refusal.{Refusal}
@@ -79,23 +78,6 @@ give-in Disk h = tt
 give-in (Damaged rule.Counts) h = refl
 give-in (Damaged rule.Bitmap) h = refl
 give-in _ h = absurd h
-
-pub add-in : (e : OpFault) → IsAddFault e → IsNamedIn change_rules e
-add-in Disk h = tt
-add-in (Damaged rule.Counts) h = refl
-add-in (Damaged rule.Kind) h = refl
-add-in (Damaged rule.Pointer) h = refl
-add-in (Damaged rule.Bitmap) h = refl
-add-in NoSpace h = refl
-add-in _ h = absurd h
-
-pub take-in : (e : OpFault) → IsRemovalFault e → IsNamedIn change_rules e
-take-in Disk h = tt
-take-in (Damaged rule.Counts) h = refl
-take-in (Damaged rule.Kind) h = refl
-take-in (Damaged rule.Pointer) h = refl
-take-in (Damaged rule.Bitmap) h = refl
-take-in _ h = absurd h
 
 pub cut-in : (e : OpFault) → IsCutFault e → IsNamedIn change_rules e
 cut-in Disk h = tt

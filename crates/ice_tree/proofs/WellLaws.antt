@@ -1,6 +1,5 @@
 -- A map that is well made is none of those that a failed call below shows.
-use Rattle.std.proofs.Common.{◌≡◌, ℕ, List, Result, Err, subst}
-use Rattle.std.specs.Prelude.{IfErr}
+use Rattle.std.proofs.Common.{◌≡◌, ℕ, List, subst}
 use Rattle.ice_base.specs.Lots.{LotView}
 use Rattle.ice_map.specs.Inodes.{inode_of}
 use Rattle.ice_map.specs.Maps.{cut_off, FreeOrTwice, Misleads}
@@ -14,10 +13,6 @@ use Rattle.ice_dir.specs.Rows.{IsDirectory}
 use Rattle.tree_spec.specs.Costs.{Form, form_one}
 use Rattle.ice_map.proofs.OwnLaws.{made-short}
 use Rattle.ice_look.proofs.MapDamage.{map-dir, map-file}
-
--- what a failed call says of its fault
-pub err-at : {T E : Type 0} (P : E → Type 0) (r : Result T E) (e : E) → r ≡ Err e → IfErr r P → P e
-err-at P r e is h = subst (λ x. IfErr x P) is h
 
 module _ (lot : LotView) (form : Form) (one : form ≡ form_one) (m : ℕ → List ℕ) (number : ℕ) where
   made-dir : IsDirectory lot (inode_of m number) → WellMade lot form m number → MadeOf lot m (inode_of m number) (entry_blocks form (inode_of m number).size)

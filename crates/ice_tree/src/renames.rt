@@ -286,7 +286,9 @@ fn find_move<D: Disk, V: View<D>, F: Form>(
     };
     let here = path.len() - depth;
     let there = to.len() - depth;
-    if let Err(refusal) = check_height::<D, V, F>(view, disk, lot, from.end, &from.node, here, there) {
+    if let Err(refusal) = check_height::<D, V, F>(
+        view, disk, lot, from.end, &from.node, here, there,
+    ) {
         return Err(refusal);
     }
     let inside = begins(path, to, depth);

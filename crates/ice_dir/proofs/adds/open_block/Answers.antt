@@ -1,4 +1,4 @@
-use Rattle.std.proofs.Common.{rules, ℕ, ◌∙◌, List, sym, ap, subst, ⊎_elim, arith}
+use Rattle.std.proofs.Common.{rules, ℕ, List, sym, subst, ⊎_elim}
 use Rattle.ice_map.specs.Moves.{HadBlock}
 use Rattle.ice_map.proofs.DamageLaws.{misled-single}
 use Rattle.ice_dir.proofs.adds.open_block.Goals as goal

@@ -108,14 +108,14 @@ has_higher-loop-k-preserved g t c = record {
   looked = search rules;
   falls = (let p = c.loop-k.invariant.falls in let q = c.in_ok-higher.ensures.falls in omega arith);
   pays = λ number s hand reached.
-    let dir = subst (IsDirectory c.args.lot.now) hand c.requires.is in
-    let size = ap (λ (i : Inode). i.size) (sym hand) in
+      let dir = subst (IsDirectory c.args.lot.now) hand c.requires.is in
+      let size = ap (λ (i : Inode). i.size) (sym hand) in
       let lot = c.args.lot.now in
       let m = g.V.View.map c.args.view.now c.args.disk.now c.args.lot.now in
       let inv = c.loop-k.invariant in
       let here = subst (λ (n : Map). IsReached (form_of g.F.Form.VERSION) lot n number) (sym inv.looked.map) reached in
       let here_too = subst (λ (n : Map). c.args.node.now ≡ inode_of n number) (sym inv.looked.map) hand in
-    let has : HasEntry lot c.loop-k.k c.args.node.now = record { is = c.requires.is; below = omega arith } in
+      let has : HasEntry lot c.loop-k.k c.args.node.now = record { is = c.requires.is; below = omega arith } in
       let child = subst (λ (n : Map). IsEntry (form_of g.F.Form.VERSION) lot n number c.loop-k.k c.in_ok-place.place) inv.looked.map (c.in_ok-place.ensures.child number (inv.looked.shows s) here_too here has) in
       let then = c.entry_place.ensures.looked in
       let is = subst (λ (n : Map). PlaceIs n c.in_ok-place.place) (sym (then.map ∙ inv.looked.map)) child.is in
@@ -294,6 +294,9 @@ is_higher-returns-else-levels-eq0-clause-broken g t c = λ shows hand is reached
     let level : c.args.levels - 1 + 1 ≡ c.args.levels = omega arith in
     IfErr-weaker c.has_higher.result (λ e. IsBrokenBy f lot m e ⊎ ((e ≡ Damaged InodeTwice) × (c.args.budget.now - 1 + 1 < count_within f m (c.args.levels - 1 + 1) c.in-Dir.number)))
     (λ e. IsBrokenBy f lot m e ⊎ ((e ≡ Damaged InodeTwice) × (c.args.budget.now < count_within_place f m c.args.levels c.args.place)))
-    (λ e. ⊎_elim inl (λ spent. inr (spent.0, subst (λ (p : Place). c.args.budget.now < count_within_place f m c.args.levels p) (sym c.in-Dir.is)
-    (omega (arith, spent.1, ap (λ n. count_within f m n c.in-Dir.number) level)))))
+    (λ e. ⊎_elim inl (λ spent. inr (
+      spent.0,
+      subst (λ (p : Place). c.args.budget.now < count_within_place f m c.args.levels p) (sym c.in-Dir.is)
+          (omega (arith, spent.1, ap (λ n. count_within f m n c.in-Dir.number) level)),
+    )))
     (c.has_higher.ensures.broken c.in-Dir.number shows node there)
