@@ -1,16 +1,16 @@
 //! Entries that are added.
 ghost use Rattle.std.specs.Prelude.{◌≡◌, ◌≢◌, ◌≤◌, ◌<◌, ◌*◌, ◌+◌, ◌/◌, ◌^◌, ◌++◌, ℕ, List, true, false, [], ◌∷◌, OnOk, OnErr, IfOk, IfErr, IsErrOf, length};
 ghost use Rattle.ice_base.specs.Disk.{Caused};
-ghost use Rattle.ice_base.specs.Fields.{SameBeside};
-ghost use Rattle.ice_base.specs.Lots.{is_sited, sub_address};
-ghost use Rattle.ice_base.specs.Used.{is_data, count_place, counted, free_count, Reserved};
+ghost use Rattle.ice_base.specs.Lots.{is_sited};
+ghost use Rattle.ice_base.specs.Used.{is_data, counted, free_count, Reserved};
 ghost use Rattle.ice_base.specs.Views.{Looked, Spent, AsShown, IfShown};
 ghost use Rattle.ice_base.specs.declared.fault.OpFault.TheVariants.{Disk as FaultDisk, Damaged, NoSpace};
 ghost use Rattle.ice_base.specs.declared.fault.Rule.{Rule};
 ghost use Rattle.ice_base.specs.declared.fault.Rule.TheVariants.{Counts, Kind, Pointer, Bitmap};
 ghost use Rattle.ice_map.specs.Faults.{IsGrowFault};
+ghost use Rattle.ice_map.specs.Growth.{BlocksRunOut, CountRunsOut, SubStays};
 ghost use Rattle.ice_map.specs.Inodes.{inode_of};
-ghost use Rattle.ice_map.specs.Maps.{longest, needs, Misleads};
+ghost use Rattle.ice_map.specs.Maps.{longest, Misleads};
 ghost use Rattle.ice_map.specs.Own.{MadeOf, WellMade};
 ghost use Rattle.ice_map.specs.Moves.{HadBlock, content_of, uses_of};
 ghost use Rattle.ice_dir.specs.Changes.{FewFree, CountFull, blocks_sized, HasEntryRoom, DirSet, RowPut, TextAdded, entry_blocks};
@@ -51,9 +51,9 @@ fn open_block<D: Disk, K: Keep<D>, P: Pool<D, K>, F: Form>(
     ensures size { OnOk result (inode.new.size ≡ inode.old.size) }
     ensures spent { Spent D.Disk K.View lot.now 6 keep.old disk.old keep.new disk.new }
     ensures none { IsErrOf result NoSpace → IfShown K.View lot.now keep.old disk.old (λ old.
-        (k ≡ count) × (free_count false lot.now old < needs count)) }
+        BlocksRunOut lot.now old count k) }
     ensures full { IsErrOf result (Damaged Counts) → IfShown K.View lot.now keep.old disk.old (λ old.
-        (k ≡ count) × (2 ^ 32 ≤ counted false old + needs count)) }
+        CountRunsOut old count k) }
     ensures unreserved { IsErrOf result (Damaged Bitmap)
         → IfShown K.View lot.now keep.old disk.old (λ old. ¬ Reserved lot.now old) }
     ensures misled { IsErrOf result (Damaged Pointer) → IfShown K.View lot.now keep.old disk.old (λ old.
@@ -63,7 +63,7 @@ fn open_block<D: Disk, K: Keep<D>, P: Pool<D, K>, F: Form>(
     ensures unmoved { IsErrOf result (Damaged Pointer)
         → Looked D.Disk K.View lot.now keep.old disk.old keep.new disk.new }
     ensures sub { AsShown K.View lot.now keep.old disk.old keep.new disk.new (λ old new.
-        OnOk result (SameBeside (count_place false) 4 (old sub_address) (new sub_address))) }
+        OnOk result (SubStays old new)) }
     ensures faults { IfErr result IsGrowFault }
     ensures failed { Caused D.state FaultDisk result disk.old disk.new }
 {
@@ -110,7 +110,7 @@ fn append<D: Disk, K: Keep<D>, P: Pool<D, K>, F: Form>(
     ensures unmoved { IsErrOf result (Damaged Pointer)
         → Looked D.Disk K.View lot.now keep.old disk.old keep.new disk.new }
     ensures sub { AsShown K.View lot.now keep.old disk.old keep.new disk.new (λ old new.
-        OnOk result (SameBeside (count_place false) 4 (old sub_address) (new sub_address))) }
+        OnOk result (SubStays old new)) }
     ensures faults { IfErr result IsGrowFault }
     ensures failed { Caused D.state FaultDisk result disk.old disk.new }
 {
@@ -167,7 +167,7 @@ pub fn add_in<D: Disk, K: Keep<D>, P: Pool<D, K>, F: Form>(
     ensures unmoved { IsErrOf result (Damaged Pointer)
         → Looked D.Disk K.View lot.now keep.old disk.old keep.new disk.new }
     ensures sub { AsShown K.View lot.now keep.old disk.old keep.new disk.new (λ old new.
-        OnOk result (SameBeside (count_place false) 4 (old sub_address) (new sub_address))) }
+        OnOk result (SubStays old new)) }
     ensures spent { Spent D.Disk K.View lot.now 8 keep.old disk.old keep.new disk.new }
     // Which refusals there are, and when a fault comes.
     ensures faults { IfErr result IsGrowFault }
@@ -225,7 +225,7 @@ pub fn add<D: Disk, K: Keep<D>, P: Pool<D, K>, F: Form>(
     ensures unmoved { IsErrOf result (Damaged Pointer)
         → Looked D.Disk K.View lot.now keep.old disk.old keep.new disk.new }
     ensures sub { AsShown K.View lot.now keep.old disk.old keep.new disk.new (λ old new.
-        OnOk result (SameBeside (count_place false) 4 (old sub_address) (new sub_address))) }
+        OnOk result (SubStays old new)) }
     ensures unchanged { IsErrOf result (Damaged Kind)
         → Looked D.Disk K.View lot.now keep.old disk.old keep.new disk.new }
     ensures faults { IfErr result IsAddFault }

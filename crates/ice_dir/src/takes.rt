@@ -2,14 +2,14 @@
 ghost use Rattle.std.specs.Prelude.{◌≡◌, ◌≢◌, ◌≤◌, ◌<◌, ◌*◌, ◌+◌, ◌-◌, ◌/◌, ℕ, true, false, [], IsSome, IsNone, OnOk, OnErr, IfOk, IfErr, IsErrOf, length};
 ghost use Rattle.std.specs.List.{swap_remove, position_or_len};
 ghost use Rattle.ice_base.specs.Disk.{Caused};
-ghost use Rattle.ice_base.specs.Fields.{SameBeside};
 ghost use Rattle.ice_base.specs.Lots.{is_sited, sub_address};
-ghost use Rattle.ice_base.specs.Used.{is_data, count_place, counted};
+ghost use Rattle.ice_base.specs.Used.{is_data, counted};
 ghost use Rattle.ice_base.specs.Views.{Looked, Spent, AsShown, IfShown};
 ghost use Rattle.ice_base.specs.declared.fault.OpFault.TheVariants.{Disk as FaultDisk, Damaged};
 ghost use Rattle.ice_base.specs.declared.fault.Rule.{Rule};
 ghost use Rattle.ice_base.specs.declared.fault.Rule.TheVariants.{Counts, Kind, Pointer, Bitmap};
 ghost use Rattle.ice_map.specs.Faults.{IsLookFault, IsCutFault};
+ghost use Rattle.ice_map.specs.Growth.{SubStays};
 ghost use Rattle.ice_map.specs.Inodes.{inode_of};
 ghost use Rattle.ice_map.specs.Maps.{nth_block, uses, FreeOrTwice, Misleads};
 ghost use Rattle.ice_map.specs.Own.{MadeOf, WellMade, Confuses};
@@ -92,7 +92,7 @@ fn remove_row<D: Disk, K: Keep<D>, P: Pool<D, K>, F: Form>(
     ensures is_dir { OnOk result (IsDirectory lot.now dir.new) }
     ensures shorter { OnOk result (dir.new.size + 1 ≡ dir.old.size) }
     ensures sub { AsShown K.View lot.now keep.old disk.old keep.new disk.new (λ old new.
-        OnOk result (SameBeside (count_place false) 4 (old sub_address) (new sub_address))) }
+        OnOk result (SubStays old new)) }
     ensures spent { Spent D.Disk K.View lot.now 8 keep.old disk.old keep.new disk.new }
     ensures zero { IsErrOf result (Damaged Counts) → IfShown K.View lot.now keep.old disk.old (λ old.
         counted false old + uses_of (blocks_sized F.ENTRY (dir.old.size - 1)) < uses_of (blocks_sized F.ENTRY dir.old.size)) }
@@ -167,7 +167,7 @@ pub fn take_in<D: Disk, K: Keep<D>, P: Pool<D, K>, F: Form>(
         → AsShown K.View lot.now keep.old disk.old keep.new disk.new (λ old new.
         inode_of new number ≡ inode_of old number) }
     ensures sub { AsShown K.View lot.now keep.old disk.old keep.new disk.new (λ old new.
-        OnOk result (SameBeside (count_place false) 4 (old sub_address) (new sub_address))) }
+        OnOk result (SubStays old new)) }
     ensures spent { Spent D.Disk K.View lot.now 8 keep.old disk.old keep.new disk.new }
     // Which refusals there are, and when a fault comes.
     ensures faults { IfErr result IsCutFault }

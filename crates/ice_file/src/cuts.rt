@@ -1,14 +1,14 @@
 //! Cuts of files.
 ghost use Rattle.std.specs.Prelude.{◌≡◌, ◌≢◌, ◌≤◌, ◌<◌, ◌+◌, ◌*◌, ℕ, true, false, OnOk, IfErr, IsErrOf, length, take};
 ghost use Rattle.ice_base.specs.Disk.{Caused};
-ghost use Rattle.ice_base.specs.Fields.{SameBeside};
-ghost use Rattle.ice_base.specs.Lots.{is_sited, sub_address};
-ghost use Rattle.ice_base.specs.Used.{is_data, used_inode, count_place, counted};
+ghost use Rattle.ice_base.specs.Lots.{is_sited};
+ghost use Rattle.ice_base.specs.Used.{is_data, used_inode, counted};
 ghost use Rattle.ice_base.specs.Views.{Looked, Spent, AsShown, IfShown};
 ghost use Rattle.ice_base.specs.declared.fault.OpFault.TheVariants.{Disk as FaultDisk, Damaged};
 ghost use Rattle.ice_base.specs.declared.fault.Rule.{Rule};
 ghost use Rattle.ice_base.specs.declared.fault.Rule.TheVariants.{Counts, Kind, Pointer, Bitmap};
 ghost use Rattle.ice_map.specs.Faults.{IsCutFault};
+ghost use Rattle.ice_map.specs.Growth.{SubStays};
 ghost use Rattle.ice_map.specs.Inodes.{inode_of};
 ghost use Rattle.ice_map.specs.Maps.{cut_off, FreeOrTwice, Misleads};
 ghost use Rattle.ice_file.specs.Files.{ReachesTo, FileSet, IsCutToFault};
@@ -57,7 +57,7 @@ pub fn cut_in<D: Disk, K: Keep<D>, P: Pool<D, K>, F: Form>(
     ensures inodes { AsShown K.View lot.now keep.old disk.old keep.new disk.new (λ old new.
         OnOk result ((i : ℕ) → used_inode new i ≡ used_inode old i)) }
     ensures sub { AsShown K.View lot.now keep.old disk.old keep.new disk.new (λ old new.
-        OnOk result (SameBeside (count_place false) 4 (old sub_address) (new sub_address))) }
+        OnOk result (SubStays old new)) }
     ensures spent { Spent D.Disk K.View lot.now 72 keep.old disk.old keep.new disk.new }
     // Which refusals there are, and when a fault comes.
     ensures faults { IfErr result IsCutFault }
@@ -111,7 +111,7 @@ pub fn cut_to<D: Disk, K: Keep<D>, P: Pool<D, K>, F: Form>(
     ensures inodes { AsShown K.View lot.now keep.old disk.old keep.new disk.new (λ old new.
         OnOk result ((i : ℕ) → used_inode new i ≡ used_inode old i)) }
     ensures sub { AsShown K.View lot.now keep.old disk.old keep.new disk.new (λ old new.
-        OnOk result (SameBeside (count_place false) 4 (old sub_address) (new sub_address))) }
+        OnOk result (SubStays old new)) }
     ensures file { IfErr result (λ e. (rule : Rule) → e ≡ Damaged rule → rule ≢ Kind
         → IfShown K.View lot.now keep.old disk.old (λ old. ReachesTo (form_of F.VERSION) len (inode_of old number))) }
     ensures faults { IfErr result IsCutToFault }

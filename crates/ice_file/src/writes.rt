@@ -1,9 +1,8 @@
 //! Writes to files.
 ghost use Rattle.std.specs.Prelude.{◌≡◌, ◌≤◌, ◌<◌, ◌+◌, ◌-◌, ◌*◌, ◌^◌, ◌++◌, max, ℕ, true, false, [], OnOk, IfOk, IfErr, IsErrOf, length, take, drop};
 ghost use Rattle.ice_base.specs.Disk.{Caused};
-ghost use Rattle.ice_base.specs.Fields.{SameBeside};
-ghost use Rattle.ice_base.specs.Lots.{is_sited, sub_address};
-ghost use Rattle.ice_base.specs.Used.{count_place, counted, free_count, Reserved};
+ghost use Rattle.ice_base.specs.Lots.{is_sited};
+ghost use Rattle.ice_base.specs.Used.{counted, free_count, Reserved};
 ghost use Rattle.ice_base.specs.Views.{Looked, Spent, AsShown, IfShown};
 ghost use Rattle.ice_base.specs.declared.fault.OpFault.TheVariants.{Disk as FaultDisk, Damaged, NoSpace};
 ghost use Rattle.ice_base.specs.declared.fault.Rule.{Rule};
@@ -12,7 +11,7 @@ ghost use Rattle.ice_map.specs.Faults.{IsGrowFault};
 ghost use Rattle.ice_map.specs.Inodes.{inode_of};
 ghost use Rattle.ice_file.specs.Files.{ReachesTo, FileSet, IsWriteFault, overwritten};
 ghost use Rattle.tree_spec.specs.Held.{most_bytes};
-ghost use Rattle.ice_map.specs.Growth.{Grew, InodesStay};
+ghost use Rattle.ice_map.specs.Growth.{Grew, InodesStay, SubStays};
 ghost use Rattle.ice_map.specs.Own.{own, file_bytes, blocks_for, MadeOf, WellMade, Confuses};
 ghost use Rattle.ice_file.specs.Writes.{BytesPut, FewFree, CountFull, blocks_with};
 ghost use Rattle.ice_map.specs.Moves.{uses_of};
@@ -119,7 +118,7 @@ pub fn write_in<D: Disk, K: Keep<D>, P: Pool<D, K>, F: Form>(
         → AsShown K.View lot.now keep.old disk.old keep.new disk.new (λ old new.
         inode_of new number ≡ inode_of old number) }
     ensures sub { AsShown K.View lot.now keep.old disk.old keep.new disk.new (λ old new.
-        OnOk result (SameBeside (count_place false) 4 (old sub_address) (new sub_address))) }
+        OnOk result (SubStays old new)) }
     ensures spent { Spent D.Disk K.View lot.now 48 keep.old disk.old keep.new disk.new }
     // Which refusals there are, and when a fault comes.
     ensures faults { IfErr result IsGrowFault }
@@ -174,7 +173,7 @@ pub fn write_at<D: Disk, K: Keep<D>, P: Pool<D, K>, F: Form>(
     ensures file { IsErrOf result (Damaged Pointer) → IfShown K.View lot.now keep.old disk.old (λ old.
         ReachesTo (form_of F.VERSION) at (inode_of old number)) }
     ensures sub { AsShown K.View lot.now keep.old disk.old keep.new disk.new (λ old new.
-        OnOk result (SameBeside (count_place false) 4 (old sub_address) (new sub_address))) }
+        OnOk result (SubStays old new)) }
     ensures faults { IfErr result IsWriteFault }
     ensures failed { Caused D.state FaultDisk result disk.old disk.new }
 {

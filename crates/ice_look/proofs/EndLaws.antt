@@ -8,7 +8,7 @@ use Rattle.ice_reads.specs.Tables.{Table}
 use Rattle.ice_look.specs.Ends.{IsEnds}
 use Rattle.ice_look.specs.Places.{place_at}
 use Rattle.ice_look.specs.declared.place.Place.{Place}
-use Rattle.ice_look.proofs.Names.{names-next}
+use Rattle.ice_path.proofs.Prefixes.{names-next}
 use Rattle.std.specs.List.{list_any}
 use Rattle.std.proofs.lemmas.Bool.Decides.{nat_tests}
 use Rattle.tree_spec.specs.Why as why

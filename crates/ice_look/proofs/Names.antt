@@ -1,9 +1,9 @@
 -- Names of paths, one after the other, and what the form says of them.
-use Rattle.std.proofs.Common.{◌≡◌, ℕ, ◌+◌, ◌-◌, ◌<◌, ◌≤◌, Bool, true, false, List, [], ◌∷◌, ◌++◌, length, take, drop, get_or, sym, ap, ◌∙◌, arith, add-one, drop-cons}
+use Rattle.std.proofs.Common.{◌≡◌, ℕ, ◌+◌, ◌-◌, ◌<◌, ◌≤◌, Bool, true, false, List, length, take, drop, get_or, sym, ap, ◌∙◌, arith, add-one, drop-cons}
 use Rattle.std.specs.Prelude.{◌||◌, nat_lt}
 use Rattle.std.specs.List.{list_any}
 use Rattle.std.proofs.lemmas.Bool.Decides.{nat_tests}
-use Rattle.std.proofs.lemmas.List.{take_more, take_all, get_or-drop, length-drop}
+use Rattle.std.proofs.lemmas.List.{take_all, length-drop}
 use Rattle.tree_spec.specs.Costs.{form_of}
 
 -- one of the names from k on is meant by the test: name k, or one behind it
@@ -27,17 +27,6 @@ is_long version name size long v n s h = let e = name-of version name v n in gri
 
 pub is_short : (version name size long : ℕ) → version ≡ 1 → name ≡ 59 → size ≡ long → size ≤ name → nat_lt (form_of version).longest_name long ≡ false
 is_short version name size long v n s h = let e = name-of version name v n in grind (arith, nat_tests)
-
--- the names up to k and name k
-pub names-next : (path : List (List ℕ)) (depth k : ℕ) (name : List ℕ) → depth ≤ k → k < length path → name ≡ get_or path k []
-    → take (k + 1 - depth) (drop depth path) ≡ take (k - depth) (drop depth path) ++ name ∷ []
-names-next path depth k name h below is =
-    let long = length-drop depth path in
-    let one : k + 1 - depth ≡ (k - depth) + 1 = omega arith in
-    let at : depth + (k - depth) ≡ k = omega arith in
-    ap (λ n. take n (drop depth path)) one
-    ∙ take_more (drop depth path) (k - depth) [] (omega arith)
-    ∙ ap (λ c. take (k - depth) (drop depth path) ++ c ∷ []) (get_or-drop depth path (k - depth) [] ∙ ap (λ n. get_or path n []) at ∙ sym is)
 
 -- all the names from `depth` on
 pub names-all : (path : List (List ℕ)) (depth end : ℕ) → end ≡ length path → take (end - depth) (drop depth path) ≡ drop depth path

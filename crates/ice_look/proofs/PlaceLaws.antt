@@ -1,5 +1,5 @@
 -- Where walks end, by what the inodes of a lot say.
-use Rattle.std.proofs.Common.{◌≡◌, ℕ, ◌+◌, ◌*◌, ◌<◌, ◌≤◌, Bool, true, false, List, [], ◌∷◌, ◌++◌, length, Some, None, Result, Ok, Err, sym, refl, ap, ◌∙◌, subst, arith, inl, inr}
+use Rattle.std.proofs.Common.{◌≡◌, ℕ, ◌+◌, ◌-◌, ◌*◌, take, IfOk, ◌<◌, ◌≤◌, Bool, true, false, List, [], ◌∷◌, ◌++◌, length, Some, None, Result, Ok, Err, sym, refl, ap, ◌∙◌, subst, arith, inl, inr}
 use Rattle.std.proofs.lemmas.Bool.Decides.{nat_tests}
 use Rattle.std.proofs.lemmas.Nat.{div-add-mod', mod_below}
 use Rattle.std.proofs.lemmas.List.FromFn.{length-map-range_with_len}
@@ -27,7 +27,8 @@ use Rattle.ice_reads.specs.Tables.{Map, Table, rows_in, inode_named, IsInode}
 use Rattle.ice_reads.specs.Reads.{Reads, inode_on}
 use Rattle.ice_reads.proofs.Focus.{Reads-part}
 use Rattle.ice_reads.proofs.LookUps.{child-found, child-none}
-use Rattle.ice_look.specs.Places.{place_by, place_at, IsNode}
+use Rattle.ice_look.specs.Calls.{place_on}
+use Rattle.ice_look.specs.Places.{place_by, place_at, IsNode, NodeIs, PlaceInHand, PlaceIs, PlaceReached}
 use Rattle.ice_look.specs.declared.place.Place.{Place}
 use Rattle.ice_look.specs.declared.place.Place.TheVariants.{File, Dir, Missing, Blocked}
 
@@ -231,3 +232,24 @@ module _ (f : Form) (lot : LotView) (o : Table) where
         | NotFound ↦ λ q. absurd (no_value e Missing (missing (is ∙ ap (place_by (inode_on f o 0 names)) q)))
         | NotDir ↦ λ q. absurd (no_value e Blocked (blocked (is ∙ ap (place_by (inode_on f o 0 names)) q)))
       ] refl
+
+-- the walk of no names is at the root
+pub root-begun : (version : ℕ) (m : Map) (names : List (List ℕ)) (depth : ℕ) (t : Tree) (root : Place) → root ≡ place_by 0 (Found t)
+    → root ≡ place_on version m (take (depth - depth) names) t
+root-begun version m names depth t root is =
+    let none : depth - depth ≡ 0 = omega arith in
+    is ∙ ap (λ n. place_on version m (take n names) t) (sym none)
+
+-- what is known of a place in hand, where a call found one
+module _ (f : Form) (lot : LotView) (m : Map) (node : Inode) where
+  pub if-is : (result : Result Place OpFault) → IfOk result (λ p. PlaceInHand f lot m p node) → IfOk result (PlaceIs m)
+  if-is (Ok p) h = h.is
+  if-is (Err e) h = h
+
+  pub if-reached : (result : Result Place OpFault) → IfOk result (λ p. PlaceInHand f lot m p node) → IfOk result (PlaceReached f lot m)
+  if-reached (Ok p) h = h.reached
+  if-reached (Err e) h = h
+
+  pub if-node : (result : Result Place OpFault) → IfOk result (λ p. PlaceInHand f lot m p node) → IfOk result (λ p. NodeIs m p node)
+  if-node (Ok p) h = h.node_is
+  if-node (Err e) h = h

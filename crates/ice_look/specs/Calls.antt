@@ -20,7 +20,9 @@ use Rattle.ice_map.specs.Own.{own}
 use Rattle.ice_rules.specs.Rules.{rule_number}
 use Rattle.ice_look.specs.Broken.{IsBroken}
 use Rattle.ice_look.specs.Outcomes.{AsModel, RefusedAs, ShownBy}
+use Rattle.ice_look.specs.Places.{place_at}
 use Rattle.ice_look.specs.Stages.{paths_refusal}
+use Rattle.ice_look.specs.declared.place.Place.{Place}
 
 -- ---- over a lot that recovers a tree
 
@@ -47,6 +49,10 @@ ReadsIn version lot m number h t = Reads (form_of version) lot (own (form_of ver
 -- the inode to which the names lead from the root
 abbrev pub inode_at : ℕ → (ℕ → List ℕ) → List (List ℕ) → ℕ
 inode_at version m names = inode_on (form_of version) (own (form_of version) m) 0 names
+
+-- the place where a walk of these names ends, in a tree that the root stands for
+abbrev pub place_on : ℕ → (ℕ → List ℕ) → List (List ℕ) → Tree → Place
+place_on version m names t = place_at (form_of version) (own (form_of version) m) names t
 
 -- ---- refusals
 

@@ -8,7 +8,7 @@ use Rattle.ice_reads.specs.Tables.{Table}
 use Rattle.ice_reads.specs.Reads.{inode_on}
 use Rattle.ice_look.specs.declared.ends.Ends.{Ends}
 use Rattle.ice_look.specs.declared.looks.DirAt.{DirAt}
-use Rattle.ice_look.specs.Places.{place_at, PlaceFits, IsReached, PlaceIs, PlaceReached, NodeFits, NodeIs}
+use Rattle.ice_look.specs.Places.{place_at, PlaceFits, IsReached, PlaceInHand, NodeFits}
 use Rattle.ice_map.specs.Inodes.{inode_of}
 use Rattle.ice_dir.specs.Rows.{IsDirectory}
 
@@ -38,14 +38,10 @@ pub record DirFits (lot : LotView) (spot : DirAt) : Type 0 where
   pub dir : IsDirectory lot spot.node
   pub size : spot.node.size ≡ spot.entries
 
--- the ends of a path are what the directories lead to, with the inodes that stand there
+-- the directories lead to the ends of a path, whose inodes are in hand
 pub record EndsAre (form : Form) (lot : LotView) (m : ℕ → List ℕ) (ends : Ends) : Type 0 where
-  pub parent : PlaceIs m ends.parent
-  pub end : PlaceIs m ends.end
-  pub parent_reached : PlaceReached form lot m ends.parent
-  pub end_reached : PlaceReached form lot m ends.end
-  pub above_is : NodeIs m ends.parent ends.above
-  pub node_is : NodeIs m ends.end ends.node
+  pub parent : PlaceInHand form lot m ends.parent ends.above
+  pub end : PlaceInHand form lot m ends.end ends.node
 
 -- a directory to which the directories lead, and how many entries it has
 pub record DirIs (form : Form) (lot : LotView) (m : ℕ → List ℕ) (spot : DirAt) : Type 0 where

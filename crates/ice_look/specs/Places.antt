@@ -83,6 +83,12 @@ PlaceReached form lot m (Dir number size) = IsReached form lot m number
 PlaceReached form lot m Missing = ⊤
 PlaceReached form lot m Blocked = ⊤
 
+-- a place that the directories lead to, with its inode in hand
+pub record PlaceInHand (form : Form) (lot : LotView) (m : ℕ → List ℕ) (place : Place) (node : Inode) : Type 0 where
+  pub is : PlaceIs m place
+  pub reached : PlaceReached form lot m place
+  pub node_is : NodeIs m place node
+
 -- what stands at a place is what a directory at the other place names so
 abbrev pub PlaceNamed : Form → (ℕ → List ℕ) → Place → List ℕ → Place → Type 0
 PlaceNamed form m (Dir dir entries) name (File number size) = look_up name (dir_rows_of form m dir) ≡ Some number

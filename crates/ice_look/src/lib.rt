@@ -11,7 +11,7 @@ mod looks;
 mod paths;
 mod place;
 
-pub use ends::{Ends, find_ends, last_of};
+pub use ends::{Ends, TwoEnds, find_both, find_ends, last_of};
 pub use fault::refusal_of;
 pub use heights::is_higher;
 pub use laws::{broken_named, recovers_unbroken};

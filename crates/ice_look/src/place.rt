@@ -8,12 +8,12 @@ ghost use Rattle.ice_base.specs.declared.fault.Rule.TheVariants.{Kind};
 ghost use Rattle.ice_map.specs.Inodes.{inode_of};
 ghost use Rattle.ice_look.specs.declared.place.Place.TheVariants.{Missing, Blocked};
 ghost use Rattle.ice_look.specs.Broken.{BadEntry, IsBrokenBy};
-ghost use Rattle.ice_look.specs.Places.{place_by, place_at, IsNode, NodeFits, NodeIs, Reached, PlaceFits, PlaceOf, PlaceIs, PlaceReached, PlaceNamed, IsWalkFault};
+ghost use Rattle.ice_look.specs.Places.{place_by, IsNode, NodeFits, NodeIs, Reached, PlaceFits, PlaceOf, PlaceInHand, PlaceIs, PlaceReached, PlaceNamed, IsWalkFault};
 ghost use Rattle.tree_spec.specs.Trees.{Tree, child, Found};
 ghost use Rattle.tree_spec.specs.Costs.{form_of};
 ghost use Rattle.ice_map.specs.Own.{own};
 ghost use Rattle.ice_reads.specs.Tables.{rows_in, inode_named};
-ghost use Rattle.ice_look.specs.Calls.{IfRecovers, FailsByDisk, FailsByDiskAlone, ReadsIn};
+ghost use Rattle.ice_look.specs.Calls.{IfRecovers, FailsByDisk, FailsByDiskAlone, ReadsIn, place_on};
 
 use ice_base::{Disk, Form, Lot, OpFault, Rule, View};
 use ice_dir::find_in;
@@ -221,8 +221,60 @@ pub(crate) fn step<D: Disk, V: View<D>, F: Form>(
     }
 }
 
-/// The place where the walk of a path's names from `depth` on, up to `end`, ends. It begins at inode 0.
+/// The place where a walk ends that has come to `place` by a path's names from `depth` on up to `from`, and goes on up to `end`.
 /// Damaged: an inode on it is neither a file nor a directory, an entry names the root or no inode of the lot, or a pointer is no data place.
+pub(crate) fn walk_on<D: Disk, V: View<D>, F: Form>(
+    view: &mut V,
+    disk: &mut D,
+    lot: &Lot,
+    path: &Path,
+    depth: usize,
+    from: usize,
+    end: usize,
+    place: Place,
+    node: &mut Inode,
+) -> Result<Place, OpFault>
+    // The lot lies on the disk, and the inode in hand agrees with the place.
+    requires sited { is_sited lot.now (D.state disk.old).size ≡ true }
+    requires fits { PlaceFits lot.now place }
+    requires in_hand { NodeFits lot.now place node.old }
+    requires begun { depth ≤ from }
+    requires order { from ≤ end }
+    requires within { end ≤ length path.now }
+    // Over a lot that recovers a tree, from the place of the names before it finds what the tree has; the disk alone may fail.
+    ensures place { IfRecovers V.View F.VERSION lot.now view.old disk.old (λ old t _.
+        PlaceInHand (form_of F.VERSION) lot.now old place node.old
+        → place ≡ place_on F.VERSION old (take (from - depth) (drop depth path.now)) t
+        → IfOk result (λ p. p ≡ place_on F.VERSION old (take (end - depth) (drop depth path.now)) t)) }
+    ensures sound { IfRecovers V.View F.VERSION lot.now view.old disk.old (λ old t _.
+        PlaceInHand (form_of F.VERSION) lot.now old place node.old
+        → place ≡ place_on F.VERSION old (take (from - depth) (drop depth path.now)) t
+        → FailsByDisk result) }
+    // What it answers of any lot, damaged or not.
+    ensures fits { IfOk result (PlaceFits lot.now) }
+    ensures node { IfOk result (λ p. NodeFits lot.now p node.new) }
+    ensures in_hand { IfShown V.View lot.now view.old disk.old (λ old.
+        PlaceInHand (form_of F.VERSION) lot.now old place node.old
+        → IfOk result (λ p. PlaceInHand (form_of F.VERSION) lot.now old p node.new)) }
+    // Damage that it names is there.
+    ensures broken { IfShown V.View lot.now view.old disk.old (λ old.
+        PlaceInHand (form_of F.VERSION) lot.now old place node.old
+        → IfErr result (IsBrokenBy (form_of F.VERSION) lot.now old)) }
+    // What stays as it was.
+    ensures looked { Looked D.Disk V.View lot.now view.old disk.old view.new disk.new }
+    // Which refusals there are, and when a fault comes.
+    ensures faults { IfErr result IsWalkFault }
+    ensures failed { Caused D.state FaultDisk result disk.old disk.new }
+{
+    let mut place = place;
+    for k in from..end {
+        let name = path.name(k);
+        place = step::<D, V, F>(view, disk, lot, place, &name, node)?;
+    }
+    Ok(place)
+}
+
+/// The place where the walk of a path's names from `depth` on, up to `end`, ends. It begins at inode 0. Damaged: as `walk_on`.
 pub(crate) fn walk<D: Disk, V: View<D>, F: Form>(
     view: &mut V,
     disk: &mut D,
@@ -239,8 +291,7 @@ pub(crate) fn walk<D: Disk, V: View<D>, F: Form>(
     requires within { end ≤ length path.now }
     // Over a lot that recovers a tree, it finds what the tree has; the disk alone may fail.
     ensures place { IfRecovers V.View F.VERSION lot.now view.old disk.old (λ old t _.
-        IfOk result (λ p. p ≡ place_at (form_of F.VERSION) (own (form_of F.VERSION) old)
-        (take (end - depth) (drop depth path.now)) t)) }
+        IfOk result (λ p. p ≡ place_on F.VERSION old (take (end - depth) (drop depth path.now)) t)) }
     ensures sound { FailsByDiskAlone V.View F.VERSION lot.now view.old disk.old result }
     // What it answers of any lot, damaged or not.
     ensures fits { IfOk result (PlaceFits lot.now) }
@@ -259,10 +310,6 @@ pub(crate) fn walk<D: Disk, V: View<D>, F: Form>(
     ensures faults { IfErr result IsWalkFault }
     ensures failed { Caused D.state FaultDisk result disk.old disk.new }
 {
-    let mut place = look::<D, V, F>(view, disk, lot, 0, node)?;
-    for k in depth..end {
-        let name = path.name(k);
-        place = step::<D, V, F>(view, disk, lot, place, &name, node)?;
-    }
-    Ok(place)
+    let root = look::<D, V, F>(view, disk, lot, 0, node)?;
+    walk_on::<D, V, F>(view, disk, lot, path, depth, depth, end, root, node)
 }

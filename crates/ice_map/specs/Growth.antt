@@ -1,10 +1,11 @@
 -- What a growth of a map does, whatever the map was.
-use Rattle.std.specs.Prelude.{◌≡◌, ◌<◌, ◌≤◌, ◌⊎◌, ℕ, ◌-◌, true, false, List, slice_index}
-use Rattle.ice_base.specs.Lots.{LotView}
-use Rattle.ice_base.specs.Used.{is_data}
+use Rattle.std.specs.Prelude.{◌≡◌, ◌<◌, ◌≤◌, ◌⊎◌, ℕ, ◌+◌, ◌-◌, ◌^◌, true, false, List, slice_index}
+use Rattle.ice_base.specs.Fields.{SameBeside}
+use Rattle.ice_base.specs.Lots.{LotView, sub_address}
+use Rattle.ice_base.specs.Used.{is_data, count_place, counted, free_count}
 use Rattle.ice_map.specs.declared.codec.Inode.{Inode}
 use Rattle.ice_map.specs.Inodes.{inode_of}
-use Rattle.ice_map.specs.Maps.{leads}
+use Rattle.ice_map.specs.Maps.{leads, needs}
 use Rattle.ice_map.specs.Own.{MoreMarked}
 use Rattle.ice_map.specs.Moves.{uses_of}
 
@@ -19,6 +20,18 @@ pub record Grew (lot : LotView) (m0 m1 : ℕ → List ℕ) (x y : Inode) (c d : 
 -- each inode says what it said
 abbrev pub InodesStay : (ℕ → List ℕ) → (ℕ → List ℕ) → Type 0
 InodesStay old new = (n : ℕ) → inode_of new n ≡ inode_of old n
+
+-- block k is the next of a map of c blocks, and too few blocks are free for it
+abbrev pub BlocksRunOut : LotView → (ℕ → List ℕ) → ℕ → ℕ → Type 0
+BlocksRunOut lot m c k = (k ≡ c) × (free_count false lot m < needs c)
+
+-- block k is the next of a map of c blocks, and the count of used blocks can't grow so far
+abbrev pub CountRunsOut : (ℕ → List ℕ) → ℕ → ℕ → Type 0
+CountRunsOut m c k = (k ≡ c) × (2 ^ 32 ≤ counted false m + needs c)
+
+-- the sub-super block says what it said, but for the count of used blocks
+abbrev pub SubStays : (ℕ → List ℕ) → (ℕ → List ℕ) → Type 0
+SubStays old new = SameBeside (count_place false) 4 (old sub_address) (new sub_address)
 
 -- block k of a map of c blocks can't be had: it leads to no data place, or the map has an indirect block that is none
 abbrev pub Strays : LotView → (ℕ → List ℕ) → Inode → ℕ → ℕ → Type 0

@@ -1,3 +1,3 @@
 mod Texts
 mod Faults
-mod Prefixes
+pub mod Prefixes

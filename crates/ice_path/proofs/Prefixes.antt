@@ -1,8 +1,9 @@
 -- Paths compared name by name.
-use Rattle.std.proofs.Common.{◌≡◌, ℕ, suc, ◌+◌, ◌-◌, ◌<◌, ◌≤◌, Bool, true, false, List, [], ◌∷◌, length, drop, get_or, sym, refl, ap, ◌∙◌, arith, drop-cons}
+use Rattle.std.proofs.Common.{◌≡◌, ℕ, suc, ◌+◌, ◌-◌, ◌<◌, ◌≤◌, Bool, true, false, List, [], ◌∷◌, ◌++◌, length, take, drop, get_or, sym, refl, ap, ◌∙◌, arith, drop-cons}
 use Rattle.std.specs.Prelude.{◌&&◌}
-use Rattle.std.proofs.lemmas.List.{get_or-drop, length-drop}
+use Rattle.std.proofs.lemmas.List.{take_more, get_or-drop, length-drop}
 use Rattle.tree_spec.specs.Routes.{is_prefix, is_same_name}
+use Rattle.tree_spec.proofs.Trees.{same_name}
 
 abbrev Names : Type 0
 Names = List (List ℕ)
@@ -62,3 +63,26 @@ module _ (p q : Names) (depth : ℕ) where
     pub begins-differs : is_same_name (get_or p i []) (get_or q i []) ≡ false → BeginsFrom p q depth i → false ≡ is_prefix (drop depth p) (drop depth q)
     begins-differs e is =
         differs (drop depth p) (drop depth q) (i - depth) (omega (arith, length-drop depth p)) (omega (arith, length-drop depth q)) (same-here false e) is
+
+-- the names from `depth` on up to k and name k
+pub names-next : (path : List (List ℕ)) (depth k : ℕ) (name : List ℕ) → depth ≤ k → k < length path → name ≡ get_or path k []
+    → take (k + 1 - depth) (drop depth path) ≡ take (k - depth) (drop depth path) ++ name ∷ []
+names-next path depth k name h below is =
+    let long = length-drop depth path in
+    let one : k + 1 - depth ≡ (k - depth) + 1 = omega arith in
+    let at : depth + (k - depth) ≡ k = omega arith in
+    ap (λ n. take n (drop depth path)) one
+    ∙ take_more (drop depth path) (k - depth) [] (omega arith)
+    ∙ ap (λ c. take (k - depth) (drop depth path) ++ c ∷ []) (get_or-drop depth path (k - depth) [] ∙ ap (λ n. get_or path n []) at ∙ sym is)
+
+-- two paths go the same way as far as their names are the same
+pub same-none : (p q : Names) (depth : ℕ) → take (depth - depth) (drop depth p) ≡ take (depth - depth) (drop depth q)
+same-none p q depth = let none : depth - depth ≡ 0 = omega arith in ap (λ n. take n (drop depth p)) none ∙ sym (ap (λ n. take n (drop depth q)) none)
+
+pub same-next : (p q : Names) (depth k : ℕ) → depth ≤ k → k < length p → k < length q → is_same_name (get_or p k []) (get_or q k []) ≡ true
+    → take (k - depth) (drop depth p) ≡ take (k - depth) (drop depth q) → take (k + 1 - depth) (drop depth p) ≡ take (k + 1 - depth) (drop depth q)
+same-next p q depth k from h l same is =
+    names-next p depth k (get_or p k []) from h refl
+    ∙ ap (λ (ns : Names). ns ++ get_or p k [] ∷ []) is
+    ∙ ap (λ (c : List ℕ). take (k - depth) (drop depth q) ++ c ∷ []) (same_name (get_or p k []) (get_or q k []) same)
+    ∙ sym (names-next q depth k (get_or q k []) from l refl)

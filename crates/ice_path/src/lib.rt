@@ -4,5 +4,5 @@
 mod prefix;
 mod read;
 
-pub use prefix::{begins, is_prefix};
+pub use prefix::{begins, is_prefix, parting};
 pub use read::{PathFault, read_path};

@@ -1,5 +1,5 @@
 //! Prefixes by whole names.
-ghost use Rattle.std.specs.Prelude.{◌≡◌, ◌≤◌, ◌<◌, ℕ, List, length, drop, get_or};
+ghost use Rattle.std.specs.Prelude.{◌≡◌, ◌≤◌, ◌<◌, ◌⊎◌, ◌+◌, ◌-◌, ℕ, List, false, length, take, drop, get_or};
 ghost use Rattle.tree_spec.specs.Routes.{is_prefix, is_same_name};
 
 use tree_spec::Path;
@@ -37,4 +37,29 @@ pub fn is_prefix(short: &Path, long: &Path) -> bool
     ensures { result ≡ is_prefix short.now long.now }
 {
     begins(short, long, 0)
+}
+
+/// Up to which name two paths go the same way from `depth` on, the last name of either left out.
+pub fn parting(path: &Path, to: &Path, depth: usize) -> usize
+    requires path { depth ≤ length path.now }
+    requires to { depth ≤ length to.now }
+    // Both have the names up to there, and each has one behind them, unless there are none.
+    ensures from { depth ≤ result }
+    ensures before { (result ≡ depth) ⊎ (result < length path.now) }
+    ensures before_to { (result ≡ depth) ⊎ (result < length to.now) }
+    ensures same { take (result - depth) (drop depth path.now) ≡ take (result - depth) (drop depth to.now) }
+    // There the names differ, where neither is the last one.
+    ensures most { (d : List ℕ) → result + 1 < length path.now → result + 1 < length to.now
+        → is_same_name (get_or path.now result d) (get_or to.now result d) ≡ false }
+{
+    let shorter = path.len().min(to.len());
+    if shorter == depth {
+        return depth;
+    }
+    for k in depth..shorter - 1 {
+        if !same_name(path, to, k) {
+            return k;
+        }
+    }
+    shorter - 1
 }

@@ -71,8 +71,8 @@ module _ (form : Form) (lot : LotView) (m : ℕ → List ℕ) where
       let x = named-inode step.from.number step.from.entries name from.end
       (subst (λ (p : Place). PlaceNamed form m p name from.end) source named) is f.at_end in
       record {
-        from_is = place-spot from.parent from.above step.from source source_node f.at_parent a.parent a.parent_reached a.above_is;
-        to_is = place-spot into.parent into.above step.to target target_node g.at_parent b.parent b.parent_reached b.above_is;
+        from_is = place-spot from.parent from.above step.from source source_node f.at_parent a.parent.is a.parent.reached a.parent.node_is;
+        to_is = place-spot into.parent into.above step.to target target_node g.at_parent b.parent.is b.parent.reached b.parent.node_is;
         number = x.0;
         below = x.1;
         named = x.2;

@@ -31,7 +31,7 @@ use crate::counts::count_up;
 use crate::quota::{Need, check_quota, dir_cost};
 use ice_base::{Disk, Form, Keep, Lot, OpFault, Pool, Rule, View};
 use ice_dir::{add_in, take_in};
-use ice_look::{DEEPEST, DirAt, Ends, Place, check_paths, find_ends, is_higher, refusal_of};
+use ice_look::{DEEPEST, DirAt, Ends, Place, check_paths, find_both, is_higher, refusal_of};
 use ice_map::Inode;
 use ice_path::begins;
 use tree_spec::{Name, Path, Refusal};
@@ -276,14 +276,12 @@ fn find_move<D: Disk, V: View<D>, F: Form>(
     ensures set { IfErr result (IsOneOf rename_refusals list_rules) }
     ensures failed { Caused D.state Fault result disk.old disk.new }
 {
-    let from = match find_ends::<D, V, F>(view, disk, lot, path, depth) {
+    let both = match find_both::<D, V, F>(view, disk, lot, path, to, depth) {
         Err(fault) => return Err(refusal_of(fault)),
-        Ok(ends) => ends,
+        Ok(both) => both,
     };
-    let into = match find_ends::<D, V, F>(view, disk, lot, to, depth) {
-        Err(fault) => return Err(refusal_of(fault)),
-        Ok(ends) => ends,
-    };
+    let from = both.from;
+    let into = both.to;
     let here = path.len() - depth;
     let there = to.len() - depth;
     if let Err(refusal) = check_height::<D, V, F>(

@@ -29,6 +29,10 @@ const LOOKS: [(&[u8], u64); 3] = [
     (b"stat /a/e/x", 5),
 ];
 
+/// A rename that moves nothing, with its reads: for both paths once the inode and the block of the root and the inode of `e`, for each path
+/// the block of `e` and the inode of `x`, and the sub-super block for the room that the count has and for the count itself.
+const STAYS: [(&[u8], u64); 1] = [(b"rename /a/e/x /a/e/x", 9)];
+
 /// The reply through a keep that holds all puts in memory, or through one that writes home at once.
 fn ask(
     alloc: Global,
@@ -105,8 +109,15 @@ fn fail_changes(rt: &impl Abort, alloc: Global, base: &MemHost, held: bool) -> R
     Ok(())
 }
 
-fn fail_looks(rt: &impl Abort, alloc: Global, base: &MemHost, held: bool) -> Result<(), Fail> {
-    for (line, reads) in &LOOKS {
+/// Lines that write nothing, with the reads of each.
+fn fail_looks(
+    rt: &impl Abort,
+    alloc: Global,
+    base: &MemHost,
+    held: bool,
+    lines: &[(&[u8], u64)],
+) -> Result<(), Fail> {
+    for (line, reads) in lines {
         let calls = fail_each(rt, alloc, base, line, held, true)?;
         assert!(rt; calls == *reads, "{calls} calls");
     }
@@ -119,7 +130,8 @@ fn a_failing_call_of_the_disk_is_the_last_one_of_its_command(rt: HostRuntime) ->
     let made = sound(&rt, alloc)?;
     let base = made.crashed(alloc, made.calls(), 1)?;
     fail_changes(&rt, alloc, &base, true)?;
-    fail_looks(&rt, alloc, &base, true)?;
+    fail_looks(&rt, alloc, &base, true, &LOOKS)?;
+    fail_looks(&rt, alloc, &base, true, &STAYS)?;
     fail_changes(&rt, alloc, &base, false)?;
-    fail_looks(&rt, alloc, &base, false)
+    fail_looks(&rt, alloc, &base, false, &LOOKS)
 }
