@@ -8,9 +8,9 @@ ghost use Rattle.ice_base.specs.declared.fault.OpFault.TheVariants.{Disk as Faul
 ghost use Rattle.ice_base.specs.declared.fault.Rule.{Rule};
 ghost use Rattle.ice_base.specs.declared.fault.Rule.TheVariants.{Counts, Kind, Pointer, Bitmap};
 ghost use Rattle.ice_map.specs.Faults.{IsGrowFault};
-ghost use Rattle.ice_map.specs.Growth.{BlocksRunOut, CountRunsOut, SubStays};
+ghost use Rattle.ice_map.specs.Growth.{SubStays};
 ghost use Rattle.ice_map.specs.Inodes.{inode_of};
-ghost use Rattle.ice_map.specs.Maps.{longest, Misleads};
+ghost use Rattle.ice_map.specs.Maps.{longest, needs, Misleads};
 ghost use Rattle.ice_map.specs.Own.{MadeOf, WellMade};
 ghost use Rattle.ice_map.specs.Moves.{HadBlock, content_of, uses_of};
 ghost use Rattle.ice_dir.specs.Changes.{FewFree, CountFull, blocks_sized, HasEntryRoom, DirSet, RowPut, TextAdded, entry_blocks};
@@ -51,9 +51,9 @@ fn open_block<D: Disk, K: Keep<D>, P: Pool<D, K>, F: Form>(
     ensures size { OnOk result (inode.new.size ≡ inode.old.size) }
     ensures spent { Spent D.Disk K.View lot.now 6 keep.old disk.old keep.new disk.new }
     ensures none { IsErrOf result NoSpace → IfShown K.View lot.now keep.old disk.old (λ old.
-        BlocksRunOut lot.now old count k) }
+        (k ≡ count) × (free_count false lot.now old < needs count)) }
     ensures full { IsErrOf result (Damaged Counts) → IfShown K.View lot.now keep.old disk.old (λ old.
-        CountRunsOut old count k) }
+        (k ≡ count) × (2 ^ 32 ≤ counted false old + needs count)) }
     ensures unreserved { IsErrOf result (Damaged Bitmap)
         → IfShown K.View lot.now keep.old disk.old (λ old. ¬ Reserved lot.now old) }
     ensures misled { IsErrOf result (Damaged Pointer) → IfShown K.View lot.now keep.old disk.old (λ old.

@@ -1,15 +1,14 @@
 //! Bytes that are put into one block of a file.
-ghost use Rattle.std.specs.Prelude.{is_ok, ◌≡◌, ◌≢◌, ◌≤◌, ◌<◌, ◌+◌, ◌-◌, ◌*◌, ◌⊎◌, max, ℕ, true, false, [], ◌∷◌, OnOk, IfOk, IfErr, IsErrOf, length, slice_index};
+ghost use Rattle.std.specs.Prelude.{is_ok, ◌≡◌, ◌≢◌, ◌≤◌, ◌<◌, ◌+◌, ◌-◌, ◌*◌, ◌⊎◌, max, ℕ, true, false, [], ◌∷◌, OnOk, IfOk, IfErr, length, slice_index};
 ghost use Rattle.ice_base.specs.Disk.{Caused};
 ghost use Rattle.ice_base.specs.Faults.{IsDiskFault};
 ghost use Rattle.ice_base.specs.Lots.{is_sited};
-ghost use Rattle.ice_base.specs.Used.{is_data, Reserved};
+ghost use Rattle.ice_base.specs.Used.{is_data};
 ghost use Rattle.ice_base.specs.Views.{Spent, Puts, AsShown, IfShown};
-ghost use Rattle.ice_base.specs.declared.fault.OpFault.TheVariants.{Disk as FaultDisk, Damaged, NoSpace};
-ghost use Rattle.ice_base.specs.declared.fault.Rule.TheVariants.{Counts, Pointer, Bitmap};
+ghost use Rattle.ice_base.specs.declared.fault.OpFault.TheVariants.{Disk as FaultDisk};
 ghost use Rattle.ice_map.specs.Faults.{IsGrowFault};
 ghost use Rattle.ice_map.specs.Maps.{longest, nth_block};
-ghost use Rattle.ice_map.specs.Growth.{Grew, InodesStay, Strays, BlocksRunOut, CountRunsOut};
+ghost use Rattle.ice_map.specs.Growth.{Grew, GrowthRefused, InodesStay};
 ghost use Rattle.ice_map.specs.Own.{MadeOf};
 ghost use Rattle.ice_map.specs.Moves.{HadBlock, due};
 ghost use Rattle.ice_file.specs.Writes.{PutPiece};
@@ -89,14 +88,8 @@ pub fn put_piece<D: Disk, K: Keep<D>, P: Pool<D, K>, F: Form>(
     ensures pays { OnOk result (K.room keep.old + due (K.held keep.new) inode.new.single (max count (k + 1))
         ≤ K.room keep.new + due (K.held keep.old) inode.old.single count + 2) }
     ensures spent { Spent D.Disk K.View lot.now 7 keep.old disk.old keep.new disk.new }
-    ensures none { IsErrOf result NoSpace → IfShown K.View lot.now keep.old disk.old (λ old.
-        BlocksRunOut lot.now old count k) }
-    ensures full { IsErrOf result (Damaged Counts) → IfShown K.View lot.now keep.old disk.old (λ old.
-        CountRunsOut old count k) }
-    ensures unreserved { IsErrOf result (Damaged Bitmap)
-        → IfShown K.View lot.now keep.old disk.old (λ old. ¬ Reserved lot.now old) }
-    ensures strays { IsErrOf result (Damaged Pointer) → IfShown K.View lot.now keep.old disk.old (λ old.
-        Strays lot.now old inode.old count k) }
+    ensures refused { IfShown K.View lot.now keep.old disk.old (λ old.
+        IfErr result (GrowthRefused lot.now old inode.old count k)) }
     ensures within { AsShown K.View lot.now keep.old disk.old keep.new disk.new (λ old new.
         k < count → OnOk result ((b : ℕ) → b ≢ nth_block old inode.old k → new b ≡ old b)) }
     ensures faults { IfErr result IsGrowFault }

@@ -1,11 +1,17 @@
 -- What a cut of a map shows of the blocks that it gives back, and of the damage that it finds.
-use Rattle.std.proofs.Common.{◌≡◌, ◌≤◌, ◌<◌, ◌+◌, ◌-◌, ℕ, true, false, List, [], ◌∷◌, ◌++◌, ◌∙◌, sym, refl, ap, arith}
+use Rattle.std.proofs.Common.{◌≡◌, ◌≤◌, ◌<◌, ◌+◌, ◌-◌, ◌^◌, inr, Result, Err, IsErrOf, subst, ℕ, true, false, List, [], ◌∷◌, ◌++◌, ◌∙◌, sym, refl, ap, arith}
 use Rattle.std.proofs.lemmas.Bool.Decides.{nat_tests}
 use Rattle.ice_base.specs.Lots.{LotView}
 use Rattle.ice_base.specs.Spare.{has}
-use Rattle.ice_base.specs.Used.{is_data}
+use Rattle.ice_base.specs.Faults.{IsDiskFault}
+use Rattle.ice_base.specs.Used.{is_data, counted, free_count, Reserved}
+use Rattle.ice_base.specs.declared.fault.OpFault.{OpFault}
+use Rattle.ice_base.specs.declared.fault.OpFault.TheVariants.{Disk, Damaged, NoSpace}
+use Rattle.ice_base.specs.declared.fault.Rule.TheVariants.{Counts, Pointer, Bitmap}
 use Rattle.ice_map.specs.declared.codec.Inode.{Inode}
-use Rattle.ice_map.specs.Maps.{nth_block, blocks_between, cut_off, Misleads}
+use Rattle.ice_map.specs.Faults.{IsLookFault, IsGrowFault}
+use Rattle.ice_map.specs.Growth.{GrowthRefused, Strays}
+use Rattle.ice_map.specs.Maps.{nth_block, blocks_between, cut_off, needs, Misleads}
 use Rattle.ice_map.proofs.ListLaws.{has-append, has-none, has-one}
 use Rattle.ice_map.proofs.MapLaws.{leads-bad, leads-lost}
 use Rattle.ice_map.proofs.CutLaws.{between-none, between-next, same-block, cut-none, cut-run-last}
@@ -62,3 +68,29 @@ misled-single lot m inode count h lost = record {
   below = omega arith;
   bad = leads-lost lot m inode (count - 1) (omega arith) lost;
 }
+
+-- why a block of a map of c blocks was refused, by the fault
+module _ (lot : LotView) (m : ℕ → List ℕ) (inode : Inode) (c k : ℕ) where
+  pub refused-look : (e : OpFault) → IsLookFault e → (e ≡ Damaged Pointer → Strays lot m inode c k) → GrowthRefused lot m inode c k e
+  refused-look Disk h p = tt
+  refused-look (Damaged Pointer) h p = p refl
+  refused-look _ h p = absurd h
+
+  pub refused-growth : (e : OpFault) → IsGrowFault e → k ≡ c → (e ≡ NoSpace → free_count false lot m < needs c)
+      → (e ≡ Damaged Counts → 2 ^ 32 ≤ counted false m + needs c) → (e ≡ Damaged Bitmap → ¬ Reserved lot m)
+      → (e ≡ Damaged Pointer → (12 < c) × (is_data lot inode.single ≡ false)) → GrowthRefused lot m inode c k e
+  refused-growth Disk h next n f b p = tt
+  refused-growth (Damaged Counts) h next n f b p = (next, f refl)
+  refused-growth (Damaged Pointer) h next n f b p = inr (p refl)
+  refused-growth (Damaged Bitmap) h next n f b p = b refl
+  refused-growth NoSpace h next n f b p = (next, n refl)
+  refused-growth _ h next n f b p = absurd h
+
+  pub refused-disk : (e : OpFault) → IsDiskFault e → GrowthRefused lot m inode c k e
+  refused-disk Disk h = tt
+  refused-disk _ h = absurd h
+
+  -- the reason that belongs to the fault of an answer
+  pub refused-as : {A : Type 0} (r : Result A OpFault) (y e x : OpFault) → r ≡ Err y → y ≡ e → IsErrOf r x
+      → GrowthRefused lot m inode c k e → GrowthRefused lot m inode c k x
+  refused-as r y e x a b is why = let same : e ≡ x = cc in subst (GrowthRefused lot m inode c k) same why

@@ -2,12 +2,12 @@
 ghost use Rattle.std.specs.Prelude.{◌≡◌, ◌≤◌, ◌<◌, ◌+◌, ◌*◌, max, true, false, OnOk, IfOk, IfErr, IsErrOf};
 ghost use Rattle.ice_base.specs.Disk.{Caused};
 ghost use Rattle.ice_base.specs.Lots.{is_sited};
-ghost use Rattle.ice_base.specs.Used.{is_data, Reserved};
+ghost use Rattle.ice_base.specs.Used.{is_data};
 ghost use Rattle.ice_base.specs.Views.{Looked, Spent, AsShown, IfShown};
 ghost use Rattle.ice_base.specs.declared.fault.OpFault.TheVariants.{Disk as FaultDisk, Damaged, NoSpace};
-ghost use Rattle.ice_base.specs.declared.fault.Rule.TheVariants.{Counts, Pointer, Bitmap};
+ghost use Rattle.ice_base.specs.declared.fault.Rule.TheVariants.{Pointer};
 ghost use Rattle.ice_map.specs.Faults.{IsGrowFault};
-ghost use Rattle.ice_map.specs.Growth.{Grew, InodesStay, Strays, BlocksRunOut, CountRunsOut};
+ghost use Rattle.ice_map.specs.Growth.{Grew, GrowthRefused, InodesStay};
 ghost use Rattle.ice_map.specs.Maps.{longest, nth_block};
 ghost use Rattle.ice_map.specs.Moves.{HadBlock, due};
 ghost use Rattle.ice_map.specs.Own.{MadeOf};
@@ -52,14 +52,8 @@ pub fn reach<D: Disk, K: Keep<D>, P: Pool<D, K>, F: Form>(
         ≤ K.room keep.new + due (K.held keep.old) inode.old.single count + 1) }
     ensures spent { Spent D.Disk K.View lot.now 6 keep.old disk.old keep.new disk.new }
     // When each refusal may come; damage that it names is there.
-    ensures none { IsErrOf result NoSpace → IfShown K.View lot.now keep.old disk.old (λ old.
-        BlocksRunOut lot.now old count k) }
-    ensures full { IsErrOf result (Damaged Counts) → IfShown K.View lot.now keep.old disk.old (λ old.
-        CountRunsOut old count k) }
-    ensures unreserved { IsErrOf result (Damaged Bitmap)
-        → IfShown K.View lot.now keep.old disk.old (λ old. ¬ Reserved lot.now old) }
-    ensures strays { IsErrOf result (Damaged Pointer) → IfShown K.View lot.now keep.old disk.old (λ old.
-        Strays lot.now old inode.old count k) }
+    ensures refused { IfShown K.View lot.now keep.old disk.old (λ old.
+        IfErr result (GrowthRefused lot.now old inode.old count k)) }
     // Where it has no space or strays, it only looked.
     ensures looked { IsErrOf result NoSpace
         → Looked D.Disk K.View lot.now keep.old disk.old keep.new disk.new }

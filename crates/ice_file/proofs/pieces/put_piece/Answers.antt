@@ -1,6 +1,8 @@
 use Rattle.std.proofs.Common.{◌+◌, ◌∙◌, ap, ℕ, List, max, arith}
 use Rattle.std.proofs.lemmas.Bool.Decides.{nat_tests}
+use Rattle.std.proofs.lemmas.Result.{err_from_is_err_and}
 use Rattle.ice_base.proofs.LotLaws.{sited-few}
+use Rattle.ice_map.proofs.DamageLaws.{refused-disk}
 use Rattle.ice_map.proofs.DueLaws.{due-less}
 use Rattle.ice_map.proofs.GrowthLaws.{grew-put, inodes-put, inodes-then}
 use Rattle.ice_file.proofs.PieceLaws.{piece-put}
@@ -37,3 +39,14 @@ pub returns-clause-within : goal.returns-clause-within
 returns-clause-within g c = λ s l b other.
     let h = c.in_ok-at.ensures.had s l in
     c.in_ok-fill.ensures.puts.only b (λ e. other (e ∙ h.0)) ∙ ap (λ (m : ℕ → List ℕ). m b) h.1
+
+pub returns-in_err-at-clause-refused : goal.returns-in_err-at-clause-refused
+returns-in_err-at-clause-refused g c = λ s.
+    let p = err_from_is_err_and c.from_residual.result c.from_residual.ensures.1 in
+    rw (p.1, p.2) (c.in_err-at.ensures.refused s)
+
+pub returns-in_err-fill-clause-refused : goal.returns-in_err-fill-clause-refused
+returns-in_err-fill-clause-refused g c = λ s.
+    let p = err_from_is_err_and c.from_residual-in_err-fill.result c.from_residual-in_err-fill.ensures.1 in
+    rw (p.1, p.2)
+    (refused-disk c.args.lot.now (g.K.View.map c.args.keep.now c.args.disk.now c.args.lot.now) c.args.inode.now c.args.count c.args.k _ c.in_err-fill.ensures.faults)

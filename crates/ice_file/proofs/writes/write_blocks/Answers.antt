@@ -1,5 +1,9 @@
-use Rattle.std.proofs.Common.{rules, ◌+◌, max, ℕ, length, ◌∙◌, sym, ap, subst, refl, arith}
+use Rattle.std.proofs.Common.{◌+◌, max, ℕ, length, ◌∙◌, sym, ap, subst, refl, arith}
+use Rattle.std.proofs.lemmas.Result.{err_from_is_err_and}
+use Rattle.ice_map.proofs.DamageLaws.{refused-as}
 use Rattle.ice_map.proofs.PutsLaws.{spent-then, spent-by}
+use Rattle.ice_base.specs.declared.fault.OpFault.TheVariants.{Damaged, NoSpace}
+use Rattle.ice_base.specs.declared.fault.Rule.TheVariants.{Counts, Pointer, Bitmap}
 use Rattle.ice_map.specs.Own.{MadeOf, blocks_for}
 use Rattle.ice_map.specs.Moves.{due}
 use Rattle.ice_map.proofs.DueLaws.{due-most}
@@ -24,7 +28,8 @@ returns-in_err-put_piece-clause-spent g c =
 
 pub returns-in_err-put_piece-clause-none : goal.returns-in_err-put_piece-clause-none
 returns-in_err-put_piece-clause-none g c = λ e s.
-    let p = c.in_err-put_piece.ensures.none (search rules) (c.loop-k.invariant.spent.shows s) in
+    let why = err_from_is_err_and c.from_residual.result c.from_residual.ensures.1 in
+    let p = refused-as c.args.lot.now (g.K.View.map c.loop-k.keep c.loop-k.disk c.args.lot.now) c.loop-k.inode c.map_length-count.result c.loop-k.k c.from_residual.result why.0 _ NoSpace why.1 why.2 e (c.in_err-put_piece.ensures.refused (c.loop-k.invariant.spent.shows s)) in
     let n = count-now c.args.inode.now.size c.args.at (c.args.at + length c.args.bytes.now) c.loop-k.k c.max-from.result c.map_length-count.result (omega arith) (omega arith) (omega arith) (omega arith) in
     let w = grew-at c.args.lot.now (g.K.View.map c.args.keep.now c.args.disk.now c.args.lot.now) (g.K.View.map c.loop-k.keep c.loop-k.disk c.args.lot.now) c.args.inode.now c.loop-k.inode (blocks_for c.args.inode.now.size) _ c.map_length-count.result n (c.loop-k.invariant.grew s) in
     let o = count-grows c.args.inode.now.size c.max-from.result in
@@ -32,7 +37,8 @@ returns-in_err-put_piece-clause-none g c = λ e s.
 
 pub returns-in_err-put_piece-clause-full : goal.returns-in_err-put_piece-clause-full
 returns-in_err-put_piece-clause-full g c = λ e s.
-    let p = c.in_err-put_piece.ensures.full (search rules) (c.loop-k.invariant.spent.shows s) in
+    let why = err_from_is_err_and c.from_residual.result c.from_residual.ensures.1 in
+    let p = refused-as c.args.lot.now (g.K.View.map c.loop-k.keep c.loop-k.disk c.args.lot.now) c.loop-k.inode c.map_length-count.result c.loop-k.k c.from_residual.result why.0 _ (Damaged Counts) why.1 why.2 e (c.in_err-put_piece.ensures.refused (c.loop-k.invariant.spent.shows s)) in
     let n = count-now c.args.inode.now.size c.args.at (c.args.at + length c.args.bytes.now) c.loop-k.k c.max-from.result c.map_length-count.result (omega arith) (omega arith) (omega arith) (omega arith) in
     let w = grew-at c.args.lot.now (g.K.View.map c.args.keep.now c.args.disk.now c.args.lot.now) (g.K.View.map c.loop-k.keep c.loop-k.disk c.args.lot.now) c.args.inode.now c.loop-k.inode (blocks_for c.args.inode.now.size) _ c.map_length-count.result n (c.loop-k.invariant.grew s) in
     let o = count-grows c.args.inode.now.size c.max-from.result in
@@ -41,14 +47,16 @@ returns-in_err-put_piece-clause-full g c = λ e s.
 pub returns-in_err-put_piece-clause-unreserved : goal.returns-in_err-put_piece-clause-unreserved
 returns-in_err-put_piece-clause-unreserved g c = λ e s r.
     let w = c.loop-k.invariant.grew s in
-    c.in_err-put_piece.ensures.unreserved (search rules) (c.loop-k.invariant.spent.shows s) (reserved-more c.args.lot.now (g.K.View.map c.args.keep.now c.args.disk.now c.args.lot.now) (g.K.View.map c.loop-k.keep c.loop-k.disk c.args.lot.now) _ w.marked r)
+    let why = err_from_is_err_and c.from_residual.result c.from_residual.ensures.1 in
+    refused-as c.args.lot.now (g.K.View.map c.loop-k.keep c.loop-k.disk c.args.lot.now) c.loop-k.inode c.map_length-count.result c.loop-k.k c.from_residual.result why.0 _ (Damaged Bitmap) why.1 why.2 e (c.in_err-put_piece.ensures.refused (c.loop-k.invariant.spent.shows s)) (reserved-more c.args.lot.now (g.K.View.map c.args.keep.now c.args.disk.now c.args.lot.now) (g.K.View.map c.loop-k.keep c.loop-k.disk c.args.lot.now) _ w.marked r)
 
 pub returns-in_err-put_piece-clause-stays : goal.returns-in_err-put_piece-clause-stays
 returns-in_err-put_piece-clause-stays g c = λ s. inodes-then (g.K.View.map c.args.keep.now c.args.disk.now c.args.lot.now) (g.K.View.map c.loop-k.keep c.loop-k.disk c.args.lot.now) (g.K.View.map c.put_piece.new.keep c.put_piece.new.disk c.args.lot.now) (c.loop-k.invariant.stays s) (c.put_piece.ensures.stays (c.loop-k.invariant.spent.shows s))
 
 pub returns-in_err-put_piece-clause-misled : goal.returns-in_err-put_piece-clause-misled
 returns-in_err-put_piece-clause-misled g c = λ e s.
-    let p = c.in_err-put_piece.ensures.strays (search rules) (c.loop-k.invariant.spent.shows s) in
+    let why = err_from_is_err_and c.from_residual.result c.from_residual.ensures.1 in
+    let p = refused-as c.args.lot.now (g.K.View.map c.loop-k.keep c.loop-k.disk c.args.lot.now) c.loop-k.inode c.map_length-count.result c.loop-k.k c.from_residual.result why.0 _ (Damaged Pointer) why.1 why.2 e (c.in_err-put_piece.ensures.refused (c.loop-k.invariant.spent.shows s)) in
     let n = count-now c.args.inode.now.size c.args.at (c.args.at + length c.args.bytes.now) c.loop-k.k c.max-from.result c.map_length-count.result (omega arith) (omega arith) (omega arith) (omega arith) in
     let w = grew-at c.args.lot.now (g.K.View.map c.args.keep.now c.args.disk.now c.args.lot.now) (g.K.View.map c.loop-k.keep c.loop-k.disk c.args.lot.now) c.args.inode.now c.loop-k.inode (blocks_for c.args.inode.now.size) _ c.map_length-count.result n (c.loop-k.invariant.grew s) in
     misled-from c.args.lot.now (g.K.View.map c.args.keep.now c.args.disk.now c.args.lot.now) (g.K.View.map c.loop-k.keep c.loop-k.disk c.args.lot.now)

@@ -1,5 +1,7 @@
-use Rattle.std.proofs.Common.{◌≡◌, ◌+◌, max, ℕ, sym, ap, subst, arith}
+use Rattle.std.proofs.Common.{◌≡◌, ◌+◌, max, ℕ, Err, sym, ap, subst, inl, arith}
+use Rattle.std.proofs.lemmas.Result.{err_from_is_err_and}
 use Rattle.ice_map.specs.Moves.{due, HadBlock}
+use Rattle.ice_map.proofs.DamageLaws.{refused-look, refused-growth}
 use Rattle.ice_map.proofs.DueLaws.{due-grow, due-same}
 use Rattle.ice_map.proofs.GrowthLaws.{grew-one}
 use Rattle.ice_map.proofs.MoveLaws.{grown-reached, had-reached, widened-single}
@@ -40,3 +42,19 @@ returns-then-k-count-clause-had g c = λ s l. (c.in_ok-at.ensures.block s, c.nth
 
 pub returns-clause-had : goal.returns-clause-had
 returns-clause-had g c = λ s l. absurd (omega arith)
+
+pub returns-in_err-at-clause-refused : goal.returns-in_err-at-clause-refused
+returns-in_err-at-clause-refused g c = λ s.
+    let p = err_from_is_err_and c.from_residual.result c.from_residual.ensures.1 in
+    let e = c.in_err-at.ensures in
+    rw (p.1, p.2)
+    (refused-look c.args.lot.now (g.K.View.map c.args.keep.now c.args.disk.now c.args.lot.now) c.args.inode.now c.args.count c.args.k _ e.faults
+    (λ q. inl (omega arith, e.damaged (ap (λ y. Err y) q) s)))
+
+pub returns-in_err-taken-clause-refused : goal.returns-in_err-taken-clause-refused
+returns-in_err-taken-clause-refused g c = λ s.
+    let p = err_from_is_err_and c.from_residual-in_err-taken.result c.from_residual-in_err-taken.ensures.1 in
+    let e = c.in_err-taken.ensures in
+    rw (p.1, p.2)
+    (refused-growth c.args.lot.now (g.K.View.map c.args.keep.now c.args.disk.now c.args.lot.now) c.args.inode.now c.args.count c.args.k _ e.faults (omega arith)
+    (λ q. e.none (ap (λ y. Err y) q) s) (λ q. e.full (ap (λ y. Err y) q) s) (λ q. e.unreserved (ap (λ y. Err y) q) s) (λ q. e.pointer (ap (λ y. Err y) q)))
